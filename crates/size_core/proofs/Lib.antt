@@ -1,0 +1,4 @@
+pub mod Each
+pub mod FirstFault
+pub mod Gathered
+pub mod LabelLemmas

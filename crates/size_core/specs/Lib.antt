@@ -1,0 +1,5 @@
+pub mod Checks
+pub mod FaultNames
+pub mod Gather
+pub mod Labels
+pub mod SourceNames

@@ -1,0 +1,28 @@
+//! The types that every room of the profiler speaks of: faults of files, claims and loads, labels with
+//! their numbers, lists, and a counter of steps.
+#![tactic(auto)]
+
+mod choices;
+mod claim;
+mod fault;
+mod labels;
+mod limits;
+mod list;
+mod memory;
+mod source;
+mod steps;
+mod text;
+
+pub use choices::{Domain, Format, Sort};
+pub use claim::{Claim, Load, Side, Span};
+pub use fault::{BadFile, Fault};
+pub use labels::LabelPool;
+pub use limits::Limits;
+pub use list::{List, Names, Path};
+pub use memory::NoMemory;
+pub use source::Source;
+pub use steps::Steps;
+pub use text::{Bytes, Text};
+
+#[cfg(test)]
+mod tests;

@@ -1,0 +1,38 @@
+//! The built-in data sources.
+
+ghost use Rattle.std.specs.Prelude.{◌≡◌};
+
+/// What gives each byte of a file its label.
+#[derive(Clone, Copy, Debug, PartialEq, Eq, Hash)]
+pub enum Source {
+    Segments,
+    Sections,
+    Symbols,
+    RawSymbols,
+    CompileUnits,
+    Inlines,
+    InputFiles,
+}
+
+impl Source {
+    ghost use Rattle.size_core.specs.SourceNames.{source_named};
+
+    /// The data source of a name, as `-d` and a configuration write it.
+    pub fn named(name: &[u8]) -> Option<Source>
+        ensures { result ≡ source_named name.now }
+    {
+        if name == b"segments".as_slice() {
+            Some(Source::Segments)
+        } else if name == b"sections".as_slice() {
+            Some(Source::Sections)
+        } else if name == b"symbols".as_slice() {
+            Some(Source::Symbols)
+        } else if name == b"rawsymbols".as_slice() {
+            Some(Source::RawSymbols)
+        } else if name == b"inputfiles".as_slice() {
+            Some(Source::InputFiles)
+        } else {
+            None
+        }
+    }
+}

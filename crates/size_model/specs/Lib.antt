@@ -1,0 +1,6 @@
+pub mod Claims
+pub mod Count
+pub mod Cut
+pub mod Labels
+pub mod Loads
+pub mod Sizes
