@@ -1,5 +1,5 @@
 -- Loads, and the two ways between file offsets and virtual addresses.
-use Rattle.std.specs.Prelude.{◌+◌, ◌-◌, ◌*◌, ◌/◌, ◌%◌, ◌^◌, ◌≤◌, ◌<◌, ℕ, min, Bool, false, ◌&&◌, ◌||◌, ◌==◌, nat_le, nat_lt, if◌then◌else◌, List, [], ◌∷◌, Option, None, Some}
+use Rattle.std.specs.Prelude.{◌+◌, ◌-◌, ◌*◌, ◌/◌, ◌%◌, ◌^◌, ◌≤◌, ℕ, min, Bool, false, ◌&&◌, ◌||◌, ◌==◌, nat_le, nat_lt, if◌then◌else◌, List, [], ◌∷◌, Option, None, Some}
 use Rattle.size_core.specs.declared.claim.Load.{Load}
 use Rattle.size_model.specs.Count.{count_from}
 
@@ -53,4 +53,3 @@ mapped_count loads = count_from (is_mapped loads) 0 (2 ^ 96)
 -- a load whose addresses end by 2^64
 pub record IsLoad (l : Load) : Type 0 where
   pub ends : l.vaddr + l.memsz ≤ 2 ^ 64
-  pub space_fits : l.space < 2 ^ 32
