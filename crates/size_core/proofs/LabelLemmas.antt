@@ -1,7 +1,7 @@
 -- How a look-up and an addition of indexmap act on the list of labels.
 use Rattle.std.proofs.Common.{◌≡◌, ◌∙◌, ℕ, Bool, true, false, ◌||◌, List, [], ◌∷◌, ◌++◌, map, Option, Some, option_map, slice_get, refl, sym, ap, if◌then◌else◌}
 use Rattle.std.specs.Prelude.{find}
-use Rattle.std.specs.List.{list_any}
+use Rattle.std.specs.List.{list_any, IsDistinct, AllByRecursion}
 use Rattle.std.specs.Str.{bytes_eq}
 use Rattle.std.proofs.lemmas.Slice.Eq.{bytes_eq-Decides}
 use Rattle.std.proofs.lemmas.Option.{slice_get-map}
@@ -45,3 +45,13 @@ module _ {V : Type 0} (f : V → List ℕ) (label : List ℕ) where
         ∙ sym (ap (λ (b : Bool). if b then map f keys else map f keys ++ label ∷ []) (any_map keys ∙ sym absent)),
     slice_get-map f new i ∙ ap (option_map f) at ∙ ap Some (sym ((bytes_eq-Decides (f v) (f k)).0 equal) ∙ is),
   )
+
+-- labels are distinct where their vectors are told apart by them
+each-distinct : {V : Type 0} (f : V → List ℕ) (v : V) (keys : List V) → AllByRecursion (λ w. bytes_eq (f v) (f w) ≡ false) keys → AllByRecursion (λ l. bytes_eq (f v) l ≡ false) (map f keys)
+each-distinct f v [] h = tt
+each-distinct f v (w ∷ keys) h = (h.0, each-distinct f v keys h.1)
+
+pub distinct_labels : {V : Type 0} (f : V → List ℕ) (keys : List V) → IsDistinct (λ v w. bytes_eq (f v) (f w)) keys → IsDistinct bytes_eq (map f keys)
+unfolding IsDistinct
+distinct_labels f [] h = tt
+distinct_labels f (v ∷ keys) h = (each-distinct f v keys h.0, distinct_labels f keys h.1)

@@ -1,6 +1,8 @@
 //! Labels with numbers.
 
 ghost use Rattle.std.specs.Prelude.{◌≡◌, ◌<◌, [], Some, IfOk, OnErr, length, slice_get};
+ghost use Rattle.std.specs.List.{IsDistinct};
+ghost use Rattle.std.specs.Str.{bytes_eq};
 ghost use Rattle.size_core.specs.Labels.{with_label};
 
 use crate::memory::NoMemory;
@@ -38,9 +40,10 @@ impl LabelPool {
         }
     }
 
-    /// How many labels there are.
+    /// How many labels there are, of which no two are the same.
     pub fn len(&self) -> usize
-        ensures { result ≡ length self.now }
+        ensures count { result ≡ length self.now }
+        ensures distinct { IsDistinct bytes_eq self.now }
     {
         self.labels.len()
     }
