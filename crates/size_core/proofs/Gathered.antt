@@ -1,5 +1,5 @@
 -- What a loop over numbers gathers, and the first number that it finds.
-use Rattle.std.proofs.Common.{◌≡◌, ℕ, suc, ◌+◌, ◌-◌, ◌<◌, ◌≤◌, Bool, true, false, Some, None, List, ◌++◌, refl, append_assoc, arith}
+use Rattle.std.proofs.Common.{◌≡◌, ℕ, zero, suc, ◌+◌, ◌-◌, ◌<◌, ◌≤◌, Bool, true, false, Some, None, List, [], ◌++◌, refl, sym, append_assoc, arith}
 use Rattle.std.proofs.lemmas.List.{append-nil}
 use Rattle.size_core.specs.Gather.{gather, first_from}
 
@@ -22,3 +22,23 @@ first_here p n i lt passes = let k : n - i ≡ suc (n - (i + 1)) = omega arith i
 pub first_end : (p : ℕ → Bool) (n i : ℕ) → n ≤ i → first_from p i (n - i) ≡ None
 unfolding first_from
 first_end p n i le = let k : n - i ≡ 0 = omega arith in rw k refl
+
+-- what two rows of numbers give, one after the other
+pub gather_append : {X : Type 0} (f : ℕ → List X) (a m n : ℕ) → gather f a (m + n) ≡ gather f a m ++ gather f (a + m) n
+unfolding gather
+gather_append f a zero n =
+    let k : 0 + n ≡ n = omega arith in
+    let at : a + 0 ≡ a = omega arith in
+    rw (k, at) refl
+gather_append f a (suc m) n =
+    let k : suc m + n ≡ suc (m + n) = omega arith in
+    let at : a + suc m ≡ a + 1 + m = omega arith in
+    rw (k, at, gather_append f (a + 1) m n) (sym (append_assoc (f a) (gather f (a + 1) m) (gather f (a + 1 + m) n)))
+
+pub gather_one : {X : Type 0} (f : ℕ → List X) (a : ℕ) → gather f a 1 ≡ f a
+unfolding gather
+gather_one f a = append-nil (f a)
+
+pub gather_none : {X : Type 0} (f : ℕ → List X) (a : ℕ) → gather f a 0 ≡ []
+unfolding gather
+gather_none f a = refl

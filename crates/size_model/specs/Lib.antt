@@ -2,6 +2,8 @@ pub mod Claims
 pub mod Count
 pub mod Cut
 pub mod Labels
+pub mod Laws
 pub mod Loads
 pub mod Numbered
+pub mod Plain
 pub mod Sizes

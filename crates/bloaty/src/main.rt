@@ -1,0 +1,50 @@
+//! `bloaty`: what takes up space in a binary.
+#![tactic(auto)]
+
+use bloaty_engine::bloaty;
+use outside::{HostFiles, HostSink};
+use size_core::Limits;
+use std::io::ErrorKind;
+use std::process::ExitCode;
+use std::{env, io};
+
+// The status where the system doesn't give the words and the cause isn't want of memory.
+const NO_WORDS: u8 = 7;
+
+// The words after the program's name.
+fn words_of(rt: &HostRuntime) -> io::Result<Vec<String>> {
+    let mut words = Vec::new(rt.alloc());
+    for word in env::args(rt)?.skip(1) {
+        words.push(word)?;
+    }
+    Ok(words)
+}
+
+// The status where there are no words.
+fn status_without_words(e: &io::Error) -> u8 {
+    if e.kind() == ErrorKind::OutOfMemory {
+        5
+    } else {
+        NO_WORDS
+    }
+}
+
+fn main(rt: HostRuntime) -> ExitCode {
+    match words_of(&rt) {
+        Err(e) => ExitCode::from(status_without_words(&e)),
+        Ok(words) => {
+            let mut files = HostFiles::new(&rt);
+            let mut out = HostSink::new(rt.stdout());
+            let mut err = HostSink::new(rt.stderr());
+            let outcome = bloaty(
+                rt.alloc(),
+                &words,
+                &mut files,
+                &mut out,
+                &mut err,
+                &Limits::FULL,
+            );
+            ExitCode::from(outcome.status())
+        }
+    }
+}

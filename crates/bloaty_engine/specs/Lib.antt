@@ -1,0 +1,11 @@
+pub mod Line
+pub mod Profile
+pub mod Refusal
+pub mod Report
+pub mod Rows
+pub mod Run
+pub mod SeenRows
+pub mod Status
+pub mod Tally
+pub mod Words
+pub mod WriterState

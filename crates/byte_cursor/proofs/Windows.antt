@@ -1,0 +1,109 @@
+-- What stands in a window stands in the file, at its place.
+use Rattle.std.proofs.Common.{◌≡◌, ℕ, zero, suc, ◌+◌, ◌-◌, ◌*◌, ◌%◌, ◌<◌, ◌≤◌, ◌==◌, Bool, true, false, List, [], ◌∷◌, length, get_or, take, drop, Option, Some, None, refl, sym, ap, ◌∙◌, arith}
+use Rattle.std.proofs.lemmas.List.{get_or-take, get_or-drop, drop-drop, drop-take}
+use Rattle.std.proofs.lemmas.List.Quantifiers.{position-Some}
+use Rattle.std.proofs.lemmas.List.Sums.{position_or_len_is}
+use Rattle.std.proofs.lemmas.Grind.{common_steps}
+use Rattle.std.specs.Prelude.{ℤ, position, nat_lt, slice_index, if◌then◌else◌}
+use Rattle.std.specs.Option.{option_map}
+use Rattle.byte_cursor.proofs.Zeros.{at_place}
+use Rattle.std.specs.Int.{Width, byte_len, byte_worth, sum_through}
+use Rattle.byte_cursor.specs.declared.order.Order.{Order}
+use Rattle.byte_cursor.specs.declared.order.Order.TheVariants.{Little, Big}
+use Rattle.byte_cursor.specs.Numbers.{field, leb, uleb, sleb, signed, text}
+
+same_sum : (f g : ℕ → ℕ) (k : ℕ) → ((i : ℕ) → i ≤ k → f i ≡ g i) → sum_through f k ≡ sum_through g k
+same_sum f g zero same = same 0 (omega arith)
+same_sum f g (suc k) same =
+    let rest : sum_through f k ≡ sum_through g k = same_sum f g k (λ i le. same i (omega arith)) in
+    let last : f (suc k) ≡ g (suc k) = same (suc k) (omega arith) in
+    rw (rest, last) refl
+
+cell : (bytes : List ℕ) (start len at i : ℕ) → at + i < len → get_or (drop at (take len (drop start bytes))) i 0 ≡ get_or (drop (start + at) bytes) i 0
+cell bytes start len at i lt =
+    let left : get_or (drop at (take len (drop start bytes))) i 0 ≡ get_or bytes (start + (at + i)) 0 = rw (get_or-drop, get_or-take, get_or-drop) refl in
+    let right : get_or (drop (start + at) bytes) i 0 ≡ get_or bytes (start + at + i) 0 = rw get_or-drop refl in
+    let place : start + (at + i) ≡ start + at + i = omega arith in
+    left ∙ ap (λ n. get_or bytes n 0) place ∙ sym right
+
+pub field-window : (bytes : List ℕ) (start len at : ℕ) (w : Width) (order : Order) → 0 < byte_len w → at + byte_len w ≤ len → field (take len (drop start bytes)) at w order ≡ field bytes (start + at) w order
+unfolding field
+field-window bytes start len at w Little some fits = same_sum _ _ (byte_len w - 1) (λ i le. ap (byte_worth i) (cell bytes start len at i (omega arith)))
+field-window bytes start len at w Big some fits = same_sum _ _ (byte_len w - 1) (λ i le. ap (byte_worth (byte_len w - 1 - i)) (cell bytes start len at i (omega arith)))
+
+-- the bytes after a place of a window are bytes after its place in the file
+rest_of : (bytes : List ℕ) (start len at : ℕ) → at ≤ len → drop at (take len (drop start bytes)) ≡ take (len - at) (drop (start + at) bytes)
+rest_of bytes start len at le =
+    let whole : len ≡ at + (len - at) = omega arith in
+    let cut : drop at (take (at + (len - at)) (drop start bytes)) ≡ take (len - at) (drop at (drop start bytes)) = drop-take at (len - at) (drop start bytes) in
+    ap (λ n. drop at (take n (drop start bytes))) whole ∙ cut ∙ ap (take (len - at)) (drop-drop at start bytes)
+
+-- what passes first in a front of a list passes first in the list
+in_front : (p : ℕ → Bool) (xs : List ℕ) (n i : ℕ) → position p (take n xs) ≡ Some i → (i < n) × (position p xs ≡ Some i)
+in_front p xs n i h =
+    let there = position-Some p (take n xs) i 0 h in
+    let size : length (take n xs) ≤ n = grind (arith, common_steps) in
+    let size' : length (take n xs) ≤ length xs = grind (arith, common_steps) in
+    let low : i < n = omega (arith, there.0) in
+    let low' : i < length xs = omega (arith, there.0) in
+    let passes : p (get_or xs i 0) ≡ true = sym (ap p (get_or-take n xs i 0 low)) ∙ there.1 in
+    let before : (k : ℕ) → k < i → p (get_or xs k 0) ≡ false = λ k lt. sym (ap p (get_or-take n xs k 0 (omega arith))) ∙ there.2 k lt in
+    (low, at_place p xs i (position_or_len_is p xs i 0 (omega arith) before (λ lt. passes)) low')
+
+text_at_found : (ys : List ℕ) (n : ℕ) (r : Option ℕ) (t : List ℕ) → position (λ b. b == 0) (take n ys) ≡ r → option_map (λ m. take m (take n ys)) r ≡ Some t → option_map (λ m. take m ys) (position (λ b. b == 0) ys) ≡ Some t
+text_at_found ys n None t h is = cc
+text_at_found ys n (Some m) t h is =
+    let there = in_front (λ b. b == 0) ys n m h in
+    let cut : take m (take n ys) ≡ take m ys = grind (arith, common_steps, there.0) in
+    rw there.1 (ap (λ (x : List ℕ). Some x) (sym cut) ∙ is)
+
+-- a text that is found in a window is the text that is found in the file
+pub text-window : (bytes : List ℕ) (start len at : ℕ) (t : List ℕ) → at ≤ len → text (take len (drop start bytes)) at ≡ Some t → text bytes (start + at) ≡ Some t
+unfolding text
+text-window bytes start len at t le h =
+    let e = rest_of bytes start len at le in
+    text_at_found (drop (start + at) bytes) (len - at) (position (λ b. b == 0) (take (len - at) (drop (start + at) bytes))) t refl (rw e at h)
+
+-- a number that a front of the bytes begins with is the one that the bytes begin with
+leb_in_front : (ys : List ℕ) (n : ℕ) (x : ℕ × ℕ) → leb (take n ys) ≡ Some x → (leb ys ≡ Some x) × (0 < x.1) × (x.1 ≤ n)
+unfolding leb
+leb_in_front ys zero x h = cc
+leb_in_front [] (suc n) x h = cc
+leb_in_front (y ∷ ys) (suc n) x h = ends (λ z is. leb_in_front ys n z is) (nat_lt y 128) (leb (take n ys)) refl h
+  where
+    ends : ((z : ℕ × ℕ) → leb (take n ys) ≡ Some z → (leb ys ≡ Some z) × (0 < z.1) × (z.1 ≤ n)) → (small : Bool) (rest : Option (ℕ × ℕ)) → leb (take n ys) ≡ rest
+        → (if small then Some (y, 1) else option_map (λ (z : ℕ × ℕ). (y % 128 + 128 * z.0, z.1 + 1)) rest) ≡ Some x
+        → ((if small then Some (y, 1) else option_map (λ (z : ℕ × ℕ). (y % 128 + 128 * z.0, z.1 + 1)) (leb ys)) ≡ Some x) × (0 < x.1) × (x.1 ≤ suc n)
+    ends rests true rest is e =
+        let same : (y, 1) ≡ x = cc in
+        let one : 1 ≡ x.1 = ap (λ (p : ℕ × ℕ). p.1) same in
+        (e, omega arith, omega arith)
+    ends rests false None is e = cc
+    ends rests false (Some z) is e =
+        let front = rests z is in
+        let same : (y % 128 + 128 * z.0, z.1 + 1) ≡ x = cc in
+        let more : z.1 + 1 ≡ x.1 = ap (λ (p : ℕ × ℕ). p.1) same in
+        let fits : z.1 ≤ n = front.2 in
+        (rw front.0 e, omega arith, omega arith)
+
+-- a LEB128 number that is found in a window is the one that is found in the file
+pub uleb-window : (bytes : List ℕ) (start len at : ℕ) (x : ℕ × ℕ) → at ≤ len → uleb (take len (drop start bytes)) at ≡ Some x → uleb bytes (start + at) ≡ Some x
+uleb-window bytes start len at x le h =
+    let e = rest_of bytes start len at le in
+    (leb_in_front (drop (start + at) bytes) (len - at) x (rw e at h)).0
+
+-- a signed LEB128 number, too
+pub sleb-window : (bytes : List ℕ) (start len at : ℕ) (x : ℤ × ℕ) → at ≤ len → sleb (take len (drop start bytes)) at ≡ Some x → sleb bytes (start + at) ≡ Some x
+sleb-window bytes start len at x le h = there (uleb (take len (drop start bytes)) at) refl h
+  where
+    there : (u : Option (ℕ × ℕ)) → uleb (take len (drop start bytes)) at ≡ u
+        → option_map (λ (z : ℕ × ℕ). (signed (slice_index (take len (drop start bytes)) (at + z.1 - 1)) z.1 z.0, z.1)) u ≡ Some x → sleb bytes (start + at) ≡ Some x
+    there None is e = cc
+    there (Some u) is e =
+        let front = leb_in_front (drop (start + at) bytes) (len - at) u (rw (rest_of bytes start len at le) at is) in
+        let some : 0 < u.1 = front.1 in
+        let fits : u.1 ≤ len - at = front.2 in
+        let last : get_or (take len (drop start bytes)) (at + u.1 - 1) 0 ≡ get_or bytes (start + (at + u.1 - 1)) 0 = get_or-take len (drop start bytes) (at + u.1 - 1) 0 (omega arith) ∙ get_or-drop start bytes (at + u.1 - 1) 0 in
+        let place : start + (at + u.1 - 1) ≡ start + at + u.1 - 1 = omega arith in
+        let byte : slice_index (take len (drop start bytes)) (at + u.1 - 1) ≡ slice_index bytes (start + at + u.1 - 1) = last ∙ ap (λ n. get_or bytes n 0) place in
+        rw (front.0, ← byte) e

@@ -1,0 +1,4 @@
+pub mod Numbers
+pub mod Reads
+pub mod Spelled
+pub mod Window

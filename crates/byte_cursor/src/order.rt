@@ -1,0 +1,10 @@
+//! The order of a number's bytes.
+
+/// Which byte of a number comes first.
+#[derive(Clone, Copy, Debug, PartialEq, Eq, Hash)]
+pub enum Order {
+    /// The lowest byte.
+    Little,
+    /// The highest byte.
+    Big,
+}

@@ -1,0 +1,9 @@
+pub mod Claims
+pub mod Kind
+pub mod Loads
+pub mod Made
+pub mod Opened
+pub mod Read
+pub mod Sources
+pub mod SymbolClaims
+pub mod Views

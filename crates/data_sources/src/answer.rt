@@ -1,0 +1,37 @@
+//! Why there are no claims.
+
+ghost use Rattle.std.specs.Prelude.{◌≡◌};
+ghost use Rattle.data_sources.specs.declared.answer.ClaimAnswer.TheVariants.{Bad, NoMemory as OutOfMemory};
+
+use size_core::{BadFile, NoMemory};
+use thiserror::Error;
+
+/// Why there are no claims.
+#[derive(Clone, Copy, Debug, PartialEq, Eq, Error)]
+pub enum ClaimAnswer {
+    /// The file has a fault that the data source minds.
+    #[error("bad file")]
+    Bad(BadFile),
+    /// There are more claims than the limit.
+    #[error("too many claims")]
+    TooManyClaims,
+    /// There was not enough memory.
+    #[error("out of memory")]
+    NoMemory,
+}
+
+impl From<NoMemory> for ClaimAnswer {
+    ghost from_gives = { λ _ e. e ≡ OutOfMemory };
+
+    fn from(_: NoMemory) -> ClaimAnswer {
+        ClaimAnswer::NoMemory
+    }
+}
+
+impl From<BadFile> for ClaimAnswer {
+    ghost from_gives = { λ bad e. e ≡ Bad bad };
+
+    fn from(bad: BadFile) -> ClaimAnswer {
+        ClaimAnswer::Bad(bad)
+    }
+}

@@ -1,0 +1,150 @@
+-- What stretches carry from a span.
+use Rattle.std.proofs.Common.{◌≡◌, ◌+◌, ◌-◌, ◌<◌, ◌≤◌, ℕ, zero, suc, Bool, true, false, cond, ltb, leb, ◌&&◌, ◌||◌, List, [], ◌∷◌, ◌++◌, map, take, Option, None, Some, length, get_or, refl, sym, ap, ◌∙◌, inl, inr, arith}
+use Rattle.std.proofs.lemmas.Bool.Decides.{nat_tests}
+use Rattle.std.proofs.lemmas.List.{take_more, map-append}
+use Rattle.std.proofs.lemmas.List.Elements.{All-head, All-tail, filter-append}
+use Rattle.std.specs.List.{All, list_any}
+use Rattle.std.specs.List.Sorted.{IsPartitionPoint}
+use Rattle.size_model.specs.declared.piece.Piece.{Piece}
+use Rattle.size_model.specs.Cut.{has, label_in}
+use Rattle.range_map.proofs.Pieces.{has_cases, label_past_head, label_before_head}
+use Rattle.dual_map.specs.declared.way.Stretch.{Stretch}
+use Rattle.dual_map.specs.Way.{has_target, no_stretch, Carries}
+use Rattle.dual_map.specs.Index.{source_end, clipped, kept, carried, IsIndex}
+
+abbrev pub in_bounds : ℕ → ℕ → ℕ → Bool
+in_bounds low high v = leb low v && ltb v high
+
+-- the label that a source gets from a span
+abbrev pub labelled : ℕ → ℕ → ℕ → Option ℕ → Option ℕ
+labelled low high label None = None
+labelled low high label (Some v) = cond (in_bounds low high v) (Some label) None
+
+pub target_bounds : (s : Stretch) (y : ℕ) → has_target s y ≡ true → (s.target ≤ y) × (y < s.target + s.len)
+target_bounds s y e = (grind (arith, nat_tests), grind (arith, nat_tests))
+
+pub has_target-in : (s : Stretch) (y : ℕ) → s.target ≤ y → y < s.target + s.len → has_target s y ≡ true
+has_target-in s y a b = grind (arith, nat_tests)
+
+has_inside : (low high label : ℕ) (s : Stretch) (y : ℕ) → s.target ≤ y → y < s.target + s.len → has (clipped low high label s) y ≡ in_bounds low high (s.source + (y - s.target))
+has_inside low high label s y a b = grind (arith, nat_tests)
+
+has-clipped : (low high label : ℕ) (s : Stretch) (y : ℕ) → has_target s y ≡ true → has (clipped low high label s) y ≡ in_bounds low high (s.source + (y - s.target))
+has-clipped low high label s y e = let b = target_bounds s y e in has_inside low high label s y b.0 b.1
+
+has_outside : (low high label : ℕ) (s : Stretch) (y : ℕ) → has_target s y ≡ false → has (clipped low high label s) y ≡ false
+has_outside low high label s y e = grind (arith, nat_tests)
+
+-- every stretch is sound
+abbrev pub Sound : (ℕ → Option ℕ) → Stretch → Type 0
+Sound source s = (y : ℕ) → has_target s y ≡ true → source y ≡ Some (s.source + (y - s.target))
+
+again : (b a : Bool) (label : ℕ) → cond b (Some label) (cond a (cond b (Some label) None) None) ≡ cond b (Some label) None
+again true a label = refl
+again false true label = refl
+again false false label = refl
+
+clips_step : (source : ℕ → Option ℕ) (low high label : ℕ) (s : Stretch) (ss : List Stretch) (y : ℕ) (b : Bool) → has_target s y ≡ b → Sound source s
+    → label_in (map (clipped low high label) ss) y ≡ cond (list_any (λ (s : Stretch). has_target s y) ss) (labelled low high label (source y)) None
+    → label_in (map (clipped low high label) (s ∷ ss)) y ≡ cond (b || list_any (λ (s : Stretch). has_target s y) ss) (labelled low high label (source y)) None
+clips_step source low high label s ss y true e sound rest =
+    let v : ℕ = s.source + (y - s.target) in
+    let at : source y ≡ Some v = sound y e in
+    ap (λ t. cond t (Some label) (label_in (map (clipped low high label) ss) y)) (has-clipped low high label s y e)
+    ∙ (ap (λ t. cond (in_bounds low high v) (Some label) t) (rest ∙ ap (λ t. cond (list_any (λ (s : Stretch). has_target s y) ss) (labelled low high label t) None) at)
+    ∙ (again (in_bounds low high v) (list_any (λ (s : Stretch). has_target s y) ss) label ∙ ap (labelled low high label) (sym at)))
+clips_step source low high label s ss y false e sound rest =
+    ap (λ t. cond t (Some label) (label_in (map (clipped low high label) ss) y)) (has_outside low high label s y e) ∙ rest
+
+label_in-clips : (source : ℕ → Option ℕ) (low high label : ℕ) (ss : List Stretch) (y : ℕ) → All (Sound source) ss
+    → label_in (map (clipped low high label) ss) y ≡ cond (list_any (λ (s : Stretch). has_target s y) ss) (labelled low high label (source y)) None
+label_in-clips source low high label [] y a = refl
+label_in-clips source low high label (s ∷ ss) y a =
+    clips_step source low high label s ss y (has_target s y) refl (All-head (Sound source) s ss a) (label_in-clips source low high label ss y (All-tail (Sound source) s ss a))
+
+-- an empty range has no position
+pub label_in-kept : (ps : List Piece) (x : ℕ) → label_in (kept ps) x ≡ label_in ps x
+label_in-kept [] x = refl
+label_in-kept (p ∷ ps) x = step p ps x (ltb 0 p.len) refl (label_in-kept ps x)
+  where
+    step : (p : Piece) (ps : List Piece) (x : ℕ) (b : Bool) → ltb 0 p.len ≡ b → label_in (kept ps) x ≡ label_in ps x → label_in (cond b (p ∷ kept ps) (kept ps)) x ≡ label_in (p ∷ ps) x
+    step p ps x true e h = ap (λ o. cond (has p x) (Some p.label) o) h
+    step p ps x false e h =
+        elim (has_cases p x) [
+          | inl k ↦ absurd (grind (arith, nat_tests))
+          | inr k ↦ h ∙ sym (elim k [ inl a ↦ label_before_head p ps x a | inr a ↦ label_past_head p ps x a ])
+        ]
+
+found_or_not : (low high label : ℕ) (found : Option ℕ) (any : Bool) → ((v : ℕ) → found ≡ Some v → any ≡ true) → cond any (labelled low high label found) None ≡ labelled low high label found
+found_or_not low high label None true h = refl
+found_or_not low high label None false h = refl
+found_or_not low high label (Some v) any h = ap (λ t. cond t (labelled low high label (Some v)) None) (h v refl)
+
+-- what is carried from a span has the label at each number whose source lies in it
+pub label_in-carried : (source : ℕ → Option ℕ) (low high label : ℕ) (ss : List Stretch) (y : ℕ) → Carries source ss → label_in (carried low high label ss) y ≡ labelled low high label (source y)
+label_in-carried source low high label ss y c =
+    label_in-kept (map (clipped low high label) ss) y ∙ (label_in-clips source low high label ss y c.sound ∙ found_or_not low high label (source y) (list_any (λ (s : Stretch). has_target s y) ss) (c.whole y))
+
+-- stretches that give nothing
+kept_empty : (p : Piece) (ps : List Piece) → p.len ≡ 0 → kept (p ∷ ps) ≡ kept ps
+kept_empty p ps e = let b : ltb 0 p.len ≡ false = grind (arith, nat_tests) in ap (λ t. cond t (p ∷ kept ps) (kept ps)) b
+
+all_empty : (clip : Stretch → Piece) (ss : List Stretch) → ((k : ℕ) → k < length ss → (clip (get_or ss k no_stretch)).len ≡ 0) → kept (map clip ss) ≡ []
+all_empty clip [] h = refl
+all_empty clip (s ∷ ss) h =
+    kept_empty (clip s) (map clip ss) (h zero (omega arith)) ∙ all_empty clip ss (λ k l. h (suc k) (omega arith))
+
+pub kept-front : (clip : Stretch → Piece) (ss : List Stretch) (n : ℕ) → ((k : ℕ) → k < n → k < length ss → (clip (get_or ss k no_stretch)).len ≡ 0) → kept (map clip (take n ss)) ≡ []
+kept-front clip [] zero h = refl
+kept-front clip [] (suc n) h = refl
+kept-front clip (s ∷ ss) zero h = refl
+kept-front clip (s ∷ ss) (suc n) h =
+    kept_empty (clip s) (map clip (take n ss)) (h zero (omega arith) (omega arith)) ∙ kept-front clip ss n (λ k a l. h (suc k) (omega arith) (omega arith))
+
+pub kept-rest : (clip : Stretch → Piece) (ss : List Stretch) (n : ℕ) → ((k : ℕ) → n ≤ k → k < length ss → (clip (get_or ss k no_stretch)).len ≡ 0) → kept (map clip (take n ss)) ≡ kept (map clip ss)
+kept-rest clip [] zero h = refl
+kept-rest clip [] (suc n) h = refl
+kept-rest clip (s ∷ ss) zero h = sym (all_empty clip (s ∷ ss) (λ k l. h k (omega arith) l))
+kept-rest clip (s ∷ ss) (suc n) h =
+    ap (λ ps. cond (ltb 0 (clip s).len) (clip s ∷ ps) ps) (kept-rest clip ss n (λ k a l. h (suc k) (omega arith) (omega arith)))
+
+-- one more stretch
+pub kept-more : (clip : Stretch → Piece) (ss : List Stretch) (i : ℕ) (d : Stretch) → i < length ss → kept (map clip (take (i + 1) ss)) ≡ kept (map clip (take i ss)) ++ kept (clip (get_or ss i d) ∷ [])
+kept-more clip ss i d l =
+    ap (λ ps. kept (map clip ps)) (take_more ss i d l) ∙ (ap kept (map-append clip (take i ss) (get_or ss i d ∷ [])) ∙ filter-append (λ (p : Piece). ltb 0 p.len) (map clip (take i ss)) (clip (get_or ss i d) ∷ []))
+
+pub clip_below : (low high label : ℕ) (s : Stretch) → source_end s ≤ low → (clipped low high label s).len ≡ 0
+clip_below low high label s h = omega arith
+
+pub clip_above : (low high label : ℕ) (s : Stretch) → high ≤ s.source → (clipped low high label s).len ≡ 0
+clip_above low high label s h = omega arith
+
+pub length-kept : (ps : List Piece) → length (kept ps) ≤ length ps
+length-kept [] = omega arith
+length-kept (p ∷ ps) = step p ps (ltb 0 p.len) (length-kept ps)
+  where
+    step : (p : Piece) (ps : List Piece) (b : Bool) → length (kept ps) ≤ length ps → length (cond b (p ∷ kept ps) (kept ps)) ≤ suc (length ps)
+    step p ps true h = omega arith
+    step p ps false h = omega arith
+
+length_map : (clip : Stretch → Piece) (ss : List Stretch) → length (map clip ss) ≡ length ss
+length_map clip [] = refl
+length_map clip (s ∷ ss) = ap (λ n. suc n) (length_map clip ss)
+
+pub length-carried : (low high label : ℕ) (ss : List Stretch) → length (carried low high label ss) ≤ length ss
+length-carried low high label ss = omega (arith, length-kept (map (clipped low high label) ss), length_map (clipped low high label) ss)
+
+-- the stretches that a search leaves out give nothing
+pub front_empty : (ss : List Stretch) (reaches : List ℕ) (low high label n : ℕ) → IsIndex ss reaches → IsPartitionPoint (λ (r : ℕ). leb r low ≡ true) (λ (r : ℕ). leb r low ≡ false) reaches n → kept (map (clipped low high label) (take n ss)) ≡ []
+front_empty ss reaches low high label n index point =
+    kept-front (clipped low high label) ss n (λ k a l.
+    let below : leb (get_or reaches k 0) low ≡ true = point.0 k 0 (omega arith) a in
+    let reach = index.reach.covers k l in
+    let h : get_or reaches k 0 ≤ low = grind (arith, nat_tests) in
+    clip_below low high label (get_or ss k no_stretch) (omega arith))
+
+pub rest_empty : (ss : List Stretch) (low high label n i : ℕ) → IsPartitionPoint (λ (s : Stretch). ltb s.source high ≡ true) (λ (s : Stretch). ltb s.source high ≡ false) ss n → n ≤ i → kept (map (clipped low high label) (take i ss)) ≡ kept (map (clipped low high label) ss)
+rest_empty ss low high label n i point h =
+    kept-rest (clipped low high label) ss i (λ k a l.
+    let above : ltb (get_or ss k no_stretch).source high ≡ false = point.1 k no_stretch (omega arith) l in
+    clip_above low high label (get_or ss k no_stretch) (grind (arith, nat_tests)))

@@ -1,0 +1,11 @@
+use Rattle.std.proofs.Common.{◌≡◌, ◌++◌, drop}
+use Rattle.std.specs.List.{All}
+use Rattle.range_map.specs.Ranges.{IsRange}
+use Rattle.dual_map.specs.Ranges.{all_positions}
+use Rattle.dual_map.proofs.base.Base.vm_map.Given as goal
+
+abbrev pub invariant-loop-claim : goal.invariant-loop-claim
+invariant-loop-claim l = record {
+  ranges : l.ranges.items ++ all_positions l.self-inside.to_memory l.self-inside.in_memory l.unmapped (drop l.claim-index l.claims) ≡ all_positions l.self-inside.to_memory l.self-inside.in_memory l.unmapped l.claims;
+  fits : All IsRange l.ranges.items;
+}

@@ -1,0 +1,7 @@
+use Rattle.dual_map.proofs.tests.follows.Given as goal
+
+abbrev pub ghosts-agrees : goal.ghosts-agrees
+ghosts-agrees g a = record { name = a.blank.name; parts = a.blank.parts }
+
+abbrev pub ghosts-label_at : goal.ghosts-label_at
+ghosts-label_at g a = record { name = a.blank.name; parts = a.blank.parts }

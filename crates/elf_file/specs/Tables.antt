@@ -1,0 +1,87 @@
+-- The sections and segments of an ELF file, as its tables have them.
+use Rattle.std.specs.Prelude.{ℕ, ◌+◌, ◌*◌, ◌==◌, ◌&&◌, ◌||◌, not, Bool, List, [], take, drop, nat_lt, if◌then◌else◌}
+use Rattle.elf_file.specs.declared.header.ElfHeader.{ElfHeader}
+use Rattle.elf_file.specs.declared.section.SectionHeader.{SectionHeader}
+use Rattle.elf_file.specs.declared.segment.Segment.{Segment}
+use Rattle.elf_file.specs.declared.constants.TheConstants.{SHT_NULL, SHT_NOBITS, SHN_XINDEX, PN_XNUM}
+use Rattle.elf_file.specs.Layout.{encoding_of, half, four, word, section_len, segment_len, phoff, shoff, phnum, shnum, shstrndx}
+
+-- where the header of section i stands (gABI, Sections: e_shoff, e_shentsize)
+abbrev pub section_place : List ℕ → ℕ → ℕ
+section_place file i = shoff file + i * section_len (encoding_of file)
+
+-- The numbers of section i: Elf32_Shdr, Elf64_Shdr (gABI, Section Header).
+unfoldable pub section_at : List ℕ → ℕ → SectionHeader
+section_at file i = let place = section_place file i in record {
+  place = place;
+  kind = four file place 4 4;
+  flags = word file place 8 8;
+  addr = word file place 12 16;
+  offset = word file place 16 24;
+  size = word file place 20 32;
+  link = four file place 24 40;
+  info = four file place 28 44;
+}
+
+-- where the name of section i begins in the table of names (sh_name)
+unfoldable pub name_offset : List ℕ → ℕ → ℕ
+name_offset file i = four file (section_place file i) 0 0
+
+-- How many sections there are: none where e_shoff is 0, and where e_shnum is 0 as many as sh_size of section 0 says
+-- (gABI, ELF Header: e_shnum).
+unfoldable pub section_count : List ℕ → ℕ
+section_count file = if shoff file == 0 then 0 else if shnum file == 0 then (section_at file 0).size else shnum file
+
+-- how many segments there are: where e_phnum is PN_XNUM, as many as sh_info of section 0 says, if there is one
+-- (gABI, ELF Header: e_phnum)
+unfoldable pub segment_count : List ℕ → ℕ
+segment_count file = if phnum file == PN_XNUM && nat_lt 0 (section_count file) then (section_at file 0).info else phnum file
+
+-- The section that holds the names of sections, or 0 where they have none: where e_shstrndx is SHN_XINDEX, that
+-- of sh_link of section 0 (gABI, ELF Header: e_shstrndx).
+unfoldable pub name_index : List ℕ → ℕ
+name_index file =
+    if section_count file == 0 then 0
+    else if shstrndx file == SHN_XINDEX then (section_at file 0).link else shstrndx file
+
+-- where the header of segment i stands (gABI, Program Header: e_phoff, e_phentsize)
+abbrev pub segment_place : List ℕ → ℕ → ℕ
+segment_place file i = phoff file + i * segment_len (encoding_of file)
+
+-- The numbers of segment i: Elf32_Phdr, Elf64_Phdr (gABI, Program Header).
+unfoldable pub segment_at : List ℕ → ℕ → Segment
+segment_at file i = let place = segment_place file i in record {
+  place = place;
+  kind = four file place 0 0;
+  flags = four file place 24 4;
+  offset = word file place 4 8;
+  vaddr = word file place 8 16;
+  filesz = word file place 16 32;
+  memsz = word file place 20 40;
+}
+
+-- What the file's header says, with the two counts (gABI, ELF Header).
+unfoldable pub header_of : List ℕ → ElfHeader
+header_of file = record {
+  wide = (encoding_of file).wide;
+  order = (encoding_of file).order;
+  kind = half file 0 16 16;
+  machine = half file 0 18 18;
+  phoff = phoff file;
+  shoff = shoff file;
+  segments = segment_count file;
+  sections = section_count file;
+}
+
+-- section i is no section: the first one, and each of type SHT_NULL (gABI, Sections)
+abbrev pub is_null : List ℕ → ℕ → Bool
+is_null file i = i == 0 || (section_at file i).kind == SHT_NULL
+
+-- section i has bytes in the file
+abbrev pub has_bytes : List ℕ → ℕ → Bool
+has_bytes file i = not (is_null file i || (section_at file i).kind == SHT_NOBITS)
+
+-- the bytes of section i
+unfoldable pub section_bytes : List ℕ → ℕ → List ℕ
+section_bytes file i =
+    if has_bytes file i then take (section_at file i).size (drop (section_at file i).offset file) else []

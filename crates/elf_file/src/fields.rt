@@ -1,0 +1,60 @@
+//! The fields of a file's records, by its class and byte order.
+
+ghost use Rattle.std.specs.Prelude.{◌≡◌, ◌+◌, ◌≤◌, ◌<◌, ◌^◌, length};
+ghost use Rattle.elf_file.specs.Layout.{encoding_of, pick, half, four, word};
+
+use byte_cursor::{Order, u16_at, u32_at, u64_at};
+
+/// The class and the byte order of a file (ELF gABI, ELF Identification).
+#[derive(Clone, Copy, Debug, PartialEq, Eq, Hash)]
+pub struct Encoding {
+    /// Whether the class is the one of 64 bits.
+    pub wide: bool,
+    /// The order of a number's bytes.
+    pub order: Order,
+}
+
+impl Encoding {
+    /// The first number in the class of 32 bits, and the second in that of 64.
+    pub fn pick(self, narrow: u64, wide: u64) -> u64
+        ensures { result ≡ pick self narrow wide }
+    {
+        if self.wide { wide } else { narrow }
+    }
+
+    /// The field of two bytes at one of two offsets of the record at `place`.
+    #[tactic(auto, unfolding(crate::specs::Layout::half))]
+    pub fn half(self, file: &[u8], place: u64, narrow: u64, wide: u64) -> u16
+        requires encoding { self ≡ encoding_of file.now }
+        requires within { place + pick self narrow wide + 2 ≤ length file.now }
+        ensures { result ≡ half file.now place narrow wide }
+    {
+        let at = place + self.pick(narrow, wide);
+        u16_at(file, at as usize, self.order)
+    }
+
+    /// The field of four bytes at one of two offsets of the record at `place`.
+    #[tactic(auto, unfolding(crate::specs::Layout::four))]
+    pub fn four(self, file: &[u8], place: u64, narrow: u64, wide: u64) -> u32
+        requires encoding { self ≡ encoding_of file.now }
+        requires within { place + pick self narrow wide + 4 ≤ length file.now }
+        ensures { result ≡ four file.now place narrow wide }
+    {
+        let at = place + self.pick(narrow, wide);
+        u32_at(file, at as usize, self.order)
+    }
+
+    /// The field of four bytes at the first offset, or of eight at the second, of the record at `place`.
+    #[tactic(auto, unfolding(crate::specs::Layout::word))]
+    pub fn word(self, file: &[u8], place: u64, narrow: u64, wide: u64) -> u64
+        requires encoding { self ≡ encoding_of file.now }
+        requires within { place + pick self (narrow + 4) (wide + 8) ≤ length file.now }
+        ensures { result ≡ word file.now place narrow wide }
+    {
+        if self.wide {
+            u64_at(file, (place + wide) as usize, self.order)
+        } else {
+            u32_at(file, (place + narrow) as usize, self.order) as u64
+        }
+    }
+}

@@ -1,0 +1,189 @@
+//! A file that was opened.
+
+ghost use Rattle.std.specs.Prelude.{◌≡◌, ◌<◌, ◌^◌, length, MatchResult, OnOk};
+ghost use Rattle.size_core.specs.Checks.{AllHold, IsFirstFault};
+ghost use Rattle.elf_file.specs.Layout.{encoding_of};
+ghost use Rattle.elf_file.specs.Tables.{header_of, section_at, section_bytes, section_count, segment_at, segment_count};
+ghost use Rattle.elf_file.specs.Names.{name_of, section_named};
+ghost use Rattle.elf_file.specs.ElfChecks.{elf_checks, opened};
+ghost use Rattle.elf_file.specs.WellFormed.{IsWellFormed};
+ghost use Rattle.elf_file.specs.Shown.{numbers};
+
+use crate::constants::SHT_NULL;
+use crate::fields::Encoding;
+use crate::header::ElfHeader;
+use crate::names::{name_of, name_table, names_of, sections_have_names};
+use crate::section::Section;
+use crate::sections::{encoding, section_bytes, section_of_table, section_table, sections_fit};
+use crate::segment::Segment;
+use crate::segments::{segment_of_table, segment_table, segments_fit};
+use size_core::BadFile;
+use std::marker::Model;
+
+/// An ELF file whose checks hold.
+#[derive(Drop)]
+pub struct ElfFile<'a> {
+    file: &'a [u8],
+    encoding: Encoding,
+    sections: u32,
+    segments: u32,
+    name_index: u32,
+    names: &'a [u8],
+}
+
+impl<'a> Model for ElfFile<'a> {
+    ghost use Rattle.std.specs.Prelude.{ℕ, List};
+    ghost use Rattle.elf_file.specs.Known.{IsOpened};
+
+    ghost Value = { List ℕ };
+
+    ghost view = { λ e. e.file.now };
+
+    ghost invariant = { λ e. IsOpened e.file.now e.encoding e.sections e.segments e.name_index e.names.now };
+}
+
+impl<'a> ElfFile<'a> {
+    /// Opens a file of fewer than 2^32 bytes. These are checked in turn, and the first fault is the answer:
+    /// the header (Truncated, BadHeader), the table of sections and then that of segments (BadHeader,
+    /// TablePastEnd), the section of names (BadIndex), the bytes and addresses of each section
+    /// (SectionPastEnd, RangeOverflow), the name of each (NameOutside), and the addresses of each load
+    /// (RangeOverflow).
+    #[tactic(auto, using(crate::proofs::OpenedLemmas::opened_is, crate::proofs::OpenedLemmas::means_opened, crate::proofs::OpenedLemmas::is_well_formed))]
+    pub fn parse(file: &'a [u8]) -> Result<ElfFile<'a>, BadFile>
+        requires { length file.now < 2 ^ 32 }
+        ensures file { result ≡ opened file.now }
+        ensures first { MatchResult result (λ _. AllHold (elf_checks file.now)) (IsFirstFault (elf_checks file.now)) }
+        ensures well_formed { OnOk result (IsWellFormed file.now) }
+    {
+        let encoding = encoding(file)?;
+        let sections = section_table(file, encoding)?;
+        let segments = segment_table(file, encoding, sections)?;
+        let name_index = name_table(file, encoding, sections)?;
+        sections_fit(file, encoding, sections)?;
+        let names = names_of(file, encoding, sections, name_index);
+        sections_have_names(file, encoding, sections, name_index, names)?;
+        segments_fit(file, encoding, segments)?;
+        Ok(ElfFile {
+            file,
+            encoding,
+            sections,
+            segments,
+            name_index,
+            names,
+        })
+    }
+
+    /// The same file.
+    pub fn fork(&self) -> ElfFile<'a>
+        ensures { result ≡ self.now }
+    {
+        ElfFile {
+            file: self.file,
+            encoding: self.encoding,
+            sections: self.sections,
+            segments: self.segments,
+            name_index: self.name_index,
+            names: self.names,
+        }
+    }
+
+    /// The file's class and byte order.
+    pub fn encoding(&self) -> Encoding
+        ensures { result ≡ encoding_of self.now }
+    {
+        self.encoding
+    }
+
+    /// The whole file.
+    #[tactic(auto, using(crate::proofs::OpenedLemmas::is_well_formed))]
+    pub fn bytes(&self) -> &'a [u8]
+        ensures value { result.now ≡ self.now }
+        ensures small { length self.now < 2 ^ 32 }
+        ensures well_formed { IsWellFormed self.now }
+    {
+        self.file
+    }
+
+    /// What the file's header says, with the numbers of sections and segments.
+    #[tactic(auto, unfolding(crate::specs::Tables::header_of))]
+    pub fn header(&self) -> ElfHeader
+        ensures value { result ≡ header_of self.now }
+        ensures wide { result.wide ≡ (encoding_of self.now).wide }
+        ensures order { result.order ≡ (encoding_of self.now).order }
+        ensures sections { result.sections ≡ section_count self.now }
+        ensures segments { result.segments ≡ segment_count self.now }
+    {
+        let encoding = self.encoding;
+        ElfHeader {
+            wide: encoding.wide,
+            order: encoding.order,
+            kind: encoding.half(self.file, 0, 16, 16),
+            machine: encoding.half(self.file, 0, 18, 18),
+            phoff: encoding.word(self.file, 0, 28, 32),
+            shoff: encoding.word(self.file, 0, 32, 40),
+            segments: self.segments,
+            sections: self.sections,
+        }
+    }
+
+    /// A section (ELF gABI, Section Header).
+    pub fn section(&self, i: u32) -> Section<'a>
+        requires { i < section_count self.now }
+        ensures numbers { numbers result ≡ section_at self.now i }
+        ensures name { result.name.now ≡ name_of self.now i }
+    {
+        let header = section_of_table(self.file, self.encoding, self.sections, i);
+        let name = name_of(
+            self.file,
+            self.encoding,
+            self.name_index,
+            self.names,
+            i,
+            header.kind,
+        );
+        Section {
+            place: header.place,
+            name,
+            kind: header.kind,
+            flags: header.flags,
+            addr: header.addr,
+            offset: header.offset,
+            size: header.size,
+            link: header.link,
+            info: header.info,
+        }
+    }
+
+    /// A segment (ELF gABI, Program Header).
+    pub fn segment(&self, i: u32) -> Segment
+        requires { i < segment_count self.now }
+        ensures value { result ≡ segment_at self.now i }
+        ensures well_formed { IsWellFormed self.now }
+    {
+        segment_of_table(self.file, self.encoding, self.segments, i)
+    }
+
+    /// The bytes of a section: none for the first, SHT_NULL and SHT_NOBITS.
+    #[tactic(auto, using(crate::proofs::KnownLemmas::fits_at))]
+    pub fn section_bytes(&self, i: u32) -> &'a [u8]
+        requires { i < section_count self.now }
+        ensures { result.now ≡ section_bytes self.now i }
+    {
+        section_bytes(self.file, self.encoding, self.sections, i)
+    }
+
+    /// The number of the first section of this name. `None` where no section but the first and those of type
+    /// SHT_NULL has it.
+    #[tactic(auto, using(size_core::proofs::Gathered::first_next, size_core::proofs::Gathered::first_here, size_core::proofs::Gathered::first_end))]
+    pub fn find(&self, name: &[u8]) -> Option<u32>
+        ensures { result ≡ section_named self.now name.now }
+    {
+        for i in 1..self.sections {
+            let section = self.section(i);
+            if section.kind != SHT_NULL && section.name == name {
+                return Some(i);
+            }
+        }
+        None
+    }
+}

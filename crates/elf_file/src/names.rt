@@ -1,0 +1,150 @@
+//! The names of sections.
+
+ghost use Rattle.std.specs.Prelude.{◌≡◌, ◌<◌, Ok, IfOk};
+ghost use Rattle.std.specs.Option.{option_copied};
+ghost use Rattle.elf_file.specs.Tables.{name_index, section_at, section_bytes};
+ghost use Rattle.elf_file.specs.Names.{name_text, name_of};
+ghost use Rattle.elf_file.specs.ElfChecks.{checked, name_table_checks, section_has_name};
+ghost use Rattle.elf_file.specs.Known.{HasHeader, HasSection, HasSections, HasNameTable, sections_fit, sections_have_names};
+
+use crate::constants::{SHN_XINDEX, SHT_NULL};
+use crate::fields::Encoding;
+use crate::sections::{section_bytes, section_of_table, section_place};
+use byte_cursor::text_at;
+use size_core::{BadFile, Fault};
+
+/// The section that holds the names, or 0 where sections have none.
+#[tactic(auto, unfolding(crate::specs::Tables::name_index))]
+fn name_index(file: &[u8], encoding: Encoding, sections: u32) -> u32
+    requires { HasSections file.now encoding sections }
+    ensures { result ≡ name_index file.now }
+{
+    if sections == 0 {
+        return 0;
+    }
+    let index = encoding.half(file, 0, 50, 62);
+    if index == SHN_XINDEX {
+        section_of_table(file, encoding, sections, 0).link
+    } else {
+        index as u32
+    }
+}
+
+/// The same, where it is the number of a section.
+#[tactic(auto, unfolding(crate::specs::ElfChecks::name_table_checks))]
+pub fn name_table(file: &[u8], encoding: Encoding, sections: u32) -> Result<u32, BadFile>
+    requires { HasSections file.now encoding sections }
+    ensures value { result ≡ checked (name_table_checks file.now) (name_index file.now) }
+    ensures known { IfOk result (λ n. HasNameTable file.now sections n) }
+{
+    let index = name_index(file, encoding, sections);
+    if index != 0 && index >= sections {
+        return Err(BadFile {
+            fault: Fault::BadIndex,
+            offset: encoding.pick(50, 62),
+        });
+    }
+    Ok(index)
+}
+
+/// The bytes of the section that holds the names.
+#[tactic(auto, using(crate::proofs::KnownLemmas::fits_at), unfolding(crate::specs::Tables::section_bytes))]
+pub fn names_of<'a>(file: &'a [u8], encoding: Encoding, sections: u32, index: u32) -> &'a [u8]
+    requires table { HasSections file.now encoding sections }
+    requires name_table { HasNameTable file.now sections index }
+    requires fit { sections_fit file.now ≡ Ok tt }
+    ensures { result.now ≡ section_bytes file.now index }
+{
+    if index == 0 {
+        &[]
+    } else {
+        section_bytes(file, encoding, sections, index)
+    }
+}
+
+/// The name of a section in the table of names, if it has its end there.
+#[tactic(auto, unfolding(crate::specs::Names::name_text, crate::specs::Tables::name_offset))]
+fn name_text<'a>(file: &[u8], encoding: Encoding, names: &'a [u8], i: u32) -> Option<&'a [u8]>
+    requires header { HasHeader file.now encoding }
+    requires within { HasSection file.now i }
+    requires names { names.now ≡ section_bytes file.now (name_index file.now) }
+    ensures { option_copied result ≡ name_text file.now i }
+{
+    let place = section_place(file, encoding, i);
+    text_at(names, encoding.four(file, place, 0, 0) as usize)
+}
+
+/// The name of a section has its end.
+#[tactic(auto, unfolding(crate::specs::ElfChecks::section_has_name))]
+fn section_has_name(
+    file: &[u8],
+    encoding: Encoding,
+    sections: u32,
+    index: u32,
+    names: &[u8],
+    i: u32,
+) -> Result<(), BadFile>
+    requires table { HasSections file.now encoding sections }
+    requires name_table { HasNameTable file.now sections index }
+    requires names { names.now ≡ section_bytes file.now (name_index file.now) }
+    requires index { i < sections }
+    ensures { result ≡ section_has_name file.now i }
+{
+    let section = section_of_table(file, encoding, sections, i);
+    if i == 0 || section.kind == SHT_NULL || index == 0 {
+        return Ok(());
+    }
+    match name_text(file, encoding, names, i) {
+        Some(_) => Ok(()),
+        None => Err(BadFile {
+            fault: Fault::NameOutside,
+            offset: section.place,
+        }),
+    }
+}
+
+/// The name of each section has its end.
+#[tactic(auto, using(size_core::proofs::Each::each_next, size_core::proofs::Each::each_bad, size_core::proofs::Each::each_end))]
+pub fn sections_have_names(
+    file: &[u8],
+    encoding: Encoding,
+    sections: u32,
+    index: u32,
+    names: &[u8],
+) -> Result<(), BadFile>
+    requires table { HasSections file.now encoding sections }
+    requires name_table { HasNameTable file.now sections index }
+    requires names { names.now ≡ section_bytes file.now (name_index file.now) }
+    ensures { result ≡ sections_have_names file.now }
+{
+    for i in 1..sections {
+        section_has_name(file, encoding, sections, index, names, i)?;
+    }
+    Ok(())
+}
+
+/// The name of a section of this type.
+#[tactic(auto, unfolding(crate::specs::Names::name_of))]
+pub fn name_of<'a>(
+    file: &[u8],
+    encoding: Encoding,
+    index: u32,
+    names: &'a [u8],
+    i: u32,
+    kind: u32,
+) -> &'a [u8]
+    requires header { HasHeader file.now encoding }
+    requires within { HasSection file.now i }
+    requires name_index { index ≡ name_index file.now }
+    requires names { names.now ≡ section_bytes file.now (name_index file.now) }
+    requires kind { kind ≡ (section_at file.now i).kind }
+    ensures { result.now ≡ name_of file.now i }
+{
+    if i == 0 || kind == SHT_NULL || index == 0 {
+        return &[];
+    }
+    match name_text(file, encoding, names, i) {
+        Some(name) => name,
+        None => &[],
+    }
+}

@@ -1,0 +1,192 @@
+//! The table of sections.
+
+ghost use Rattle.std.specs.Prelude.{◌≡◌, ◌+◌, ◌≤◌, ◌<◌, ◌^◌, length, IfOk, Ok, nat_lt};
+ghost use Rattle.elf_file.specs.Layout.{encoding_of};
+ghost use Rattle.elf_file.specs.Tables.{section_at, section_bytes, section_count, section_place};
+ghost use Rattle.elf_file.specs.ElfChecks.{checked, header_checks, section_table_checks, section_fits};
+ghost use Rattle.elf_file.specs.Known.{HasHeader, HasSection, HasSections, sections_fit};
+
+use crate::constants::{SHF_ALLOC, SHT_NOBITS, SHT_NULL};
+use crate::fields::Encoding;
+use crate::section::SectionHeader;
+use byte_cursor::Order;
+use size_core::{BadFile, Fault};
+
+/// The class and the byte order, where the file's header is whole.
+#[tactic(auto, unfolding(crate::specs::ElfChecks::header_checks, crate::specs::Layout::encoding_of))]
+pub fn encoding(file: &[u8]) -> Result<Encoding, BadFile>
+    requires { length file.now < 2 ^ 32 }
+    ensures value { result ≡ checked (header_checks file.now) (encoding_of file.now) }
+    ensures known { IfOk result (λ e. HasHeader file.now e) }
+{
+    let truncated = BadFile {
+        fault: Fault::Truncated,
+        offset: 0,
+    };
+    if file.len() < 16 {
+        return Err(truncated);
+    }
+    let wide = match file[4] {
+        1 => false,
+        2 => true,
+        _ => return Err(BadFile {
+            fault: Fault::BadHeader,
+            offset: 4,
+        }),
+    };
+    let order = match file[5] {
+        1 => Order::Little,
+        2 => Order::Big,
+        _ => return Err(BadFile {
+            fault: Fault::BadHeader,
+            offset: 5,
+        }),
+    };
+    let encoding = Encoding { wide, order };
+    if (file.len() as u64) < encoding.pick(52, 64) {
+        return Err(truncated);
+    }
+    Ok(encoding)
+}
+
+/// The number of sections, where their table lies in the file.
+#[tactic(auto, unfolding(crate::specs::ElfChecks::section_table_checks, crate::specs::Tables::section_count))]
+pub fn section_table(file: &[u8], encoding: Encoding) -> Result<u32, BadFile>
+    requires { HasHeader file.now encoding }
+    ensures value { result ≡ checked (section_table_checks file.now) (section_count file.now) }
+    ensures known { IfOk result (λ n. HasSections file.now encoding n) }
+{
+    let table = encoding.word(file, 0, 32, 40);
+    if table == 0 {
+        return Ok(0);
+    }
+    let len = encoding.pick(40, 64);
+    if encoding.half(file, 0, 46, 58) as u64 != len {
+        return Err(BadFile {
+            fault: Fault::BadHeader,
+            offset: encoding.pick(46, 58),
+        });
+    }
+    let past_end = BadFile {
+        fault: Fault::TablePastEnd,
+        offset: table,
+    };
+    let size = file.len() as u64;
+    if size < table {
+        return Err(past_end);
+    }
+    let room = size - table;
+    let mut count = encoding.half(file, 0, 48, 60) as u64;
+    if count == 0 {
+        if room < len {
+            return Err(past_end);
+        }
+        count = section_header(file, encoding, 0).size;
+    }
+    if room / len < count {
+        return Err(past_end);
+    }
+    Ok(count as u32)
+}
+
+/// Where the header of a section stands that lies in the file.
+pub fn section_place(file: &[u8], encoding: Encoding, i: u32) -> u64
+    requires header { HasHeader file.now encoding }
+    requires within { HasSection file.now i }
+    ensures { result ≡ section_place file.now i }
+{
+    encoding.word(file, 0, 32, 40) + i as u64 * encoding.pick(40, 64)
+}
+
+/// The numbers of a section whose header lies in the file.
+#[tactic(auto, unfolding(crate::specs::Tables::section_at))]
+pub fn section_header(file: &[u8], encoding: Encoding, i: u32) -> SectionHeader
+    requires header { HasHeader file.now encoding }
+    requires within { HasSection file.now i }
+    ensures { result ≡ section_at file.now i }
+{
+    let place = section_place(file, encoding, i);
+    SectionHeader {
+        place,
+        kind: encoding.four(file, place, 4, 4),
+        flags: encoding.word(file, place, 8, 8),
+        addr: encoding.word(file, place, 12, 16),
+        offset: encoding.word(file, place, 16, 24),
+        size: encoding.word(file, place, 20, 32),
+        link: encoding.four(file, place, 24, 40),
+        info: encoding.four(file, place, 28, 44),
+    }
+}
+
+/// The numbers of a section of a table that lies in the file.
+pub fn section_of_table(file: &[u8], encoding: Encoding, sections: u32, i: u32) -> SectionHeader
+    requires table { HasSections file.now encoding sections }
+    requires index { i < sections }
+    ensures value { result ≡ section_at file.now i }
+    ensures within { HasSection file.now i }
+{
+    section_header(file, encoding, i)
+}
+
+/// The bytes of a section lie in the file, and its addresses below 2^64.
+#[tactic(auto, unfolding(crate::specs::ElfChecks::section_fits))]
+fn section_fits(file: &[u8], encoding: Encoding, sections: u32, i: u32) -> Result<(), BadFile>
+    requires table { HasSections file.now encoding sections }
+    requires index { i < sections }
+    ensures { result ≡ section_fits file.now i }
+{
+    let section = section_of_table(file, encoding, sections, i);
+    if i == 0 || section.kind == SHT_NULL {
+        return Ok(());
+    }
+    let len = file.len() as u64;
+    let missing = section.offset > len || len - section.offset < section.size;
+    if section.kind != SHT_NOBITS && section.size != 0 && missing {
+        return Err(BadFile {
+            fault: Fault::SectionPastEnd,
+            offset: section.place,
+        });
+    }
+    if section.flags & SHF_ALLOC != 0 && passes_end(section.addr, section.size) {
+        return Err(BadFile {
+            fault: Fault::RangeOverflow,
+            offset: section.place,
+        });
+    }
+    Ok(())
+}
+
+/// Whether `size` bytes from a virtual address on pass 2^64.
+pub fn passes_end(addr: u64, size: u64) -> bool
+    ensures { result ≡ nat_lt (2 ^ 64) (addr + size) }
+{
+    size != 0 && u64::MAX - (size - 1) < addr
+}
+
+/// Each section fits.
+#[tactic(auto, using(size_core::proofs::Each::each_next, size_core::proofs::Each::each_bad, size_core::proofs::Each::each_end))]
+pub fn sections_fit(file: &[u8], encoding: Encoding, sections: u32) -> Result<(), BadFile>
+    requires { HasSections file.now encoding sections }
+    ensures { result ≡ sections_fit file.now }
+{
+    for i in 1..sections {
+        section_fits(file, encoding, sections, i)?;
+    }
+    Ok(())
+}
+
+/// The bytes of a section that fits.
+#[tactic(auto, unfolding(crate::specs::Tables::section_bytes, crate::specs::ElfChecks::section_fits))]
+pub fn section_bytes<'a>(file: &'a [u8], encoding: Encoding, sections: u32, i: u32) -> &'a [u8]
+    requires table { HasSections file.now encoding sections }
+    requires index { i < sections }
+    requires fits { 0 < i → section_fits file.now i ≡ Ok tt }
+    ensures { result.now ≡ section_bytes file.now i }
+{
+    let section = section_of_table(file, encoding, sections, i);
+    let empty = section.kind == SHT_NOBITS || section.size == 0;
+    if i == 0 || section.kind == SHT_NULL || empty {
+        return &[];
+    }
+    &file[section.offset as usize..(section.offset + section.size) as usize]
+}

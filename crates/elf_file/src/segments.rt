@@ -1,0 +1,104 @@
+//! The table of segments.
+
+ghost use Rattle.std.specs.Prelude.{◌≡◌, ◌+◌, ◌≤◌, ◌<◌, ◌^◌, length, IfOk};
+ghost use Rattle.elf_file.specs.Tables.{segment_at, segment_count};
+ghost use Rattle.elf_file.specs.ElfChecks.{checked, segment_table_checks, segment_fits};
+ghost use Rattle.elf_file.specs.Known.{HasSections, HasSegment, HasSegments, segments_fit};
+
+use crate::constants::{PN_XNUM, PT_LOAD};
+use crate::fields::Encoding;
+use crate::sections::{passes_end, section_of_table};
+use crate::segment::Segment;
+use size_core::{BadFile, Fault};
+
+/// The number of segments, as the header or section 0 states it.
+#[tactic(auto, unfolding(crate::specs::Tables::segment_count))]
+fn segment_count(file: &[u8], encoding: Encoding, sections: u32) -> u32
+    requires { HasSections file.now encoding sections }
+    ensures { result ≡ segment_count file.now }
+{
+    let count = encoding.half(file, 0, 44, 56);
+    if count == PN_XNUM && sections > 0 {
+        section_of_table(file, encoding, sections, 0).info
+    } else {
+        count as u32
+    }
+}
+
+/// The number of segments, where their table lies in the file.
+#[tactic(auto, unfolding(crate::specs::ElfChecks::segment_table_checks))]
+pub fn segment_table(file: &[u8], encoding: Encoding, sections: u32) -> Result<u32, BadFile>
+    requires { HasSections file.now encoding sections }
+    ensures value { result ≡ checked (segment_table_checks file.now) (segment_count file.now) }
+    ensures known { IfOk result (λ n. HasSegments file.now encoding n) }
+{
+    let count = segment_count(file, encoding, sections);
+    if count == 0 {
+        return Ok(0);
+    }
+    let len = encoding.pick(32, 56);
+    if encoding.half(file, 0, 42, 54) as u64 != len {
+        return Err(BadFile {
+            fault: Fault::BadHeader,
+            offset: encoding.pick(42, 54),
+        });
+    }
+    let table = encoding.word(file, 0, 28, 32);
+    let size = file.len() as u64;
+    if table > size || (size - table) / len < count as u64 {
+        return Err(BadFile {
+            fault: Fault::TablePastEnd,
+            offset: table,
+        });
+    }
+    Ok(count)
+}
+
+/// The numbers of a segment of a table that lies in the file.
+#[tactic(auto, unfolding(crate::specs::Tables::segment_at))]
+pub fn segment_of_table(file: &[u8], encoding: Encoding, segments: u32, i: u32) -> Segment
+    requires table { HasSegments file.now encoding segments }
+    requires index { i < segments }
+    ensures value { result ≡ segment_at file.now i }
+    ensures within { HasSegment file.now i }
+{
+    let place = encoding.word(file, 0, 28, 32) + i as u64 * encoding.pick(32, 56);
+    Segment {
+        place,
+        kind: encoding.four(file, place, 0, 0),
+        flags: encoding.four(file, place, 24, 4),
+        offset: encoding.word(file, place, 4, 8),
+        vaddr: encoding.word(file, place, 8, 16),
+        filesz: encoding.word(file, place, 16, 32),
+        memsz: encoding.word(file, place, 20, 40),
+    }
+}
+
+/// The addresses of a loaded segment lie below 2^64.
+#[tactic(auto, unfolding(crate::specs::ElfChecks::segment_fits))]
+fn segment_fits(file: &[u8], encoding: Encoding, segments: u32, i: u32) -> Result<(), BadFile>
+    requires table { HasSegments file.now encoding segments }
+    requires index { i < segments }
+    ensures { result ≡ segment_fits file.now i }
+{
+    let segment = segment_of_table(file, encoding, segments, i);
+    if segment.kind == PT_LOAD && passes_end(segment.vaddr, segment.memsz) {
+        return Err(BadFile {
+            fault: Fault::RangeOverflow,
+            offset: segment.place,
+        });
+    }
+    Ok(())
+}
+
+/// Each loaded segment fits.
+#[tactic(auto, using(size_core::proofs::Each::each_next, size_core::proofs::Each::each_bad, size_core::proofs::Each::each_end))]
+pub fn segments_fit(file: &[u8], encoding: Encoding, segments: u32) -> Result<(), BadFile>
+    requires { HasSegments file.now encoding segments }
+    ensures { result ≡ segments_fit file.now }
+{
+    for i in 0..segments {
+        segment_fits(file, encoding, segments, i)?;
+    }
+    Ok(())
+}

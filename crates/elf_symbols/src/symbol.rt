@@ -1,0 +1,89 @@
+//! Symbols.
+
+ghost use Rattle.std.specs.Prelude.{◌≡◌, ◌+◌, ◌*◌, ◌≤◌, ◌<◌, ◌^◌, length};
+ghost use Rattle.size_core.specs.Checks.{Gives};
+ghost use Rattle.elf_file.specs.Layout.{encoding_of};
+ghost use Rattle.elf_symbols.specs.Symbols.{name_at, section_number_at, symbol_len};
+ghost use Rattle.elf_symbols.specs.TableFacts.{HasSymbol};
+
+use crate::constants::SHN_XINDEX;
+use byte_cursor::{text_at, u32_at};
+use elf_file::Encoding;
+use size_core::{BadFile, Fault};
+
+/// A symbol (ELF gABI, Symbol Table).
+#[derive(Clone, Copy, Debug)]
+pub struct Symbol<'a> {
+    /// Its file offset.
+    pub place: u64,
+    /// Empty where `st_name` is 0.
+    pub name: &'a [u8],
+    /// `st_value`, mostly a virtual address.
+    pub value: u64,
+    /// In bytes.
+    pub size: u64,
+    /// The type, which `st_info` holds beside the binding.
+    pub kind: u8,
+    /// `st_shndx`, as it stands.
+    pub shndx: u16,
+    /// The number of its section, also where that doesn't fit `st_shndx`.
+    pub section: u32,
+}
+
+/// The size of a symbol.
+pub fn symbol_len(encoding: Encoding) -> u64
+    ensures { result ≡ symbol_len encoding }
+{
+    encoding.pick(16, 24)
+}
+
+/// The name of the symbol at a place.
+#[tactic(auto, unfolding(crate::specs::Symbols::name_at))]
+pub fn name_at<'a>(
+    file: &[u8],
+    encoding: Encoding,
+    names: &'a [u8],
+    place: u64,
+) -> Result<&'a [u8], BadFile>
+    requires encoding { encoding ≡ encoding_of file.now }
+    requires within { HasSymbol file.now place }
+    ensures { Gives (λ name. name.now) result (name_at file.now names.now place) }
+{
+    let offset = encoding.four(file, place, 0, 0);
+    if offset == 0 {
+        return Ok(&[]);
+    }
+    match text_at(names, offset as usize) {
+        Some(name) => Ok(name),
+        None => Err(BadFile {
+            fault: Fault::NameOutside,
+            offset: place,
+        }),
+    }
+}
+
+/// The section of symbol `k`, which stands at a place.
+#[tactic(auto, unfolding(crate::specs::Symbols::section_number_at))]
+pub fn section_number_at(
+    file: &[u8],
+    encoding: Encoding,
+    numbers: &[u8],
+    place: u64,
+    k: u32,
+) -> Result<u32, BadFile>
+    requires encoding { encoding ≡ encoding_of file.now }
+    requires within { HasSymbol file.now place }
+    ensures { result ≡ section_number_at file.now numbers.now place k }
+{
+    let shndx = encoding.half(file, place, 14, 6);
+    if shndx != SHN_XINDEX {
+        return Ok(shndx as u32);
+    }
+    if numbers.len() / 4 <= k as usize {
+        return Err(BadFile {
+            fault: Fault::BadIndex,
+            offset: place,
+        });
+    }
+    Ok(u32_at(numbers, 4 * k as usize, encoding.order))
+}

@@ -1,0 +1,128 @@
+//! Tables of symbols.
+
+ghost use Rattle.std.specs.Prelude.{◌≡◌, ◌+◌, ◌*◌, ◌<◌, ◌≤◌, ◌^◌, length, IfSome};
+ghost use Rattle.size_core.specs.Checks.{Gives};
+ghost use Rattle.elf_file.specs.Layout.{encoding_of};
+ghost use Rattle.elf_file.specs.Tables.{section_at, section_count};
+ghost use Rattle.elf_symbols.specs.Symbols.{IsSymbolTable, has_numbers_of, numbers_index, numbers_of, symbol_at, symbol_count, symbol_len, table_at};
+ghost use Rattle.elf_symbols.specs.Shown.{shown};
+
+use crate::constants::SHT_SYMTAB_SHNDX;
+use crate::symbol::{Symbol, name_at, section_number_at, symbol_len};
+use elf_file::{ElfFile, Encoding};
+use size_core::{BadFile, Fault};
+use std::marker::Model;
+
+/// A table of symbols.
+#[derive(Drop)]
+pub struct SymbolTable<'a> {
+    file: &'a [u8],
+    index: u32,
+    encoding: Encoding,
+    offset: u64,
+    count: u32,
+    names: &'a [u8],
+    numbers: &'a [u8],
+}
+
+impl<'a> Model for SymbolTable<'a> {
+    ghost use Rattle.elf_symbols.specs.Symbols.{Table};
+    ghost use Rattle.elf_symbols.specs.TableFacts.{IsTable};
+
+    ghost Value = { Table };
+
+    ghost view = { λ t. record { file = t.file.now; index = t.index } };
+
+    ghost invariant = { λ t. IsTable t.file.now t.index t.encoding t.offset t.count t.names.now t.numbers.now };
+}
+
+/// Whether section `j` has the numbers of sections of the table in section `i`.
+fn has_numbers_of(file: &ElfFile<'_>, i: u32, j: u32) -> bool
+    requires { j < section_count file.now }
+    ensures { result ≡ has_numbers_of file.now i j }
+{
+    let section = file.section(j);
+    section.kind == SHT_SYMTAB_SHNDX && section.link == i
+}
+
+/// The first section with the numbers of sections of the table in section `i`.
+#[tactic(auto, using(size_core::proofs::Gathered::first_next, size_core::proofs::Gathered::first_here, size_core::proofs::Gathered::first_end))]
+fn numbers_index(file: &ElfFile<'_>, i: u32) -> Option<u32>
+    ensures value { result ≡ numbers_index file.now i }
+    ensures below { IfSome result (λ j. j < section_count file.now) }
+{
+    for j in 1..file.header().sections {
+        if has_numbers_of(file, i, j) {
+            return Some(j);
+        }
+    }
+    None
+}
+
+/// The numbers of sections of the table in section `i`: no bytes where no section has them.
+fn numbers_of<'a>(file: &ElfFile<'a>, i: u32) -> &'a [u8]
+    ensures { result.now ≡ numbers_of file.now i }
+{
+    match numbers_index(file, i) {
+        Some(j) => file.section_bytes(j),
+        None => &[],
+    }
+}
+
+impl<'a> SymbolTable<'a> {
+    /// The table in section `i`. BadIndex where its names are in no section.
+    #[tactic(auto, unfolding(crate::specs::Symbols::table_at, crate::specs::Symbols::symbol_count), using(crate::proofs::Within::table_within))]
+    pub fn at(file: &ElfFile<'a>, i: u32) -> Result<SymbolTable<'a>, BadFile>
+        requires { IsSymbolTable file.now i }
+        ensures { result ≡ table_at file.now i }
+    {
+        let section = file.section(i);
+        if section.link >= file.header().sections {
+            return Err(BadFile {
+                fault: Fault::BadIndex,
+                offset: section.place,
+            });
+        }
+        let encoding = file.encoding();
+        let bytes = file.bytes();
+        Ok(SymbolTable {
+            file: bytes,
+            index: i,
+            encoding,
+            offset: section.offset,
+            count: (section.size / symbol_len(encoding)) as u32,
+            names: file.section_bytes(section.link),
+            numbers: numbers_of(file, i),
+        })
+    }
+
+    /// How many symbols there are.
+    pub fn len(&self) -> u32
+        ensures { result ≡ symbol_count self.now.file self.now.index }
+    {
+        self.count
+    }
+
+    /// A symbol. NameOutside where its name has no end in the table's names, and BadIndex where the number of
+    /// its section doesn't fit `st_shndx` and stands in no other section.
+    #[tactic(auto, unfolding(crate::specs::Symbols::symbol_at))]
+    pub fn symbol(&self, k: u32) -> Result<Symbol<'a>, BadFile>
+        requires { k < symbol_count self.now.file self.now.index }
+        ensures { Gives shown result (symbol_at self.now.file self.now.index k) }
+    {
+        let encoding = self.encoding;
+        let place = self.offset + k as u64 * symbol_len(encoding);
+        let name = name_at(self.file, encoding, self.names, place)?;
+        let section = section_number_at(self.file, encoding, self.numbers, place, k)?;
+        let info = self.file[(place + encoding.pick(12, 4)) as usize];
+        Ok(Symbol {
+            place,
+            name,
+            value: encoding.word(self.file, place, 4, 8),
+            size: encoding.word(self.file, place, 8, 16),
+            kind: info % 16,
+            shndx: encoding.half(self.file, place, 14, 6),
+            section,
+        })
+    }
+}

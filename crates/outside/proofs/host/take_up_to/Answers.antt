@@ -1,0 +1,12 @@
+use Rattle.std.proofs.Common.{arith}
+use Rattle.outside.proofs.GrownLemmas.{Consumes-more}
+use Rattle.outside.proofs.host.take_up_to.Goals as goal
+
+pub loop-filled-preserved : goal.loop-filled-preserved
+loop-filled-preserved g c =
+    let read = c.in-Ok.ensures in
+    let before = c.loop-filled.invariant in record {
+      within = read.fits;
+      room = omega (arith, read.room);
+      read = Consumes-more _ _ _ c.loop-filled.bytes.items c.read_more.new.bytes.items c.loop-filled.filled c.in-Ok.count read.front before.read read.ok;
+    }

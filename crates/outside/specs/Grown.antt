@@ -1,0 +1,13 @@
+-- What was added to the bytes that a sink has.
+use Rattle.std.specs.Prelude.{◌≡◌, ℕ, ◌<◌, List, length, take, Option}
+use Rattle.std.specs.Io.KnownBytes.{append_known}
+
+-- the bytes, where they are told, grew by these
+abbrev pub Grew : Option (List ℕ) → Option (List ℕ) → List ℕ → Type 0
+Grew old new bytes = new ≡ append_known old bytes
+
+-- they grew by a proper prefix of these
+pub record GrewByPart (old new : Option (List ℕ)) (bytes : List ℕ) : Type 0 where
+  pub count : ℕ
+  pub proper : count < length bytes
+  pub is : Grew old new (take count bytes)

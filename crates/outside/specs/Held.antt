@@ -1,0 +1,24 @@
+-- What files hold.
+use Rattle.std.specs.Prelude.{◌≡◌, ℕ, ◌+◌, ◌<◌, List, [], ◌∷◌, length, ⊤, if◌then◌else◌, Option, None, Some}
+use Rattle.std.specs.Str.{bytes_eq}
+use Rattle.outside.specs.Causes.{RoseBy}
+
+-- names, and the bytes of each
+abbrev pub Pairs : Type 0
+Pairs = List (List ℕ × List ℕ)
+
+-- the bytes of a name: those of its first pair, and none where it has no pair
+abbrev pub held_bytes : Pairs → List ℕ → List ℕ
+held_bytes [] name = []
+held_bytes (pair ∷ rest) name = if bytes_eq pair.0 name then pair.1 else held_bytes rest name
+
+-- these are the bytes of the name, where the object tells
+abbrev pub IsHeld : Option Pairs → List ℕ → List ℕ → Type 0
+IsHeld None name bytes = ⊤
+IsHeld (Some pairs) name bytes = bytes ≡ held_bytes pairs name
+
+-- The name holds more bytes than the limit. Where the object doesn't tell, it took more than the limit, by the
+-- count of the bytes that it took before and takes now.
+abbrev pub IsLonger : Option Pairs → List ℕ → ℕ → ℕ → ℕ → Type 0
+IsLonger None name limit before now = RoseBy (limit + 1) before now
+IsLonger (Some pairs) name limit before now = limit < length (held_bytes pairs name)

@@ -1,0 +1,17 @@
+//! A count of calls, some of which are to fail.
+
+ghost use Rattle.std.specs.Prelude.{◌≡◌};
+ghost use Rattle.outside.specs.Causes.{raised};
+ghost use Rattle.outside.specs.Memory.{next_fails};
+
+// Counts a call, and says whether it is to fail. A call past the greatest u64 has no number.
+pub(crate) fn count_call(calls: &mut u64, failing: &[u64]) -> bool
+    ensures counted { calls.new ≡ raised calls.old }
+    ensures fails { result ≡ next_fails calls.old failing.now }
+{
+    if *calls == u64::MAX {
+        return false;
+    }
+    *calls += 1;
+    failing.contains(calls)
+}

@@ -1,0 +1,219 @@
+//! The files and writers of the host: the trusted edge, which tells nothing of what files hold.
+
+ghost use Rattle.std.specs.Prelude.{◌≡◌, ◌≢◌, ◌≤◌, ◌<◌, ◌+◌, ◌↔◌, None, IfOk, OnOk, OnErr, IsErrOf, length, take, drop, vec_len};
+ghost use Rattle.std.specs.Io.KnownBytes.{Appends, Consumes, Keeps, IsAtEnd};
+ghost use Rattle.std.specs.IoError.{error_kind};
+ghost use Rattle.std.specs.declared.io.ErrorKind.TheVariants.{OutOfMemory};
+ghost use Rattle.outside.specs.Causes.{Rose, RoseBy, raised, raised_by};
+ghost use Rattle.outside.specs.Held.{IsHeld};
+
+use crate::files::{FileAnswer, Files};
+use crate::sink::{Failed, Sink};
+use std::alloc::{AllocError, Global};
+use std::io::{ErrorKind, Read, Write};
+use std::marker::Model;
+use std::{fs, io, rt};
+
+/// A writer of std, flushed after each write. It tells nothing of what it wrote.
+#[derive(Drop)]
+pub struct HostSink<W: Write + Drop> {
+    writer: W,
+    faults: u64,
+}
+
+impl<W: Write + Drop> Model for HostSink<W> {
+    ghost use Rattle.std.specs.Prelude.{ℕ};
+
+    ghost Value = { W × ℕ };
+
+    ghost view = { λ s. (s.writer, s.faults) };
+}
+
+impl<W: Write + Drop> HostSink<W> {
+    /// A sink over a writer. No write has failed.
+    pub fn new(writer: W) -> HostSink<W>
+        ensures { result ≡ (writer, 0) }
+    {
+        HostSink { writer, faults: 0 }
+    }
+}
+
+impl<W: Write + Drop> Sink for HostSink<W> {
+    ghost written = { λ _. None };
+
+    ghost faults = { λ s. s.1 };
+
+    /// Fails where the writer or its flush does, or where the writer takes nothing. An Ok is what the writer
+    /// took, by what it holds, where it tells.
+    fn write(&mut self, piece: &[u8]) -> Result<usize, Failed>
+        requires { 0 < length piece.now }
+        ensures some { IfOk result (λ n. 0 < n) }
+        ensures bound { IfOk result (λ n. n ≤ length piece.now) }
+        ensures later { self.old.1 ≤ self.new.1 }
+        ensures failed { OnErr result (Rose self.old.1 self.new.1) }
+
+        ensures counted { OnErr result (self.new.1 ≡ raised self.old.1) }
+        ensures not_counted { OnOk result (self.new.1 ≡ self.old.1) }
+        ensures honest { IfOk result (λ n. Appends (W.contents self.old.0) (W.contents self.new.0) (take n piece.now)) }
+    {
+        match self.writer.write(piece) {
+            Err(_) | Ok(0) => {
+                self.faults = self.faults.saturating_add(1);
+                Err(Failed)
+            }
+            Ok(count) => match self.writer.flush() {
+                Ok(()) => Ok(count),
+                Err(_) => {
+                    self.faults = self.faults.saturating_add(1);
+                    Err(Failed)
+                }
+            },
+        }
+    }
+}
+
+/// The host's files. They tell nothing of what they hold.
+#[derive(Drop)]
+pub struct HostFiles<'r, R: rt::Files> {
+    rt: &'r R,
+    faults: u64,
+    taken: u64,
+}
+
+impl<'r, R: rt::Files> Model for HostFiles<'r, R> {
+    ghost use Rattle.outside.specs.Host.{HostCounts};
+
+    ghost Value = { HostCounts };
+
+    ghost view = { λ f. record { faults = f.faults; taken = f.taken } };
+}
+
+impl<'r, R: rt::Files> HostFiles<'r, R> {
+    /// The files of a runtime. No read has failed, and no byte was taken.
+    pub fn new(rt: &'r R) -> HostFiles<'r, R>
+        ensures { result ≡ record { faults = 0; taken = 0 } }
+    {
+        HostFiles {
+            rt,
+            faults: 0,
+            taken: 0,
+        }
+    }
+}
+
+impl<'r, R: rt::Files> Files for HostFiles<'r, R> {
+    ghost held = { λ _. None };
+
+    ghost faults = { λ f. f.faults };
+
+    ghost last_failed = { λ _. None };
+
+    ghost taken = { λ f. f.taken };
+
+    /// Takes at most one byte more than the limit. A failed read counts as a fault, and nothing else does.
+    fn read(&mut self, alloc: Global, name: &str, limit: u64) -> Result<Vec<u8>, FileAnswer>
+        ensures later { self.old.faults ≤ self.new.faults }
+        ensures more { self.old.taken ≤ self.new.taken }
+        ensures within { IfOk result (λ v. length v.items ≤ limit) }
+        ensures untold { IfOk result (λ v. IsHeld None name.now v.items) }
+        ensures failed { IsErrOf result FileAnswer.Failed → Rose self.old.faults self.new.faults }
+        ensures too_long { IsErrOf result FileAnswer.TooLong → RoseBy (limit + 1) self.old.taken self.new.taken }
+
+        ensures counted { IsErrOf result FileAnswer.Failed → self.new.faults ≡ raised self.old.faults }
+        ensures not_counted { ¬ IsErrOf result FileAnswer.Failed → self.new.faults ≡ self.old.faults }
+        ensures taken { IfOk result (λ v. self.new.taken ≡ raised_by (length v.items) self.old.taken) }
+        ensures at_most { self.new.taken ≤ self.old.taken + (limit + 1) }
+    {
+        let mut file = match fs::open(self.rt, name) {
+            Ok(file) => file,
+            Err(e) => return Err(answer(&mut self.faults, &e)),
+        };
+        let (bytes, outcome) = take_up_to(alloc, &mut file, limit.saturating_add(1));
+        self.taken = self.taken.saturating_add(bytes.len() as u64);
+        match outcome {
+            Err(e) => Err(answer(&mut self.faults, &e)),
+            Ok(()) if bytes.len() as u64 > limit => Err(FileAnswer::TooLong),
+            Ok(()) => Ok(bytes),
+        }
+    }
+}
+
+// The answer for an error: want of memory is no fault.
+fn answer(faults: &mut u64, e: &io::Error) -> FileAnswer
+    ensures counted { (result ≡ FileAnswer.Failed) → faults.new ≡ raised faults.old }
+    ensures not_counted { (result ≢ FileAnswer.Failed) → faults.new ≡ faults.old }
+    ensures later { faults.old ≤ faults.new }
+    ensures no_other { result ≢ FileAnswer.TooLong }
+    ensures memory { (result ≡ FileAnswer.NoMemory) ↔ (error_kind e.now ≡ OutOfMemory) }
+{
+    if e.kind() == ErrorKind::OutOfMemory {
+        return FileAnswer::NoMemory;
+    }
+    *faults = faults.saturating_add(1);
+    FileAnswer::Failed
+}
+
+// All that a reader has left, or its first `most` bytes, and the error that ended the reading. Each turn but
+// the last takes one byte at least.
+fn take_up_to<F: Read>(alloc: Global, file: &mut F, most: u64) -> (Vec<u8>, io::Result<()>)
+    ensures within { length result.0.items ≤ most }
+    ensures taken { Consumes (F.remaining file.old) (F.remaining file.new) result.0.items }
+    ensures all { OnOk result.1 (length result.0.items < most → IsAtEnd (F.remaining file.new)) }
+{
+    let mut bytes = Vec::new(alloc);
+    let mut filled = 0;
+    while (filled as u64) < most {
+        match read_more(file, &mut bytes, filled, most - filled as u64) {
+            Ok(0) => break,
+            Ok(count) => filled += count,
+            Err(e) => {
+                bytes.truncate(filled);
+                return (bytes, Err(e));
+            }
+        }
+    }
+    bytes.truncate(filled);
+    (bytes, Ok(()))
+}
+
+// One read into a vector after its first `filled` bytes, of at most `most` bytes. Where there is no room, the
+// vector grows by zeros first; what an earlier read left of them serves the next.
+fn read_more<F: Read>(
+    file: &mut F,
+    bytes: &mut Vec<u8>,
+    filled: usize,
+    most: u64,
+) -> io::Result<usize>
+    requires filled { filled ≤ vec_len bytes.old }
+    requires some { 0 < most }
+    requires room { vec_len bytes.old ≤ filled + most }
+    ensures room { vec_len bytes.new ≤ filled + most }
+    ensures front { take filled bytes.new.items ≡ take filled bytes.old.items }
+    ensures fits { IfOk result (λ n. filled + n ≤ vec_len bytes.new) }
+    ensures ok { IfOk result (λ n. Consumes (F.remaining file.old) (F.remaining file.new)
+        (take n (drop filled bytes.new.items))) }
+    ensures err { OnErr result (Keeps (F.remaining file.old) (F.remaining file.new)) }
+    ensures end { IfOk result (λ n. n ≡ 0 → IsAtEnd (F.remaining file.new)) }
+{
+    make_room(bytes, filled, most)?;
+    file.read(&mut bytes[filled..])
+}
+
+// How many bytes a vector grows by before a read.
+const CHUNK: u64 = 1 << 18;
+
+// Makes a vector longer than `filled`, and at most `most` longer.
+fn make_room(bytes: &mut Vec<u8>, filled: usize, most: u64) -> Result<(), AllocError>
+    requires filled { filled ≤ vec_len bytes.old }
+    requires some { 0 < most }
+    requires room { vec_len bytes.old ≤ filled + most }
+    ensures room { vec_len bytes.new ≤ filled + most }
+    ensures front { take filled bytes.new.items ≡ take filled bytes.old.items }
+    ensures within { filled ≤ vec_len bytes.new }
+    ensures some { OnOk result (filled < vec_len bytes.new) }
+{
+    if filled == bytes.len() {
+        bytes.resize(filled + most.min(CHUNK) as usize, 0)?;
+    }
+    Ok(())
+}

@@ -1,0 +1,16 @@
+//! What a program is handed to reach outside: files by name, and places to write to.
+#![tactic(auto)]
+
+mod calls;
+mod files;
+mod host;
+mod memory;
+mod sink;
+
+pub use files::{FileAnswer, Files};
+pub use host::{HostFiles, HostSink};
+pub use memory::{MemFiles, MemSink, NoFaultFiles};
+pub use sink::{Failed, Sink, write_pieces, write_whole};
+
+#[cfg(test)]
+mod tests;

@@ -1,0 +1,14 @@
+//! Labelled ranges of positions: of all ranges that have a position, the first gives its label.
+#![tactic(auto)]
+
+mod emit;
+mod laws;
+mod range_map;
+mod sweep;
+
+pub use laws::adding_in_order_builds;
+pub use range_map::RangeMap;
+pub use size_model::Piece;
+
+#[cfg(test)]
+mod tests;

@@ -1,0 +1,85 @@
+-- What follows of pieces, paths and sizes.
+use Rattle.std.specs.Prelude.{◌≡◌, ◌≢◌, ◌+◌, ◌<◌, ◌≤◌, ℕ, Bool, IsTrue, List, [], ◌∷◌, ◌++◌, length, Option, None, Some, All, Any, AllPairs, Contains}
+use Rattle.std.specs.List.{sum_by}
+use Rattle.size_core.specs.declared.claim.Load.{Load}
+use Rattle.size_model.specs.declared.piece.Piece.{Piece}
+use Rattle.size_model.specs.declared.view.FileView.{FileView}
+use Rattle.size_model.specs.declared.view.SourceView.{SourceView}
+use Rattle.size_model.specs.Cut.{has, IsTidy, IsCut, IsLaid, place_count}
+use Rattle.size_model.specs.Loads.{load_has_address, space_of, address_of, is_mapped, mapped_count}
+use Rattle.size_model.specs.Sizes.{label_of_offset, label_of_address, counts_for, file_size, vm_size, vm_size_in, with_rewriting}
+
+-- a labelling has one cut
+abbrev pub CutIsUnique : Type 0
+CutIsUnique = (labelling : ℕ → Option ℕ) (ps qs : List Piece) → IsCut labelling ps → IsCut labelling qs → ps ≡ qs
+
+-- the positions of each piece have the piece's label, and each position with a label lies in a piece that has it
+pub record HasLabels (labelling : ℕ → Option ℕ) (ps : List Piece) : Type 0 where
+  pub inside : (p : Piece) (x : ℕ) → Contains ps p → IsTrue (has p x) → labelling x ≡ Some p.label
+  pub covered : (x label : ℕ) → labelling x ≡ Some label → Any (λ (p : Piece). IsTrue (has p x) × (p.label ≡ label)) ps
+
+abbrev pub CutHasLabels : Type 0
+CutHasLabels = (labelling : ℕ → Option ℕ) (ps : List Piece) → IsCut labelling ps → HasLabels labelling ps
+
+-- where a range is added to tidy pieces, pieces begin or end at two more positions at most
+abbrev pub RangeAddsTwoPlaces : Type 0
+RangeAddsTwoPlaces = (old new : List Piece) (range : Piece) (n : ℕ) → IsTidy old → IsLaid (old ++ range ∷ []) new → place_count new n ≤ place_count old n + 2
+
+-- two paths of one length that count the same byte are one path
+abbrev pub EachByteCountsOnce : Type 0
+EachByteCountsOnce =
+    (filter : Option (List ℕ → Bool)) (path p q : List (List ℕ)) → length p ≡ length q → IsTrue (counts_for filter p path) → IsTrue (counts_for filter q path) → p ≡ q
+
+-- labels, none twice, with each label that has a size above 0 after a prefix
+pub record HasChildren (size : List (List ℕ) → ℕ) (prefix labels : List (List ℕ)) : Type 0 where
+  pub distinct : AllPairs (λ (a b : List ℕ). a ≢ b) labels
+  pub complete : (label : List ℕ) → 0 < size (prefix ++ label ∷ []) → Contains labels label
+
+-- the sizes of labels after a prefix, added up
+abbrev pub children_size : (List (List ℕ) → ℕ) → List (List ℕ) → List (List ℕ) → ℕ
+children_size size prefix labels = sum_by (λ (label : List ℕ). size (prefix ++ label ∷ [])) labels
+
+-- the paths of each file are longer than a prefix
+abbrev pub HaveLongerPaths : List FileView → List (List ℕ) → Type 0
+HaveLongerPaths files prefix = All (λ (f : FileView). length prefix < length f.sources) files
+
+-- the sizes of the children of a prefix add up to its own
+pub record ChildrenAddUp (filter : Option (List ℕ → Bool)) (files : List FileView) (prefix labels : List (List ℕ)) : Type 0 where
+  pub file : HasChildren (file_size filter files) prefix labels → children_size (file_size filter files) prefix labels ≡ file_size filter files prefix
+  pub vm : HasChildren (vm_size filter files) prefix labels → children_size (vm_size filter files) prefix labels ≡ vm_size filter files prefix
+
+abbrev pub SizesAddUp : Type 0
+SizesAddUp = (filter : Option (List ℕ → Bool)) (files : List FileView) (prefix labels : List (List ℕ)) → HaveLongerPaths files prefix → ChildrenAddUp filter files prefix labels
+
+-- without a filter the empty path counts each byte of the files and each mapped address
+pub record CountsAll (files : List FileView) : Type 0 where
+  pub file : file_size None files [] ≡ sum_by (λ (f : FileView). f.len) files
+  pub vm : vm_size None files [] ≡ sum_by (λ (f : FileView). mapped_count f.loads) files
+
+abbrev pub TotalsAreWhole : Type 0
+TotalsAreWhole = (files : List FileView) → CountsAll files
+
+-- a file with one more load, the last
+abbrev pub with_load : FileView → Load → FileView
+with_load f l = record f { loads = f.loads ++ l ∷ [] }
+
+-- each address that a load covers is mapped by others
+abbrev pub IsCovered : List Load → Load → Type 0
+IsCovered loads l = (p : ℕ) → IsTrue (load_has_address l (space_of p) (address_of p)) → IsTrue (is_mapped loads p)
+
+-- one more load maps the positions that were mapped, and the VM size of each path stays
+pub record SameMemory (f : FileView) (l : Load) : Type 0 where
+  pub mapped : (p : ℕ) → is_mapped (with_load f l).loads p ≡ is_mapped f.loads p
+  pub count : mapped_count (with_load f l).loads ≡ mapped_count f.loads
+  pub sizes : (filter : Option (List ℕ → Bool)) (prefix : List (List ℕ)) → vm_size_in filter prefix (with_load f l) ≡ vm_size_in filter prefix f
+
+abbrev pub TwiceCoveredCountsOnce : Type 0
+TwiceCoveredCountsOnce = (f : FileView) (l : Load) → IsCovered f.loads l → SameMemory f l
+
+-- where the labels of a data source are rewritten, so is the label of each byte
+pub record RewritesLabels (rewritten : List ℕ → List ℕ) (f : FileView) (s : SourceView) : Type 0 where
+  pub offset : (o : ℕ) → label_of_offset f o (with_rewriting rewritten s) ≡ rewritten (label_of_offset f o s)
+  pub address : (space x : ℕ) → label_of_address f space x (with_rewriting rewritten s) ≡ rewritten (label_of_address f space x s)
+
+abbrev pub RewritingIsByLabel : Type 0
+RewritingIsByLabel = (rewritten : List ℕ → List ℕ) (f : FileView) (s : SourceView) → RewritesLabels rewritten f s

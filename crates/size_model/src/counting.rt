@@ -1,0 +1,173 @@
+//! The plain program's paths and sizes: each offset and each mapped address is looked at.
+
+ghost use Rattle.std.specs.Prelude.{◌≡◌, ◌<◌, ◌&&◌, ℕ, not, Bool, List, Some, map, take, length, slice_get, option_map, IfOk};
+ghost use Rattle.std.specs.List.{list_any, starts_with};
+ghost use Rattle.std.specs.Str.{bytes_eq};
+ghost use Rattle.size_core.specs.declared.claim.Load.{Load};
+ghost use Rattle.size_model.specs.Loads.{mapped};
+ghost use Rattle.size_model.specs.Plain.{first_mapped_size};
+ghost use Rattle.size_model.specs.Sizes.{label_of_address, offset_path, passes, counts_for, file_size_in, vm_size_in};
+
+use crate::plain::{is_mapped_by_first, label_of_address, label_of_offset};
+use crate::view::FileView;
+use size_core::{NoMemory, Path};
+use std::alloc::Global;
+
+/// A test of labels, as a filter makes it.
+pub trait LabelTest {
+    /// Whether a label passes.
+    ghost holds: { Self → List ℕ → Bool };
+
+    /// Whether a label passes.
+    fn holds(&self, label: &[u8]) -> bool
+        ensures { result ≡ holds self.now label.now };
+}
+
+/// The path of an offset: its label in each data source, in order.
+pub fn offset_path(alloc: Global, file: &FileView, offset: u64) -> Result<Path, NoMemory>
+    ensures { IfOk result (λ path. path ≡ offset_path file.now offset) }
+{
+    let mut path = Path::new(alloc);
+    for i in 0..file.sources.len() {
+        path.push(label_of_offset(file, file.sources.get(i), offset).copy()?)?;
+    }
+    Ok(path)
+}
+
+/// The path of an address of a space.
+pub fn address_path(
+    alloc: Global,
+    file: &FileView,
+    space: u32,
+    address: u64,
+) -> Result<Path, NoMemory>
+    ensures { IfOk result (λ path. path ≡ map (label_of_address file.now space address) file.now.sources) }
+{
+    let mut path = Path::new(alloc);
+    for i in 0..file.sources.len() {
+        path.push(label_of_address(file, file.sources.get(i), space, address).copy()?)?;
+    }
+    Ok(path)
+}
+
+// Whether some label of a path passes a test.
+fn has_passing<T: LabelTest>(test: &T, path: &Path) -> bool
+    ensures { result ≡ list_any (T.holds test.now) path.now }
+{
+    for i in 0..path.len() {
+        if test.holds(path.get(i).as_slice()) {
+            return true;
+        }
+    }
+    false
+}
+
+/// Whether a path passes: there is no filter, or some label of the path passes its test.
+pub fn passes<T: LabelTest>(filter: Option<&T>, path: &Path) -> bool
+    ensures { result ≡ passes (option_map (λ t. T.holds t.now) filter.entry) path.now }
+{
+    match filter {
+        None => true,
+        Some(test) => has_passing(test, path),
+    }
+}
+
+// Whether a path begins with the labels of a prefix.
+fn begins_with(path: &Path, prefix: &Path) -> bool
+    ensures { result ≡ starts_with bytes_eq path.now prefix.now }
+{
+    if path.len() < prefix.len() {
+        return false;
+    }
+    for i in 0..prefix.len() {
+        if prefix.get(i).as_slice() != path.get(i).as_slice() {
+            return false;
+        }
+    }
+    true
+}
+
+/// Whether a path is counted for a prefix: it passes the filter and begins with the prefix.
+pub fn counts_for<T: LabelTest>(filter: Option<&T>, prefix: &Path, path: &Path) -> bool
+    ensures { result ≡ counts_for (option_map (λ t. T.holds t.now) filter.entry) prefix.now path.now }
+{
+    passes(filter, path) && begins_with(path, prefix)
+}
+
+/// How many offsets of a file are counted for a prefix.
+pub fn file_size_in<T: LabelTest>(
+    alloc: Global,
+    filter: Option<&T>,
+    prefix: &Path,
+    file: &FileView,
+) -> Result<u64, NoMemory>
+    ensures { IfOk result (λ n. n ≡ file_size_in (option_map (λ t. T.holds t.now) filter.entry) prefix.now file.now) }
+{
+    let mut size = 0;
+    for offset in 0..file.len {
+        let path = offset_path(alloc, file, offset)?;
+        size += counts_for(filter, prefix, &path) as u64;
+    }
+    Ok(size)
+}
+
+// Whether load i is the first to cover an address, whose path is counted for a prefix.
+fn counts_first<T: LabelTest>(
+    alloc: Global,
+    filter: Option<&T>,
+    prefix: &Path,
+    file: &FileView,
+    i: usize,
+    space: u32,
+    address: u64,
+) -> Result<bool, NoMemory>
+    requires { i < length file.now.loads }
+    ensures { IfOk result (λ counts. counts ≡ (not (mapped (take i file.now.loads) space address) && counts_for (option_map (λ t. T.holds t.now) filter.entry) prefix.now (map (label_of_address file.now space address) file.now.sources))) }
+{
+    if is_mapped_by_first(&file.loads, i, space, address) {
+        return Ok(false);
+    }
+    let path = address_path(alloc, file, space, address)?;
+    Ok(counts_for(filter, prefix, &path))
+}
+
+// How many addresses load i is the first to cover that are counted for a prefix. What of the load passes the
+// end of its space is no address.
+fn size_of_load<T: LabelTest>(
+    alloc: Global,
+    filter: Option<&T>,
+    prefix: &Path,
+    file: &FileView,
+    i: usize,
+) -> Result<u128, NoMemory>
+    requires { i < length file.now.loads }
+    ensures { IfOk result (λ n. (load : Load) → slice_get file.now.loads i ≡ Some load
+        → n ≡ first_mapped_size (counts_for (option_map (λ t. T.holds t.now) filter.entry) prefix.now) file.now (take i file.now.loads) load) }
+{
+    let load = file.loads.get(i);
+    let space = load.space;
+    let addresses = (load.memsz as u128).min((1 << 64) - load.vaddr as u128);
+    let mut size = 0u128;
+    for distance in 0..addresses {
+        let address = (load.vaddr as u128 + distance) as u64;
+        size += counts_first(alloc, filter, prefix, file, i, space, address)? as u128;
+    }
+    Ok(size)
+}
+
+/// How many mapped addresses of a file are counted for a prefix. Each is counted at the first load that
+/// covers it.
+pub fn vm_size_in<T: LabelTest>(
+    alloc: Global,
+    filter: Option<&T>,
+    prefix: &Path,
+    file: &FileView,
+) -> Result<u128, NoMemory>
+    ensures { IfOk result (λ n. n ≡ vm_size_in (option_map (λ t. T.holds t.now) filter.entry) prefix.now file.now) }
+{
+    let mut size = 0u128;
+    for i in 0..file.loads.len() {
+        size += size_of_load(alloc, filter, prefix, file, i)?;
+    }
+    Ok(size)
+}

@@ -1,0 +1,242 @@
+//! The plain program: labels and sizes by going through loads, claims, offsets and addresses one by one.
+//! It is slow, and says in code what each number means; what is faster is compared with it.
+
+ghost use Rattle.std.specs.Prelude.{◌≡◌, ◌≤◌, take, length};
+ghost use Rattle.size_model.specs.Claims.{span_has, address_in, offset_in, covers_offset, covers_address};
+ghost use Rattle.size_model.specs.Labels.{offset_label, address_label};
+ghost use Rattle.size_model.specs.Loads.{load_has_address, load_has_offset, load_len, mapped, addr, place_in, place};
+ghost use Rattle.size_model.specs.Sizes.{label_of_offset, label_of_address};
+
+use crate::view::{FileView, SourceView};
+use size_core::{Bytes, Claim, List, Load, Side, Span};
+
+// How many bytes of the file a load takes, the file's end aside.
+fn load_len(load: &Load) -> u64
+    ensures { result ≡ load_len load.now }
+{
+    load.filesz.min(load.memsz)
+}
+
+fn load_has_address(load: &Load, space: u32, address: u64) -> bool
+    ensures { result ≡ load_has_address load.now space address }
+{
+    load.space == space && load.vaddr <= address && address - load.vaddr < load.memsz
+}
+
+fn load_has_offset(len: u64, load: &Load, offset: u64) -> bool
+    ensures { result ≡ load_has_offset len load.now offset }
+{
+    load.offset <= offset && offset - load.offset < load_len(load) && offset < len
+}
+
+// The offset at which an address lies in a load.
+fn place_in(len: u64, load: &Load, address: u64) -> Option<u64>
+    ensures { result ≡ place_in len load.now address }
+{
+    let distance = address.saturating_sub(load.vaddr);
+    if distance < load_len(load) && load.offset as u128 + (distance as u128) < len as u128 {
+        Some(load.offset + distance)
+    } else {
+        None
+    }
+}
+
+// Whether one of the first `count` loads covers an address.
+pub(crate) fn is_mapped_by_first(loads: &List<Load>, count: usize, space: u32, address: u64) -> bool
+    requires { count ≤ length loads.now }
+    ensures { result ≡ mapped (take count loads.now) space address }
+{
+    for i in 0..count {
+        if load_has_address(loads.get(i), space, address) {
+            return true;
+        }
+    }
+    false
+}
+
+/// Whether an address of a space is mapped.
+pub fn mapped(loads: &List<Load>, space: u32, address: u64) -> bool
+    ensures { result ≡ mapped loads.now space address }
+{
+    is_mapped_by_first(loads, loads.len(), space, address)
+}
+
+/// The space and the address of an offset in a file of `len` bytes, by the first load that covers it. An
+/// address of a load that passes 2^64 may pass it too.
+pub fn addr(len: u64, loads: &List<Load>, offset: u64) -> Option<(u32, u128)>
+    ensures { result ≡ addr len loads.now offset }
+{
+    for i in 0..loads.len() {
+        let load = loads.get(i);
+        if load_has_offset(len, load, offset) {
+            return Some((
+                load.space,
+                load.vaddr as u128 + (offset - load.offset) as u128,
+            ));
+        }
+    }
+    None
+}
+
+/// The offset of an address of a space in a file of `len` bytes, by the first load that covers it.
+pub fn place(len: u64, loads: &List<Load>, space: u32, address: u64) -> Option<u64>
+    ensures { result ≡ place len loads.now space address }
+{
+    for i in 0..loads.len() {
+        let load = loads.get(i);
+        if load_has_address(load, space, address) {
+            return place_in(len, load, address);
+        }
+    }
+    None
+}
+
+fn span_has(span: &Span, x: u128) -> bool
+    ensures { result ≡ span_has span.now x }
+{
+    let start = span.start as u128;
+    start <= x && x < start + span.len as u128
+}
+
+fn address_in(span: &Span, address: Option<(u32, u128)>) -> bool
+    ensures { result ≡ address_in span.now address }
+{
+    match address {
+        None => false,
+        Some((space, x)) => span.space == space && span_has(span, x),
+    }
+}
+
+fn offset_in(span: &Span, offset: Option<u64>) -> bool
+    ensures { result ≡ offset_in span.now offset }
+{
+    match offset {
+        None => false,
+        Some(o) => span_has(span, o as u128),
+    }
+}
+
+fn covers_offset(
+    len: u64,
+    loads: &List<Load>,
+    side: Side,
+    vm: &Span,
+    file: &Span,
+    offset: u64,
+) -> bool
+    ensures { result ≡ covers_offset len loads.now side vm.now file.now offset }
+{
+    match side {
+        Side::Vm => address_in(vm, addr(len, loads, offset)),
+        Side::File | Side::Both => span_has(file, offset as u128),
+    }
+}
+
+fn covers_address(
+    len: u64,
+    loads: &List<Load>,
+    side: Side,
+    vm: &Span,
+    file: &Span,
+    space: u32,
+    address: u64,
+) -> bool
+    ensures { result ≡ covers_address len loads.now side vm.now file.now space address }
+{
+    match side {
+        Side::File => offset_in(file, place(len, loads, space, address)),
+        Side::Vm | Side::Both => address_in(vm, Some((space, address as u128))),
+    }
+}
+
+/// The label that a data source gives an offset: that of the first claim that covers it.
+pub fn label_of_offset<'a>(file: &FileView, source: &'a SourceView, offset: u64) -> &'a Bytes
+    ensures { result.now ≡ label_of_offset file.now offset source.now }
+{
+    for i in 0..source.claims.len() {
+        let claim = source.claims.get(i);
+        if covers_offset(
+            file.len,
+            &file.loads,
+            claim.side,
+            &claim.vm,
+            &claim.file,
+            offset,
+        ) {
+            return &claim.label;
+        }
+    }
+    &source.unmapped
+}
+
+/// The label that a data source gives an address of a space: that of the first claim that covers it.
+pub fn label_of_address<'a>(
+    file: &FileView,
+    source: &'a SourceView,
+    space: u32,
+    address: u64,
+) -> &'a Bytes
+    ensures { result.now ≡ label_of_address file.now space address source.now }
+{
+    for i in 0..source.claims.len() {
+        let claim = source.claims.get(i);
+        if covers_address(
+            file.len,
+            &file.loads,
+            claim.side,
+            &claim.vm,
+            &claim.file,
+            space,
+            address,
+        ) {
+            return &claim.label;
+        }
+    }
+    &source.unmapped
+}
+
+/// The number of an offset's label in a file of `len` bytes: that of the first claim that covers the offset,
+/// or `unmapped`.
+pub fn offset_label(
+    len: u64,
+    loads: &List<Load>,
+    unmapped: usize,
+    claims: &[Claim],
+    offset: u64,
+) -> usize
+    ensures { result ≡ offset_label len loads.now unmapped claims.now offset }
+{
+    for claim in claims {
+        if covers_offset(len, loads, claim.side, &claim.vm, &claim.file, offset) {
+            return claim.label;
+        }
+    }
+    unmapped
+}
+
+/// The number of an address's label: that of the first claim that covers the address, or `unmapped`.
+pub fn address_label(
+    len: u64,
+    loads: &List<Load>,
+    unmapped: usize,
+    claims: &[Claim],
+    space: u32,
+    address: u64,
+) -> usize
+    ensures { result ≡ address_label len loads.now unmapped claims.now space address }
+{
+    for claim in claims {
+        if covers_address(
+            len,
+            loads,
+            claim.side,
+            &claim.vm,
+            &claim.file,
+            space,
+            address,
+        ) {
+            return claim.label;
+        }
+    }
+    unmapped
+}

@@ -1,0 +1,9 @@
+//! Worked runs of the whole program over files that are made here, with the answers that a person computed.
+#![tactic(auto)]
+
+#[cfg(test)]
+mod first_command;
+#[cfg(test)]
+mod image;
+#[cfg(test)]
+mod runs;
