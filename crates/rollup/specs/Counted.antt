@@ -1,0 +1,35 @@
+-- What a walk through maps counts.
+use Rattle.std.specs.Prelude.{◌^◌, ℕ, Bool, ◌&&◌, is_some, List, [], ◌∷◌, map, Option}
+use Rattle.std.specs.List.{list_all}
+use Rattle.size_core.specs.declared.claim.Load.{Load}
+use Rattle.size_model.specs.declared.piece.Piece.{Piece}
+use Rattle.size_model.specs.Count.{count_from}
+use Rattle.size_model.specs.Cut.{label_in}
+use Rattle.size_model.specs.Loads.{is_mapped, mapped_count}
+use Rattle.dual_map.specs.Layout.{Maps}
+use Rattle.rollup.specs.Adding.{numbers_at, passes}
+
+-- each map has a label at a position
+abbrev pub is_covered : List (List Piece) → ℕ → Bool
+is_covered pss x = list_all (λ (ps : List Piece). is_some (label_in ps x)) pss
+
+-- the labels of a position pass, and a test holds of their numbers
+abbrev pub is_counted_at : (List ℕ → Bool) → Option (List Bool) → List (List Piece) → ℕ → Bool
+is_counted_at test marks pss x = is_covered pss x && (passes marks (numbers_at pss x) && test (numbers_at pss x))
+
+-- how many positions below a limit
+abbrev pub counted : (List ℕ → Bool) → Option (List Bool) → List (List Piece) → ℕ → ℕ
+counted test marks pss limit = count_from (is_counted_at test marks pss) 0 limit
+
+-- how many offsets and how many mapped positions have labels that pass, and of whose numbers a test holds
+abbrev pub file_counted : (List ℕ → Bool) → Option (List Bool) → List Maps → ℕ → ℕ
+file_counted test marks maps len = count_from (λ o. passes marks (numbers_at (map (λ (m : Maps). m.file) maps) o) && test (numbers_at (map (λ (m : Maps). m.file) maps) o)) 0 len
+
+abbrev pub vm_counted : (List ℕ → Bool) → Option (List Bool) → List Maps → List Load → ℕ
+vm_counted test marks maps loads =
+    count_from (λ p. is_mapped loads p && (passes marks (numbers_at (map (λ (m : Maps). m.vm) maps) p) && test (numbers_at (map (λ (m : Maps). m.vm) maps) p))) 0 (2 ^ 96)
+
+-- up to where positions are walked
+abbrev pub vm_limit : List Load → List Maps → ℕ
+vm_limit loads [] = mapped_count loads
+vm_limit loads (m ∷ ms) = 2 ^ 96

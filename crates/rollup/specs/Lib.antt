@@ -1,0 +1,6 @@
+pub mod Adding
+pub mod Counted
+pub mod Rows
+pub mod Sizes
+pub mod Totals
+pub mod Walk

@@ -1,0 +1,105 @@
+-- Sizes by the numbers of labels, as a walk gathers them.
+use Rattle.std.specs.Prelude.{◌≡◌, ◌+◌, ◌<◌, ℕ, Bool, true, false, ◌&&◌, nat_le, if◌then◌else◌, List, [], ◌∷◌, ◌++◌, map, All, length, slice_index_or, slice_set, ◌⊎◌, Option, Some, slice_get}
+use Rattle.std.specs.List.{list_all, sum_by}
+use Rattle.size_model.specs.Numbered.{text_of}
+use Rattle.rollup.specs.declared.cursor.Cursor.{Cursor}
+use Rattle.rollup.specs.declared.cursor.Part.{Part}
+use Rattle.rollup.specs.declared.cursor.Part.TheVariants.{File, Vm}
+use Rattle.rollup.specs.declared.sizes.Sizes.{Sizes}
+use Rattle.rollup.specs.declared.sizes.PathSizes.{PathSizes}
+use Rattle.rollup.specs.declared.table.RollupRow.{RollupRow}
+use Rattle.rollup.specs.Adding.{passes}
+
+-- numbers of labels, and how many positions of each kind have them
+pub record Entry : Type 0 where
+  pub numbers : List ℕ
+  pub vm : ℕ
+  pub file : ℕ
+
+abbrev pub no_entry : Entry
+no_entry = record { numbers = []; vm = 0; file = 0 }
+
+abbrev pub no_sizes : Sizes
+no_sizes = record { vm = 0; file = 0 }
+
+abbrev pub entry_of : List ℕ → Sizes → Entry
+entry_of numbers s = record { numbers = numbers; vm = s.vm; file = s.file }
+
+abbrev pub entries_from : List (List ℕ) → List Sizes → List Entry
+entries_from [] ss = []
+entries_from (n ∷ ns) [] = []
+entries_from (n ∷ ns) (s ∷ ss) = entry_of n s ∷ entries_from ns ss
+
+abbrev pub entries_of : PathSizes → List Entry
+entries_of g = entries_from g.paths g.sizes.items
+
+-- each list of numbers has its sizes
+abbrev pub IsTable : PathSizes → Type 0
+IsTable g = length g.sizes.items ≡ length g.paths
+
+-- one of the two sizes
+abbrev pub size_in : Part → Entry → ℕ
+size_in File e = e.file
+size_in Vm e = e.vm
+
+abbrev pub part_of : Part → Sizes → ℕ
+part_of File s = s.file
+part_of Vm s = s.vm
+
+abbrev pub other : Part → Part
+other File = Vm
+other Vm = File
+
+abbrev pub sizes_of : Part → ℕ → Sizes
+sizes_of File size = record { vm = 0; file = size }
+sizes_of Vm size = record { vm = size; file = 0 }
+
+abbrev pub grown_sizes : Part → ℕ → Sizes → Sizes
+grown_sizes File size s = record { vm = s.vm; file = s.file + size }
+grown_sizes Vm size s = record { vm = s.vm + size; file = s.file }
+
+abbrev pub grown : Part → ℕ → Entry → Entry
+grown File size e = record { numbers = e.numbers; vm = e.vm; file = e.file + size }
+grown Vm size e = record { numbers = e.numbers; vm = e.vm + size; file = e.file }
+
+-- the sizes of the entries of whose numbers a test holds, added up
+abbrev pub weight : Part → (List ℕ → Bool) → List Entry → ℕ
+weight part test es = sum_by (λ (e : Entry). if test e.numbers then size_in part e else 0) es
+
+-- the numbers were found at a place, or are new and stand last
+abbrev pub IsPlaced : List (List ℕ) → List (List ℕ) → List ℕ → ℕ → Type 0
+IsPlaced old new numbers i = ((new ≡ old) × (slice_get old i ≡ Some numbers)) ⊎ ((new ≡ old ++ numbers ∷ []) × (i ≡ length old))
+
+-- the entry of the numbers grew
+pub record IsGrownAt (part : Part) (numbers : List ℕ) (size : ℕ) (old new : List Entry) (i : ℕ) : Type 0 where
+  pub within : i < length old
+  pub there : (slice_index_or old i no_entry).numbers ≡ numbers
+  pub set : new ≡ slice_set old i (grown part size (slice_index_or old i no_entry))
+
+abbrev pub IsGrown : Part → List ℕ → ℕ → List Entry → List Entry → Type 0
+IsGrown part numbers size old new = ((i : ℕ) × IsGrownAt part numbers size old new i) ⊎ (new ≡ old ++ entry_of numbers (sizes_of part size) ∷ [])
+
+abbrev pub IsGrownIf : Bool → Part → List ℕ → ℕ → List Entry → List Entry → Type 0
+IsGrownIf true part numbers size old new = IsGrown part numbers size old new
+IsGrownIf false part numbers size old new = new ≡ old
+
+-- each map has a label at hand
+abbrev pub all_started : ℕ → List Cursor → Bool
+all_started at cs = list_all (λ (c : Cursor). nat_le c.start at) cs
+
+abbrev pub labels_of : List Cursor → List ℕ
+labels_of cs = map (λ (c : Cursor). c.label) cs
+
+-- whether what lies at a position counts
+abbrev pub is_counted : Option (List Bool) → ℕ → List Cursor → Bool
+is_counted marks at cs = all_started at cs && passes marks (labels_of cs)
+
+-- so many numbers, each below a limit, and a size that isn't 0
+pub record IsEntry (depth limit : ℕ) (e : Entry) : Type 0 where
+  pub deep : length e.numbers ≡ depth
+  pub below : All (λ n. n < limit) e.numbers
+  pub some : (0 < e.vm) ⊎ (0 < e.file)
+
+-- the row of an entry
+abbrev pub row_of : List (List ℕ) → Entry → RollupRow
+row_of pool e = record { path = map (text_of pool) e.numbers; vm = e.vm; file = e.file }

@@ -1,0 +1,92 @@
+//! Where a walk stands in one map.
+
+ghost use Rattle.std.specs.Prelude.{◌≡◌, ◌+◌, ◌^◌, ◌<◌, ◌≤◌, min, length};
+ghost use Rattle.size_model.specs.Cut.{IsTidy};
+ghost use Rattle.rollup.specs.Walk.{pieces_of, cursor_of, reads_of, stop_of, IsAt, IsReached};
+
+use dual_map::DualMap;
+use range_map::RangeMap;
+use size_core::Steps;
+use std::sync::ledger::Ledger;
+
+/// One of the two maps of a data source.
+#[derive(Clone, Copy, Debug)]
+pub enum Part {
+    File,
+    Vm,
+}
+
+impl Part {
+    /// This map of a data source.
+    pub fn map_of<'a>(self, maps: &'a DualMap) -> &'a RangeMap
+        ensures value { result.now ≡ pieces_of self maps.now }
+        ensures tidy { IsTidy result.now }
+    {
+        match self {
+            Part::File => maps.file_map(),
+            Part::Vm => maps.vm_map(),
+        }
+    }
+}
+
+/// How many pieces of a map a walk has passed, and the next one. Where there is none, the greatest number stands
+/// for its start and end.
+#[derive(Clone, Copy, Debug)]
+pub struct Cursor {
+    pub passed: usize,
+    pub start: u128,
+    pub end: u128,
+    pub label: usize,
+}
+
+impl Cursor {
+    /// Reads the piece behind so many.
+    pub fn read<L: Ledger>(map: &RangeMap, passed: usize, steps: &mut Steps<L>) -> Cursor
+        requires { passed ≤ length map.now }
+        ensures value { result ≡ cursor_of map.now passed }
+        ensures cost { steps.new + passed ≡ steps.old + min (length map.now) (passed + 1) }
+    {
+        if passed == map.len() {
+            return Cursor {
+                passed,
+                start: u128::MAX,
+                end: u128::MAX,
+                label: 0,
+            };
+        }
+        let piece = map.piece(passed, steps);
+        Cursor {
+            passed,
+            start: piece.start,
+            end: piece.start + piece.len,
+            label: piece.label,
+        }
+    }
+
+    /// The cursor at a place that it has come to: where the piece at hand ends there, the next one is read.
+    pub fn after<L: Ledger>(self, map: &RangeMap, to: u128, steps: &mut Steps<L>) -> Cursor
+        requires reached { IsReached map.now to self }
+        requires fits { to ≤ 2 ^ 97 }
+        ensures at { IsAt map.now to result }
+        ensures cost { steps.new + reads_of map.now self ≡ steps.old + reads_of map.now result }
+    {
+        if to < self.end {
+            return self;
+        }
+        if self.passed == map.len() {
+            return self;
+        }
+        Cursor::read(map, self.passed + 1, steps)
+    }
+
+    /// Where the label at hand changes next.
+    pub fn stop(&self, at: u128) -> u128
+        ensures { result ≡ stop_of at self.now }
+    {
+        if at < self.start {
+            self.start
+        } else {
+            self.end
+        }
+    }
+}

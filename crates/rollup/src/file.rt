@@ -1,0 +1,54 @@
+//! The sizes of one file.
+
+ghost use Rattle.std.specs.Prelude.{◌≡◌, ◌+◌, ◌<◌, ◌≤◌, ℕ, Bool, List, IfOk, All, length};
+ghost use Rattle.std.specs.Option.{option_copied};
+ghost use Rattle.dual_map.specs.Layout.{IsOver, LabelsBelow};
+ghost use Rattle.rollup.specs.Adding.{piece_count};
+ghost use Rattle.rollup.specs.Counted.{file_counted, vm_counted, vm_limit};
+ghost use Rattle.rollup.specs.Sizes.{IsEntry, IsTable, entries_of, weight};
+ghost use Rattle.rollup.specs.declared.cursor.Part.TheVariants.{File, Vm};
+
+use crate::cursor::Part;
+use crate::sizes::PathSizes;
+use crate::walk::walk;
+use dual_map::{Base, DualMap};
+use size_core::{NoMemory, Steps};
+use std::alloc::Global;
+use std::sync::ledger::Ledger;
+
+// Up to where positions are walked. Without maps nothing tells mapped positions from others, and their number is
+// what counts.
+fn last_position(base: &Base, maps: &[DualMap]) -> u128
+    ensures { result ≡ vm_limit base.now.loads maps.now }
+{
+    if maps.is_empty() {
+        base.mapped_size()
+    } else {
+        1 << 96
+    }
+}
+
+/// How many offsets and how many mapped positions have the same labels, where the filter passes them.
+pub fn sizes_of_file<L: Ledger>(
+    alloc: Global,
+    base: &Base,
+    file_len: u64,
+    maps: &[DualMap],
+    marks: Option<&[bool]>,
+    steps: &mut Steps<L>,
+) -> Result<PathSizes, NoMemory>
+    requires len { base.now.len ≡ file_len }
+    requires over { All (IsOver base.now) maps.now }
+    ensures table { IfOk result IsTable }
+    ensures file { IfOk result (λ sizes. (test : List ℕ → Bool) → weight File test (entries_of sizes) ≡ file_counted test (option_copied marks.entry) maps.now file_len) }
+    ensures vm { IfOk result (λ sizes. (test : List ℕ → Bool) → weight Vm test (entries_of sizes) ≡ vm_counted test (option_copied marks.entry) maps.now base.now.loads) }
+    ensures entries { IfOk result (λ sizes. (n : ℕ) → All (LabelsBelow n) maps.now → All (IsEntry (length maps.now) n) (entries_of sizes)) }
+    ensures cost { steps.new ≤ steps.old + piece_count maps.now }
+{
+    let mut sizes = PathSizes::new(alloc);
+    let len = u128::from(file_len);
+    walk(alloc, &mut sizes, maps, Part::File, len, marks, steps)?;
+    let last = last_position(base, maps);
+    walk(alloc, &mut sizes, maps, Part::Vm, last, marks, steps)?;
+    Ok(sizes)
+}

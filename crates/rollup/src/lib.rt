@@ -1,0 +1,16 @@
+//! Sizes per path of labels, added up file by file.
+#![tactic(auto)]
+
+mod answer;
+mod cursor;
+mod file;
+mod merge;
+mod sizes;
+mod table;
+mod walk;
+
+pub use answer::RollupAnswer;
+pub use table::{Rollup, RollupRow};
+
+#[cfg(test)]
+mod tests;

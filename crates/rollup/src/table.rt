@@ -1,0 +1,146 @@
+//! Paths with their sizes.
+
+ghost use Rattle.std.specs.Prelude.{◌≡◌, ◌+◌, ◌-◌, ◌^◌, ◌<◌, ◌≤◌, ◌↔◌, ℕ, Bool, List, [], All, OnOk, OnErr, length, slice_get};
+ghost use Rattle.std.specs.Option.{option_copied, ForSome};
+ghost use Rattle.std.specs.Result.{IsErrOf};
+ghost use Rattle.size_model.specs.Loads.{mapped_count};
+ghost use Rattle.dual_map.specs.Layout.{IsOver, LabelsBelow};
+ghost use Rattle.rollup.specs.Totals.{IsTotals};
+ghost use Rattle.rollup.specs.Adding.{file_count, vm_count, file_where, vm_where, piece_count};
+
+use crate::answer::RollupAnswer;
+use crate::file::sizes_of_file;
+use crate::merge::new_rows;
+use dual_map::{Base, DualMap};
+use size_core::{LabelPool, Path, Steps};
+use std::alloc::Global;
+use std::marker::Model;
+use std::sync::ledger::Ledger;
+
+/// A path of labels, one for each data source asked, and how many mapped addresses and file bytes have it.
+#[derive(Debug, Drop)]
+pub struct RollupRow {
+    pub path: Path,
+    pub vm: u64,
+    pub file: u64,
+}
+
+/// The sizes of the paths of the files that were added so far. Contracts see the rows, ascending by path, each
+/// path once, and beside them the lengths and the mapped sizes of the files, whether a filter passed them or
+/// not.
+#[derive(Debug, Drop)]
+pub struct Rollup {
+    alloc: Global,
+    depth: u32,
+    rows: Vec<RollupRow>,
+    lengths: u64,
+    mapped: u64,
+}
+
+impl Model for Rollup {
+    ghost use Rattle.rollup.specs.Totals.{Totals, IsTotals};
+
+    ghost Value = { Totals };
+
+    ghost view = { λ r. record { depth = r.depth; rows = r.rows.items; lengths = r.lengths; mapped = r.mapped } };
+
+    ghost invariant = { λ r. IsTotals r.depth r.rows.items r.lengths r.mapped };
+}
+
+// The most that the lengths of all files, or their mapped sizes, add up to.
+const MOST: u128 = (1 << 63) - 1;
+
+impl Rollup {
+    /// A rollup for paths of `depth` labels, to which no file was added.
+    pub fn new(alloc: Global, depth: u32) -> Rollup
+        ensures { result ≡ record { depth = depth; rows = []; lengths = 0; mapped = 0 } }
+    {
+        Rollup {
+            alloc,
+            depth,
+            rows: Vec::new(alloc),
+            lengths: 0,
+            mapped: 0,
+        }
+    }
+
+    /// How many labels each path has.
+    pub fn depth(&self) -> u32
+        ensures { result ≡ self.now.depth }
+    {
+        self.depth
+    }
+
+    /// How many paths there are, and what is known of every rollup.
+    pub fn len(&self) -> usize
+        ensures count { result ≡ length self.now.rows }
+        ensures totals { IsTotals self.now.depth self.now.rows self.now.lengths self.now.mapped }
+    {
+        self.rows.len()
+    }
+
+    /// The row of a number, from 0 on.
+    pub fn row(&self, i: usize) -> &RollupRow
+        requires { i < length self.now.rows }
+        ensures { slice_get self.now.rows i ≡ Some result.now }
+    {
+        &self.rows[i]
+    }
+
+    /// Adds the sizes of a file of `file_len` bytes: to each path the number of offsets, and of mapped addresses,
+    /// at which the labels of `maps`, one pair of maps for each data source, spell it. The numbers of the labels
+    /// are those of `pool`. With `passes`, which has a truth for each label, a byte counts where one of its labels
+    /// is marked true.
+    ///
+    /// # Errors
+    ///
+    /// `TooManyBytes` where the lengths of all files added pass 2^63 - 1, and `MappedTooLarge` where they don't
+    /// and the mapped sizes do. After a refusal the rollup is as it was.
+    pub fn add_file<L: Ledger>(
+        &mut self,
+        base: &Base,
+        file_len: u64,
+        maps: &[DualMap],
+        pool: &LabelPool,
+        passes: Option<&[bool]>,
+        steps: &mut Steps<L>,
+    ) -> Result<(), RollupAnswer>
+        requires len { base.now.len ≡ file_len }
+        requires depth { length maps.now ≡ self.old.depth }
+        requires over { All (IsOver base.now) maps.now }
+        requires labels { All (LabelsBelow (length pool.now)) maps.now }
+        requires passes { ForSome (option_copied passes) (λ marks. length marks ≡ length pool.now) }
+
+        // To the rows of whose path a test holds, as that it is one path or begins with one, the positions are
+        // added at which the labels count and spell such a path.
+        ensures file { OnOk result ((test : List (List ℕ) → Bool) → file_where test self.new.rows ≡ file_where test self.old.rows + file_count test pool.now (option_copied passes.entry) maps.now file_len) }
+        ensures vm { OnOk result ((test : List (List ℕ) → Bool) → vm_where test self.new.rows ≡ vm_where test self.old.rows + vm_count test pool.now (option_copied passes.entry) maps.now base.now.loads) }
+
+        // What was added, filtered or not.
+        ensures depth { self.new.depth ≡ self.old.depth }
+        ensures lengths { OnOk result (self.new.lengths ≡ self.old.lengths + file_len) }
+        ensures mapped { OnOk result (self.new.mapped ≡ self.old.mapped + mapped_count base.now.loads) }
+
+        // Refusals.
+        ensures too_many_bytes { IsErrOf result RollupAnswer.TooManyBytes ↔ (2 ^ 63 - 1 < self.old.lengths + file_len) }
+        ensures mapped_too_large { IsErrOf result RollupAnswer.MappedTooLarge ↔ ((self.old.lengths + file_len ≤ 2 ^ 63 - 1) × (2 ^ 63 - 1 < self.old.mapped + mapped_count base.now.loads)) }
+        ensures unchanged { OnErr result (self.new ≡ self.old) }
+
+        // Each piece is read once at most.
+        ensures cost { steps.new ≤ steps.old + piece_count maps.now }
+    {
+        let lengths = u128::from(self.lengths) + u128::from(file_len);
+        if lengths > MOST {
+            return Err(RollupAnswer::TooManyBytes);
+        }
+        let mapped = u128::from(self.mapped) + base.mapped_size();
+        if mapped > MOST {
+            return Err(RollupAnswer::MappedTooLarge);
+        }
+        let sizes = sizes_of_file(self.alloc, base, file_len, maps, passes, steps)?;
+        self.rows = new_rows(self.alloc, self.rows.as_slice(), pool, &sizes)?;
+        self.lengths = lengths as u64;
+        self.mapped = mapped as u64;
+        Ok(())
+    }
+}

@@ -1,0 +1,164 @@
+//! The walk through the maps of all data sources side by side.
+
+ghost use Rattle.std.specs.Prelude.{false, ◌≡◌, ◌+◌, ◌-◌, ◌^◌, ◌<◌, ◌≤◌, ℕ, Bool, List, IfOk, OnOk, IsTrue, All, length, slice_index_or};
+ghost use Rattle.std.specs.List.{list_any};
+ghost use Rattle.std.specs.Option.{option_copied};
+ghost use Rattle.dual_map.specs.Layout.{LabelsBelow};
+ghost use Rattle.rollup.specs.Adding.{passes};
+ghost use Rattle.rollup.specs.Walk.{Each, IsAt, IsReached, layers, reads, piece_total, stop_of, no_cursor};
+ghost use Rattle.rollup.specs.Sizes.{IsTable, IsGrownIf, IsEntry, entries_of, all_started, labels_of, is_counted, no_entry, size_in, weight, other};
+ghost use Rattle.rollup.specs.Counted.{counted};
+
+use crate::cursor::{Cursor, Part};
+use crate::sizes::PathSizes;
+use dual_map::DualMap;
+use size_core::{NoMemory, Steps};
+use std::alloc::{AllocError, Global};
+use std::sync::ledger::Ledger;
+
+// The first piece of each map.
+fn first_pieces<L: Ledger>(
+    alloc: Global,
+    maps: &[DualMap],
+    part: Part,
+    steps: &mut Steps<L>,
+) -> Result<Vec<Cursor>, AllocError>
+    ensures at { IfOk result (λ v. Each (λ ps c. IsAt ps 0 c) (layers part maps.now) v.items) }
+    ensures cost { IfOk result (λ v. steps.new ≡ steps.old + reads (layers part maps.now) v.items) }
+    ensures bound { steps.new ≤ steps.old + piece_total (layers part maps.now) }
+{
+    let mut cursors = Vec::new(alloc);
+    for map in maps {
+        let cursor = Cursor::read(part.map_of(map), 0, steps);
+        cursors.push(cursor)?;
+    }
+    Ok(cursors)
+}
+
+// The least place at which a label changes, or the limit.
+fn next_stop(cursors: &[Cursor], at: u128, limit: u128) -> u128
+    requires limit { at < limit }
+    requires ahead { (i : ℕ) → i < length cursors.now → at < (slice_index_or cursors.now i no_cursor).end }
+    ensures ahead { at < result }
+    ensures limit { result ≤ limit }
+    ensures least { (i : ℕ) → i < length cursors.now → result ≤ stop_of at (slice_index_or cursors.now i no_cursor) }
+{
+    let mut to = limit;
+    for cursor in cursors {
+        to = to.min(cursor.stop(at));
+    }
+    to
+}
+
+// The numbers of the labels at hand, unless a map has none there.
+fn labels_at(cursors: &[Cursor], at: u128, numbers: &mut Vec<usize>) -> Result<bool, AllocError>
+    ensures all { IfOk result (λ all. all ≡ all_started at cursors.now) }
+    ensures numbers { IfOk result (λ all. IsTrue all → numbers.new.items ≡ labels_of cursors.now) }
+{
+    numbers.clear();
+    for cursor in cursors {
+        if at < cursor.start {
+            return Ok(false);
+        }
+        numbers.push(cursor.label)?;
+    }
+    Ok(true)
+}
+
+// Whether a label is marked true.
+fn is_marked(marks: &[bool], number: usize) -> bool
+    ensures { result ≡ slice_index_or marks.now number false }
+{
+    marks.get(number).copied().unwrap_or(false)
+}
+
+fn any_is_marked(marks: &[bool], numbers: &[usize]) -> bool
+    ensures { result ≡ list_any (λ n. slice_index_or marks.now n false) numbers.now }
+{
+    numbers.iter().any(|n| is_marked(marks, *n))
+}
+
+// Whether the filter passes one of the labels.
+fn pass(marks: Option<&[bool]>, numbers: &[usize]) -> bool
+    ensures { result ≡ passes (option_copied marks.entry) numbers.now }
+{
+    match marks {
+        None => true,
+        Some(marks) => any_is_marked(marks, numbers),
+    }
+}
+
+// Counts the positions from one place to another, which have the labels at hand.
+fn count(
+    sizes: &mut PathSizes,
+    cursors: &[Cursor],
+    part: Part,
+    marks: Option<&[bool]>,
+    at: u128,
+    to: u128,
+    numbers: &mut Vec<usize>,
+) -> Result<(), NoMemory>
+    requires table { IsTable sizes.old }
+    requires order { at ≤ to }
+    requires fits { (i : ℕ) → size_in part (slice_index_or (entries_of sizes.old) i no_entry) + (to - at) < 2 ^ 128 }
+    ensures table { OnOk result (IsTable sizes.new) }
+    ensures grown { OnOk result (IsGrownIf (is_counted (option_copied marks.entry) at cursors.now) part (labels_of cursors.now) (to - at) (entries_of sizes.old) (entries_of sizes.new)) }
+{
+    if !labels_at(cursors, at, numbers)? {
+        return Ok(());
+    }
+    if !pass(marks, numbers.as_slice()) {
+        return Ok(());
+    }
+    sizes.add(part, numbers.as_slice(), to - at)
+}
+
+// Goes on to a place: reads the next piece of each map whose piece at hand ends there.
+fn advance<L: Ledger>(
+    cursors: &mut [Cursor],
+    maps: &[DualMap],
+    part: Part,
+    to: u128,
+    steps: &mut Steps<L>,
+)
+    requires reached { Each (λ ps c. IsReached ps to c) (layers part maps.now) cursors.old }
+    requires fits { to ≤ 2 ^ 97 }
+    ensures at { Each (λ ps c. IsAt ps to c) (layers part maps.now) cursors.new }
+    ensures cost { steps.new + reads (layers part maps.now) cursors.old ≡ steps.old + reads (layers part maps.now) cursors.new }
+{
+    for i in 0..maps.len() {
+        cursors[i] = cursors[i].after(part.map_of(&maps[i]), to, steps);
+    }
+}
+
+/// Counts the positions below a limit at which each map has a label and the filter passes, by the numbers of the
+/// labels. Without maps these are all positions below it.
+pub fn walk<L: Ledger>(
+    alloc: Global,
+    sizes: &mut PathSizes,
+    maps: &[DualMap],
+    part: Part,
+    limit: u128,
+    marks: Option<&[bool]>,
+    steps: &mut Steps<L>,
+) -> Result<(), NoMemory>
+    requires table { IsTable sizes.old }
+    requires none { (test : List ℕ → Bool) → weight part test (entries_of sizes.old) ≡ 0 }
+    requires fits { limit ≤ 2 ^ 97 }
+    ensures table { OnOk result (IsTable sizes.new) }
+    ensures counted { OnOk result ((test : List ℕ → Bool) → weight part test (entries_of sizes.new) ≡ counted test (option_copied marks.entry) (layers part maps.now) limit) }
+    ensures other { OnOk result ((test : List ℕ → Bool) → weight (other part) test (entries_of sizes.new) ≡ weight (other part) test (entries_of sizes.old)) }
+    ensures entries { OnOk result ((n : ℕ) → All (LabelsBelow n) maps.now → All (IsEntry (length maps.now) n) (entries_of sizes.old) → All (IsEntry (length maps.now) n) (entries_of sizes.new)) }
+    ensures cost { steps.new ≤ steps.old + piece_total (layers part maps.now) }
+{
+    let mut cursors = first_pieces(alloc, maps, part, steps)?;
+    let mut numbers = Vec::new(alloc);
+    let mut at = 0;
+    while at < limit {
+        let to = next_stop(cursors.as_slice(), at, limit);
+        count(sizes, cursors.as_slice(), part, marks, at, to, &mut numbers)?;
+        advance(cursors.as_mut_slice(), maps, part, to, steps);
+        at = to;
+    }
+    Ok(())
+}
