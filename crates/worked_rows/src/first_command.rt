@@ -1,6 +1,6 @@
 //! `--csv -n 0 -d sections --domain=file FILE`.
 
-use crate::image::{PLAIN, Plain, many_sections, plain_file, thread_local};
+use crate::image::{many_sections, patched, plain_file, thread_local};
 use crate::runs::{COMMAND, run, sound};
 use bloaty_engine::{Outcome, UsageKind};
 use size_core::{Fault, Limits, NoMemory};
@@ -14,8 +14,8 @@ const REPORT: &[u8; 120] =
 #[test]
 fn counts_the_plain_file(rt: HostRuntime) -> Result<(), Fail> {
     let alloc = rt.alloc();
-    let file = plain_file(alloc, PLAIN)?;
-    let ran = run(alloc, &COMMAND, file.bytes(), sound(alloc))?;
+    let file = plain_file(alloc)?;
+    let ran = run(alloc, &COMMAND, &file, sound(alloc))?;
     assert_eq!(rt; ran.outcome, Outcome::Done);
     assert!(rt; ran.out.as_slice() == REPORT.as_slice());
     assert!(rt; ran.err.is_empty());
@@ -26,13 +26,13 @@ fn counts_the_plain_file(rt: HostRuntime) -> Result<(), Fail> {
 fn counts_other_files(rt: HostRuntime) -> Result<(), Fail> {
     let alloc = rt.alloc();
     let file = thread_local(alloc)?;
-    let ran = run(alloc, &COMMAND, file.bytes(), sound(alloc))?;
+    let ran = run(alloc, &COMMAND, &file, sound(alloc))?;
     assert!(rt;
         ran.out.as_slice()
             == b"sections,filesize\n[ELF Section Headers],256\n[ELF Header],64\n[ELF Program Headers],56\n.shstrtab,29\n.init_array,8\n[Unmapped],3\n".as_slice()
     );
     let file = many_sections(alloc)?;
-    let ran = run(alloc, &COMMAND, file.bytes(), sound(alloc))?;
+    let ran = run(alloc, &COMMAND, &file, sound(alloc))?;
     assert!(rt;
         ran.out
             .starts_with(b"sections,filesize\n[ELF Section Headers],4177920\n")
@@ -43,14 +43,14 @@ fn counts_other_files(rt: HostRuntime) -> Result<(), Fail> {
 #[test]
 fn finds_the_first_fault(rt: HostRuntime) -> Result<(), Fail> {
     let alloc = rt.alloc();
-    let whole = plain_file(alloc, PLAIN)?;
+    let whole = plain_file(alloc)?;
     for n in 0..352usize {
         let (fault, offset) = match n {
             0..4 => (Fault::UnknownFormat, 0),
             4..64 => (Fault::Truncated, 0),
             _ => (Fault::TablePastEnd, 160),
         };
-        let cut = whole.bytes().get(..n).unwrap_or(b"");
+        let cut = whole.get(..n).unwrap_or(b"");
         let ran = run(alloc, &COMMAND, cut, sound(alloc))?;
         let want = Outcome::Bad {
             file: 1,
@@ -66,29 +66,35 @@ fn finds_the_first_fault(rt: HostRuntime) -> Result<(), Fail> {
 #[test]
 fn minds_the_numbers_of_tables(rt: HostRuntime) -> Result<(), Fail> {
     let alloc = rt.alloc();
+    // Where a program header has its address and its size in memory, and the file's header the place of the
+    // table of sections and the number of that of the names.
+    const VADDR: usize = 64 + 16;
+    const MEMSZ: usize = 64 + 40;
+    const SHOFF: usize = 40;
+    const SHSTRNDX: usize = 62;
     let top = u64::MAX - 4095;
-    for (variant, fault, offset) in [
+    let moved = patched(plain_file(alloc)?, VADDR, &top.to_le_bytes());
+    let whole = patched(moved.to_vec(alloc)?, MEMSZ, &4096u64.to_le_bytes());
+    let ran = run(alloc, &COMMAND, &whole, sound(alloc))?;
+    assert_eq!(rt; ran.outcome, Outcome::Done);
+    for (file, fault, offset) in [
         (
-            Plain {
-                vaddr: top,
-                memsz: 4097,
-                ..PLAIN
-            },
+            patched(moved, MEMSZ, &4097u64.to_le_bytes()),
             Fault::RangeOverflow,
             64,
         ),
-        (Plain { names: 3, ..PLAIN }, Fault::BadIndex, 62),
         (
-            Plain {
-                shoff: 1 << 63,
-                ..PLAIN
-            },
+            patched(plain_file(alloc)?, SHSTRNDX, &[3]),
+            Fault::BadIndex,
+            62,
+        ),
+        (
+            patched(plain_file(alloc)?, SHOFF, &(1u64 << 63).to_le_bytes()),
             Fault::TablePastEnd,
             1 << 63,
         ),
     ] {
-        let file = plain_file(alloc, variant)?;
-        let ran = run(alloc, &COMMAND, file.bytes(), sound(alloc))?;
+        let ran = run(alloc, &COMMAND, &file, sound(alloc))?;
         assert_eq!(rt;
             ran.outcome,
             Outcome::Bad {
@@ -98,16 +104,6 @@ fn minds_the_numbers_of_tables(rt: HostRuntime) -> Result<(), Fail> {
             }
         );
     }
-    let file = plain_file(
-        alloc,
-        Plain {
-            vaddr: top,
-            memsz: 4096,
-            ..PLAIN
-        },
-    )?;
-    let ran = run(alloc, &COMMAND, file.bytes(), sound(alloc))?;
-    assert_eq!(rt; ran.outcome, Outcome::Done);
     Ok(())
 }
 
@@ -168,17 +164,17 @@ fn takes_the_seven_words_alone(rt: HostRuntime) -> Result<(), Fail> {
 #[test]
 fn stops_at_a_failed_device(rt: HostRuntime) -> Result<(), Fail> {
     let alloc = rt.alloc();
-    let file = plain_file(alloc, PLAIN)?;
+    let file = plain_file(alloc)?;
     let mut devices = sound(alloc);
     devices.take = 100;
     devices.failing_writes.push(2)?;
-    let ran = run(alloc, &COMMAND, file.bytes(), devices)?;
+    let ran = run(alloc, &COMMAND, &file, devices)?;
     assert_eq!(rt; ran.outcome, Outcome::WriteFailed);
     assert_eq!(rt; ran.outcome.status(), 4);
     assert_eq!(rt; Some(ran.out.as_slice()), REPORT.get(..100));
     let mut devices = sound(alloc);
     devices.failing_reads.push(1)?;
-    let ran = run(alloc, &COMMAND, file.bytes(), devices)?;
+    let ran = run(alloc, &COMMAND, &file, devices)?;
     assert_eq!(rt; ran.outcome, Outcome::ReadFailed(1));
     assert_eq!(rt; ran.outcome.status(), 3);
     assert!(rt; ran.err.as_slice() == b"bloaty: a.elf: cannot be read\n".as_slice());
@@ -186,14 +182,14 @@ fn stops_at_a_failed_device(rt: HostRuntime) -> Result<(), Fail> {
         let mut devices = sound(alloc);
         devices.take = 1;
         devices.failing_writes.push(k)?;
-        let ran = run(alloc, &COMMAND, file.bytes(), devices)?;
+        let ran = run(alloc, &COMMAND, &file, devices)?;
         assert_eq!(rt; ran.outcome, Outcome::WriteFailed);
         assert_eq!(rt; ran.out.len() as u64, k - 1);
     }
     let mut devices = sound(alloc);
     devices.take = 1;
     devices.failing_writes.push(121)?;
-    let ran = run(alloc, &COMMAND, file.bytes(), devices)?;
+    let ran = run(alloc, &COMMAND, &file, devices)?;
     assert_eq!(rt; ran.outcome, Outcome::Done);
     Ok(())
 }
@@ -201,7 +197,7 @@ fn stops_at_a_failed_device(rt: HostRuntime) -> Result<(), Fail> {
 #[test]
 fn keeps_to_its_limits(rt: HostRuntime) -> Result<(), Fail> {
     let alloc = rt.alloc();
-    let file = plain_file(alloc, PLAIN)?;
+    let file = plain_file(alloc)?;
     for (limits, want) in [
         (
             Limits {
@@ -235,7 +231,7 @@ fn keeps_to_its_limits(rt: HostRuntime) -> Result<(), Fail> {
     ] {
         let mut devices = sound(alloc);
         devices.limits = limits;
-        let ran = run(alloc, &COMMAND, file.bytes(), devices)?;
+        let ran = run(alloc, &COMMAND, &file, devices)?;
         assert_eq!(rt; ran.outcome, want);
     }
     Ok(())

@@ -7,3 +7,7 @@ mod first_command;
 mod image;
 #[cfg(test)]
 mod runs;
+#[cfg(test)]
+mod sizes;
+#[cfg(test)]
+mod sources;
