@@ -108,3 +108,20 @@ fn files_in_memory_hold_their_pairs(rt: HostRuntime) -> Result<(), Fail> {
     assert_eq!(rt; files.read(alloc, "a", 3).err(), Some(FileAnswer::Failed));
     Ok(())
 }
+
+#[test]
+fn a_listed_call_fails_for_its_file_alone(rt: HostRuntime) -> Result<(), Fail> {
+    let alloc = rt.alloc();
+    for failing in [1, 2] {
+        let mut files = MemFiles::new(pairs_in(alloc)?, vec![in alloc; failing]?);
+        for (call, name) in [(1, "a"), (2, "b")] {
+            let answer = files.read(alloc, name, 9);
+            if call == failing {
+                assert_eq!(rt; answer.err(), Some(FileAnswer::Failed));
+            } else {
+                assert!(rt; answer.is_ok(), "call {call} where call {failing} fails");
+            }
+        }
+    }
+    Ok(())
+}

@@ -6,6 +6,10 @@ mod first_command;
 #[cfg(test)]
 mod image;
 #[cfg(test)]
+mod made_file;
+#[cfg(test)]
+mod report_table;
+#[cfg(test)]
 mod runs;
 #[cfg(test)]
 mod sizes;

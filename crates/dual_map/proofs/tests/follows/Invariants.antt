@@ -5,3 +5,6 @@ ghosts-agrees g a = record { name = a.blank.name; parts = a.blank.parts }
 
 abbrev pub ghosts-label_at : goal.ghosts-label_at
 ghosts-label_at g a = record { name = a.blank.name; parts = a.blank.parts }
+
+abbrev pub ghosts-size_of : goal.ghosts-size_of
+ghosts-size_of g a = record { name = a.blank.name; parts = a.blank.parts }

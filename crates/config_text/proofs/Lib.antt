@@ -1,0 +1,4 @@
+pub mod TokenLemmas
+pub mod ReadLemmas
+pub mod ValueLemmas
+pub mod SourceLemmas

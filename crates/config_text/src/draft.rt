@@ -1,0 +1,88 @@
+//! What was read so far of a source and of a rewrite.
+
+ghost use Rattle.std.specs.Prelude.{◌≡◌};
+ghost use Rattle.config_text.specs.Grammar.{source_made, rewrite_made, no_source, no_rewrite};
+ghost use Rattle.config_text.specs.Outcomes.{Gives};
+
+use crate::config::{ConfigAnswer, ConfigKind, CustomSource, Rewrite, RewriteList};
+use size_core::{Bytes, Source, Text};
+use std::alloc::Global;
+
+/// The fields of a source that were read so far.
+#[derive(Drop)]
+pub(crate) struct SourceParts {
+    pub(crate) name: Option<Text>,
+    pub(crate) base: Option<Source>,
+    pub(crate) rewrites: RewriteList,
+}
+
+/// The fields of a rewrite that were read so far.
+#[derive(Drop)]
+pub(crate) struct RewriteParts {
+    pub(crate) pattern: Option<Text>,
+    pub(crate) replacement: Option<Bytes>,
+}
+
+/// A field is missing where the brace at this offset closes its block.
+fn missing(at: usize) -> ConfigAnswer
+    ensures { result ≡ ConfigAnswer.Bad ConfigKind.MissingField at }
+{
+    ConfigAnswer::Bad(ConfigKind::MissingField, at as u64)
+}
+
+/// No field of a source.
+pub(crate) fn no_source(alloc: Global) -> SourceParts
+    ensures { result ≡ no_source }
+{
+    SourceParts {
+        name: None,
+        base: None,
+        rewrites: RewriteList::new(alloc),
+    }
+}
+
+/// No field of a rewrite.
+pub(crate) fn no_rewrite() -> RewriteParts
+    ensures { result ≡ no_rewrite }
+{
+    RewriteParts {
+        pattern: None,
+        replacement: None,
+    }
+}
+
+/// The source that the brace at this offset closes.
+pub(crate) fn close_source(parts: SourceParts, at: usize) -> Result<CustomSource, ConfigAnswer>
+    ensures { Gives (λ s. s) result (source_made at parts.name parts.base parts.rewrites) }
+{
+    let SourceParts {
+        name,
+        base,
+        rewrites,
+    } = parts;
+    match (name, base) {
+        (Some(name), Some(base)) => Ok(CustomSource {
+            name,
+            base,
+            rewrites,
+        }),
+        _ => Err(missing(at)),
+    }
+}
+
+/// The rewrite that the brace at this offset closes.
+pub(crate) fn close_rewrite(parts: RewriteParts, at: usize) -> Result<Rewrite, ConfigAnswer>
+    ensures { Gives (λ r. r) result (rewrite_made at parts.pattern parts.replacement) }
+{
+    let RewriteParts {
+        pattern,
+        replacement,
+    } = parts;
+    match (pattern, replacement) {
+        (Some(pattern), Some(replacement)) => Ok(Rewrite {
+            pattern,
+            replacement,
+        }),
+        _ => Err(missing(at)),
+    }
+}

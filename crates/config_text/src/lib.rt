@@ -1,0 +1,15 @@
+//! The configuration: custom data sources and their rewrites, in a profile of the text format of protocol
+//! messages (Protocol Buffers, Text Format Language Specification).
+#![tactic(auto)]
+
+mod config;
+mod draft;
+mod parser;
+mod reader;
+mod values;
+
+pub use config::{ConfigAnswer, ConfigKind, CustomSource, Rewrite, RewriteList};
+pub use parser::parse;
+
+#[cfg(test)]
+mod tests;

@@ -1,0 +1,210 @@
+//! The grammar of a configuration.
+
+ghost use Rattle.std.specs.Prelude.{◌≡◌, ◌≤◌, ◌∷◌, ◌++◌, [], ℕ, List, length, IfOk, OnOk};
+ghost use Rattle.config_text.specs.declared.config.CustomSource.{CustomSource as Source};
+ghost use Rattle.config_text.specs.Tokens.{ahead};
+ghost use Rattle.config_text.specs.Grammar.{Draft, Separated, Item, Opening, InFile, InSource, InRewrite, field_begun, rewrite_begun, part_begun, no_rewrite, rewrite_closed};
+ghost use Rattle.config_text.specs.Config.{config, sources_from, sources_after};
+ghost use Rattle.config_text.specs.Sources.{AreSources};
+ghost use Rattle.config_text.specs.Drafts.{in_file, in_source, in_rewrite, goes_on, PassesName};
+ghost use Rattle.config_text.specs.Outcomes.{Gives, Carries};
+
+use crate::config::{ConfigAnswer, ConfigKind, CustomSource, Rewrite};
+use crate::draft::{RewriteParts, SourceParts, close_rewrite, close_source, no_rewrite, no_source};
+use crate::reader::{Next, Reader};
+use crate::values::{base_of, name_of, replacement_of, text_of};
+use std::alloc::Global;
+
+/// The most custom sources of a configuration.
+const MOST_SOURCES: usize = 64;
+
+/// The most rewrites of a configuration, of all its sources.
+const MOST_REWRITES: usize = 64;
+
+/// A fault at an offset.
+fn bad(kind: ConfigKind, at: usize) -> ConfigAnswer
+    ensures { result ≡ ConfigAnswer.Bad kind at }
+{
+    ConfigAnswer::Bad(kind, at as u64)
+}
+
+/// A part of a rewrite: the name at this offset, and the value that follows.
+fn part(
+    alloc: Global,
+    reader: &mut Reader<'_>,
+    at: usize,
+    name: &[u8],
+    parts: &mut RewriteParts,
+) -> Result<(), ConfigAnswer>
+    ensures carries { (d : Draft) → Carries result
+        (sources_after (ahead reader.old) (part_begun (in_rewrite d parts.old) at name.now))
+        (λ _. sources_from (ahead reader.new) (Separated InRewrite) (in_rewrite d parts.new)) }
+    ensures left { OnOk result (length reader.new.rest ≤ length reader.old.rest) }
+{
+    if name == b"pattern".as_slice() {
+        if parts.pattern.is_some() {
+            return Err(bad(ConfigKind::RepeatedField, at));
+        }
+        let value = reader.value(alloc)?;
+        parts.pattern = Some(text_of(alloc, &value)?);
+        return Ok(());
+    }
+    if name == b"replacement".as_slice() {
+        if parts.replacement.is_some() {
+            return Err(bad(ConfigKind::RepeatedField, at));
+        }
+        let value = reader.value(alloc)?;
+        parts.replacement = Some(replacement_of(alloc, &value)?);
+        return Ok(());
+    }
+    Err(bad(ConfigKind::UnknownField, at))
+}
+
+/// The block of a rewrite.
+fn rewrite(alloc: Global, reader: &mut Reader<'_>) -> Result<Rewrite, ConfigAnswer>
+    ensures carries { (d : Draft) → Carries result
+        (sources_from (ahead reader.old) (Opening InRewrite) (in_rewrite d no_rewrite))
+        (λ made. sources_from (ahead reader.new) (Separated InSource) (rewrite_closed d made)) }
+    ensures left { OnOk result (length reader.new.rest ≤ length reader.old.rest) }
+{
+    reader.open_block()?;
+    let mut parts = no_rewrite();
+    'parts: loop {
+        match reader.next() {
+            Next::Word(at, name) => part(alloc, reader, at, name, &mut parts)?,
+            Next::Mark(at, b'}') => return close_rewrite(parts, at),
+            Next::Mark(at, _) | Next::End(at) | Next::Other(at) => {
+                return Err(bad(ConfigKind::Syntax, at));
+            }
+        }
+        reader.skip_separator();
+    }
+}
+
+/// A rewrite of a source, behind the name at this offset.
+fn one_more_rewrite(
+    alloc: Global,
+    reader: &mut Reader<'_>,
+    at: usize,
+    begun: &mut usize,
+    parts: &mut SourceParts,
+) -> Result<(), ConfigAnswer>
+    ensures carries { (sources : List Source) → Carries result
+        (sources_after (ahead reader.old) (rewrite_begun (in_source sources begun.old parts.old) at))
+        (λ _. sources_from (ahead reader.new) (Separated InSource) (in_source sources begun.new parts.new)) }
+    ensures left { OnOk result (length reader.new.rest ≤ length reader.old.rest) }
+{
+    if *begun >= MOST_REWRITES {
+        return Err(bad(ConfigKind::TooMany, at));
+    }
+    *begun += 1;
+    let made = rewrite(alloc, reader)?;
+    parts.rewrites.push(made)?;
+    Ok(())
+}
+
+/// A field of a source behind these: the name at this offset, and what follows.
+fn field(
+    alloc: Global,
+    reader: &mut Reader<'_>,
+    at: usize,
+    name: &[u8],
+    sources: &[CustomSource],
+    begun: &mut usize,
+    parts: &mut SourceParts,
+) -> Result<(), ConfigAnswer>
+    ensures carries { Carries result
+        (sources_after (ahead reader.old) (field_begun (in_source sources.now begun.old parts.old) at name.now))
+        (λ _. sources_from (ahead reader.new) (Separated InSource) (in_source sources.now begun.new parts.new)) }
+    ensures left { OnOk result (length reader.new.rest ≤ length reader.old.rest) }
+{
+    if name == b"name".as_slice() {
+        if parts.name.is_some() {
+            return Err(bad(ConfigKind::RepeatedField, at));
+        }
+        let value = reader.value(alloc)?;
+        parts.name = Some(name_of(alloc, sources, &value)?);
+        return Ok(());
+    }
+    if name == b"base_data_source".as_slice() {
+        if parts.base.is_some() {
+            return Err(bad(ConfigKind::RepeatedField, at));
+        }
+        let value = reader.value(alloc)?;
+        parts.base = Some(base_of(&value)?);
+        return Ok(());
+    }
+    if name == b"rewrite".as_slice() {
+        return one_more_rewrite(alloc, reader, at, begun, parts);
+    }
+    Err(bad(ConfigKind::UnknownField, at))
+}
+
+/// The block of a source behind these.
+fn source(
+    alloc: Global,
+    reader: &mut Reader<'_>,
+    sources: &[CustomSource],
+    begun: &mut usize,
+) -> Result<CustomSource, ConfigAnswer>
+    ensures carries { Carries result
+        (sources_from (ahead reader.old) (Opening InSource) (in_file sources.now begun.old))
+        (λ made. sources_from (ahead reader.new) (Separated InFile) (in_file (sources.now ++ made ∷ []) begun.new)) }
+    ensures left { OnOk result (length reader.new.rest ≤ length reader.old.rest) }
+{
+    reader.open_block()?;
+    let mut parts = no_source(alloc);
+    'fields: loop {
+        match reader.next() {
+            Next::Word(at, name) => field(alloc, reader, at, name, sources, begun, &mut parts)?,
+            Next::Mark(at, b'}') => return close_source(parts, at),
+            Next::Mark(at, _) | Next::End(at) | Next::Other(at) => {
+                return Err(bad(ConfigKind::Syntax, at));
+            }
+        }
+        reader.skip_separator();
+    }
+}
+
+/// Whether another source begins behind these. It does not where the text ends.
+fn begins_source(reader: &mut Reader<'_>, sources: &[CustomSource]) -> Result<bool, ConfigAnswer>
+    ensures carries { (begun : ℕ) → Carries result
+        (sources_from (ahead reader.old) (Item InFile) (in_file sources.now begun))
+        (goes_on (ahead reader.new) (in_file sources.now begun)) }
+    ensures left { PassesName result reader.old reader.new }
+{
+    match reader.next() {
+        Next::Word(at, name) if name == b"custom_data_source".as_slice() => {
+            if sources.len() >= MOST_SOURCES {
+                return Err(bad(ConfigKind::TooMany, at));
+            }
+            Ok(true)
+        }
+        Next::Word(at, _) => Err(bad(ConfigKind::UnknownField, at)),
+        Next::End(_) => Ok(false),
+        Next::Mark(at, _) | Next::Other(at) => Err(bad(ConfigKind::Syntax, at)),
+    }
+}
+
+/// The custom sources of a configuration's text, in its order: exactly those that the grammar reads in it.
+///
+/// # Errors
+///
+/// Bad gives the first fault of the text that is met from its first byte on, and the fault's offset in
+/// bytes. A name is checked for UnknownField, RepeatedField and TooMany in this order, and a value, as soon as
+/// its last string is read, for NotUtf8 before the faults of its field. NoMemory stands for want of memory.
+#[tactic(auto, unfolding(crate::specs::Config::config), using(crate::proofs::SourceLemmas::config_sound))]
+pub fn parse(alloc: Global, text: &[u8]) -> Result<Vec<CustomSource>, ConfigAnswer>
+    ensures read { Gives (λ v. v.items) result (config text.now) }
+    ensures rules { IfOk result (λ v. AreSources v.items) }
+{
+    let mut reader = Reader::new(text);
+    let mut sources = Vec::new(alloc);
+    let mut begun = 0;
+    'sources: while begins_source(&mut reader, sources.as_slice())? {
+        let made = source(alloc, &mut reader, sources.as_slice(), &mut begun)?;
+        sources.push(made)?;
+        reader.skip_separator();
+    }
+    Ok(sources)
+}

@@ -1,0 +1,119 @@
+//! The checks of a field's value.
+
+ghost use Rattle.std.specs.Prelude.{◌≡◌, ◌==◌};
+ghost use Rattle.std.specs.List.{list_any};
+ghost use Rattle.std.specs.Str.{bytes_eq};
+ghost use Rattle.config_text.specs.Grammar.{is_free, is_replacement, text_read, name_read, base_read, replacement_read};
+ghost use Rattle.config_text.specs.Outcomes.{Gives};
+
+use crate::config::{ConfigAnswer, ConfigKind, CustomSource};
+use crate::reader::Value;
+use size_core::{Bytes, Source, Text};
+use std::alloc::Global;
+use std::str;
+
+/// The fault of a value.
+fn fault(kind: ConfigKind, value: &Value) -> ConfigAnswer
+    ensures { result ≡ ConfigAnswer.Bad kind value.now.at }
+{
+    ConfigAnswer::Bad(kind, value.at)
+}
+
+/// The value as a text. NotUtf8 where it is none.
+fn utf8(value: &Value) -> Result<&str, ConfigAnswer>
+    ensures { Gives (λ s. s.now) result (text_read value.now.at value.now.bytes.items) }
+{
+    match str::from_utf8(value.bytes.as_slice()) {
+        Ok(text) => Ok(text),
+        Err(_) => Err(fault(ConfigKind::NotUtf8, value)),
+    }
+}
+
+/// The value as a text of its own.
+pub(crate) fn text_of(alloc: Global, value: &Value) -> Result<Text, ConfigAnswer>
+    ensures { Gives (λ t. t) result (text_read value.now.at value.now.bytes.items) }
+{
+    let text = Text::of(alloc, utf8(value)?)?;
+    Ok(text)
+}
+
+/// Whether a comma stands in the name.
+fn has_comma(name: &[u8]) -> bool
+    ensures { result ≡ list_any (λ c. c == 44) name.now }
+{
+    name.iter().any(|byte| *byte == b',')
+}
+
+/// Whether one of these has the name.
+fn is_used(sources: &[CustomSource], name: &[u8]) -> bool
+    ensures { result ≡ list_any (λ s. bytes_eq s.name name.now) sources.now }
+{
+    sources.iter().any(|source| source.name.as_slice() == name)
+}
+
+/// Whether the name is not empty, has no comma, and names no built-in source and none of these.
+fn is_free(sources: &[CustomSource], name: &[u8]) -> bool
+    ensures { result ≡ is_free sources.now name.now }
+{
+    if name.is_empty() || has_comma(name) {
+        return false;
+    }
+    if Source::named(name).is_some() {
+        return false;
+    }
+    !is_used(sources, name)
+}
+
+/// The name of a source behind these.
+pub(crate) fn name_of(
+    alloc: Global,
+    sources: &[CustomSource],
+    value: &Value,
+) -> Result<Text, ConfigAnswer>
+    ensures { Gives (λ t. t) result (name_read sources.now value.now.at value.now.bytes.items) }
+{
+    let name = utf8(value)?;
+    if !is_free(sources, name.as_bytes()) {
+        return Err(fault(ConfigKind::BadName, value));
+    }
+    let name = Text::of(alloc, name)?;
+    Ok(name)
+}
+
+/// The built-in source of a name.
+pub(crate) fn base_of(value: &Value) -> Result<Source, ConfigAnswer>
+    ensures { Gives (λ s. s) result (base_read value.now.at value.now.bytes.items) }
+{
+    let name = utf8(value)?;
+    match Source::named(name.as_bytes()) {
+        Some(base) => Ok(base),
+        None => Err(fault(ConfigKind::BadBase, value)),
+    }
+}
+
+/// Whether each backslash is followed by a digit or a backslash.
+fn is_replacement(bytes: &[u8]) -> bool
+    ensures { result ≡ is_replacement bytes.now }
+{
+    let mut left = bytes;
+    'bytes: loop {
+        match left {
+            [] => return true,
+            [b'\\', b'0'..=b'9' | b'\\', rest @ ..] => left = rest,
+            [b'\\', ..] => return false,
+            [_, rest @ ..] => left = rest,
+        }
+    }
+}
+
+/// The bytes of a replacement.
+pub(crate) fn replacement_of(alloc: Global, value: &Value) -> Result<Bytes, ConfigAnswer>
+    ensures { Gives (λ b. b) result (replacement_read value.now.at value.now.bytes.items) }
+{
+    let text = utf8(value)?;
+    if !is_replacement(text.as_bytes()) {
+        return Err(fault(ConfigKind::BadReplacement, value));
+    }
+    let bytes = Bytes::of(alloc, text.as_bytes())?;
+    Ok(bytes)
+}

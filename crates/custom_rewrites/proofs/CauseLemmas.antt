@@ -1,0 +1,32 @@
+-- Rewrites made one after the other.
+use Rattle.std.proofs.Common.{◌≡◌, ◌∙◌, ◌<◌, ◌≤◌, ◌+◌, ℕ, List, [], ◌∷◌, ◌++◌, All, Some, map, take, length, slice_get, sym, ap, ap₂, arith}
+use Rattle.std.proofs.lemmas.List.{take_more, map-append}
+use Rattle.std.proofs.lemmas.List.Elements.{All-push}
+use Rattle.std.proofs.lemmas.Option.{get_or_from_slice_get}
+use Rattle.config_text.specs.declared.config.Rewrite.{Rewrite}
+use Rattle.custom_rewrites.specs.Pattern.{IsPattern}
+use Rattle.custom_rewrites.specs.Rewriting.{HasCause, HasOneCause}
+use Rattle.custom_rewrites.specs.declared.rewriting.RewriteAnswer.{RewriteAnswer}
+use Rattle.custom_rewrites.specs.declared.rewriting.RewriteAnswer.TheVariants.{PatternSyntax, PatternTooBig, NoMemory}
+
+-- the cause of an answer at one rewrite is its cause in the whole source
+pub cause_at : (rewrites : List Rewrite) (at : ℕ) (r : Rewrite) → slice_get rewrites at ≡ Some r → All (λ q. IsPattern q.pattern) (take at rewrites)
+    → (first before after : ℕ) (start old new : List ℕ) → first ≤ before → old ≡ start
+    → (e : RewriteAnswer) → HasOneCause r.pattern at before after old new e → HasCause rewrites first after start new e
+cause_at rewrites at r is read first before after start old new le same (PatternSyntax place) h =
+    ((r, ap (slice_get rewrites) h.0 ∙ is, h.1, rw h.0 read), h.2 ∙ same)
+cause_at rewrites at r is read first before after start old new le same (PatternTooBig place) h =
+    ((r, ap (slice_get rewrites) h.0 ∙ is, h.1, rw h.0 read), omega (arith, h.2, le))
+cause_at rewrites at r is read first before after start old new le same NoMemory h = h ∙ same
+
+module _ (rewrites : List Rewrite) (at : ℕ) (r : Rewrite) (lt : at < length rewrites) (is : slice_get rewrites at ≡ Some r) where
+  more : take (at + 1) rewrites ≡ take at rewrites ++ r ∷ []
+  more = take_more rewrites at r lt ∙ ap (λ (x : Rewrite). take at rewrites ++ x ∷ []) (get_or_from_slice_get rewrites at r r is)
+
+  pub texts_more : {M : Type 0} (view : M → Rewrite) (made new : List M) (m : M) → new ≡ made ++ m ∷ [] → view m ≡ r → map view made ≡ take at rewrites
+      → map view new ≡ take (at + 1) rewrites
+  texts_more view made new m pushed one before =
+      ap (map view) pushed ∙ map-append view made (m ∷ []) ∙ ap₂ (λ (xs : List Rewrite) (x : Rewrite). xs ++ x ∷ []) before one ∙ sym more
+
+  pub read_more : All (λ q. IsPattern q.pattern) (take at rewrites) → IsPattern r.pattern → All (λ q. IsPattern q.pattern) (take (at + 1) rewrites)
+  read_more before one = rw more (All-push (λ (q : Rewrite). IsPattern q.pattern) (take at rewrites) r before one)

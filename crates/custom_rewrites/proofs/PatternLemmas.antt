@@ -1,0 +1,60 @@
+use Rattle.std.proofs.Common.{◌≡◌, ◌∙◌, ◌<◌, ◌≢◌, ℕ, true, false, List, Option, Some, None, is_some, option_map, option_and_then, IsSomeAnd, refl, sym, ap, get_or, inl, inr}
+use Rattle.std.specs.Prelude.{chars}
+use Rattle.regex.specs.Patterns.{Re, Match, find, slot_of, span, Reads}
+use Rattle.regex.specs.Bytes.{regex_pattern, regex_source, regex_config, IsReadFromSource}
+use Rattle.regex.specs.declared.bytes.regex.Regex.{Regex}
+use Rattle.regex.proofs.ForCallers.{bytes_alike_as_written, is_match_alike, found_alike, span_alike}
+use Rattle.regex.proofs.OnLiterals.{IsReadAs, same_refl}
+use Rattle.regex_syntax.specs.Grammar.{Names, read}
+use Rattle.regex_syntax.specs.Verdict.{Refuses}
+use Rattle.regex_syntax.specs.Brackets.{Nested}
+use Rattle.regex_syntax.specs.Same.{SameTree}
+use Rattle.regex_syntax.specs.declared.error.ErrorKind.{ErrorKind}
+use Rattle.regex_syntax.specs.declared.error.ErrorKind.TheVariants.{OutOfMemory}
+use Rattle.custom_rewrites.specs.Pattern.{bytes_config, tree_of, found_in, is_found, IsNoPattern}
+
+-- the tree that the grammar reads in a text that it reads
+read_some : (P : Nested Re × Names → Type 0) (o : Option (Nested Re × Names)) → IsSomeAnd o P
+    → (re : Re) × (option_map (λ p. p.0.value) o ≡ Some re) × IsSomeAnd o (λ (found, _). SameTree found.value re)
+read_some P None h = absurd h
+read_some P (Some p) h = (p.0.value, refl, same_refl p.0.value)
+
+tree_is : (r : Regex) (source : List ℕ) → regex_source r ≡ source → regex_config r ≡ bytes_config → IsReadFromSource r
+    → (re : Re) × (tree_of source ≡ Some re) × IsReadAs bytes_config source re
+unfolding Reads
+tree_is r source is_source is_config is_read = read_some _ (read bytes_config (chars source)) (rw (is_source, is_config) at is_read)
+
+same_value : {A : Type 0} {x y : A} → Some x ≡ Some y → x ≡ y
+same_value e = cc
+
+module _ (r : Regex) (source : List ℕ) (is_source : regex_source r ≡ source) (is_config : regex_config r ≡ bytes_config) (is_read : IsReadFromSource r)
+    (hay : List ℕ) (bytes : (k : ℕ) → get_or hay k 0 < 256) where
+  -- what the compiled pattern finds is what the text of the pattern finds
+  pub matches_as_written : is_some (find (regex_pattern r) hay 0) ≡ is_found source hay
+  matches_as_written =
+      let tree = tree_is r source is_source is_config is_read in
+      is_match_alike (bytes_alike_as_written r bytes_config source is_source is_config is_read tree.0 tree.2) hay bytes false 0
+      ∙ sym (ap (λ (o : Option Re). is_some (option_and_then (λ re. find re hay 0) o)) tree.1)
+
+  -- and the match has the same groups
+  pub found_as_written : (m : Match) → find (regex_pattern r) hay 0 ≡ Some m → (n : Match) × (found_in source hay ≡ Some n) × (slot_of n ≡ slot_of m) × (span m ≡ span n)
+  found_as_written m is =
+      let tree = tree_is r source is_source is_config is_read in
+      let alike = bytes_alike_as_written r bytes_config source is_source is_config is_read tree.0 tree.2 in
+      let same = found_alike alike hay bytes false 0 m is in
+      let spans = sym (ap (option_map span) is) ∙ span_alike alike hay bytes false 0 ∙ ap (option_map span) same.1 in
+      (same.0, ap (option_and_then (λ (re : Re). find re hay 0)) tree.1 ∙ same.1, same.2, same_value spans)
+
+none_read : (o : Option (Nested Re × Names)) → o ≡ None → option_map (λ p. p.0.value) o ≡ None
+none_read o is = ap (option_map (λ (p : Nested Re × Names). p.0.value)) is
+
+-- an error of syntax that isn't want of memory
+pub no_pattern : (source : List ℕ) (kind : ErrorKind) → Refuses bytes_config source kind → kind ≢ OutOfMemory → IsNoPattern source
+unfolding Refuses
+no_pattern source kind (inl h) other = absurd (other h)
+no_pattern source kind (inr (inl h)) other = inl (none_read _ h)
+no_pattern source kind (inr (inr h)) other = inr h.1
+
+pub tree_some : (r : Regex) (source : List ℕ) → regex_source r ≡ source → regex_config r ≡ bytes_config → IsReadFromSource r
+    → is_some (tree_of source) ≡ true
+tree_some r source is_source is_config is_read = ap is_some (tree_is r source is_source is_config is_read).1

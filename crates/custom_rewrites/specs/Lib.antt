@@ -1,0 +1,4 @@
+pub mod Pattern
+pub mod Expand
+pub mod Refusals
+pub mod Rewriting

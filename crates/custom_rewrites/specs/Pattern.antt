@@ -1,0 +1,29 @@
+-- What a pattern finds in a label, as a function of the two texts.
+use Rattle.std.specs.Prelude.{◌≡◌, ◌⊎◌, ◌<◌, ℕ, Bool, true, false, List, Option, None, is_some, IfSome, option_map, option_and_then, chars}
+use Rattle.regex.specs.Patterns.{Re, Match, Config, default_config, find}
+use Rattle.regex_syntax.specs.Grammar.{read}
+
+-- the options of the byte form
+abbrev pub bytes_config : Config
+bytes_config = record default_config { utf8 = false }
+
+-- what the grammar reads in the text, or none where it is no pattern
+abbrev pub tree_of : List ℕ → Option Re
+tree_of source = option_map (λ p. p.0.value) (read bytes_config (chars source))
+
+-- the leftmost match of the pattern in the label
+abbrev pub found_in : List ℕ → List ℕ → Option Match
+found_in source label = option_and_then (λ re. find re label 0) (tree_of source)
+
+-- the pattern is found in the label
+abbrev pub is_found : List ℕ → List ℕ → Bool
+is_found source label = is_some (found_in source label)
+
+-- the text is a pattern of the grammar
+abbrev pub IsPattern : List ℕ → Type 0
+IsPattern source = is_some (tree_of source) ≡ true
+
+-- the text is no pattern of the grammar, or it nests too deep
+abbrev pub IsNoPattern : List ℕ → Type 0
+IsNoPattern source = (tree_of source ≡ None)
+    ⊎ IfSome (read bytes_config (chars source)) (λ (re, _). bytes_config.nest_limit < re.depth)

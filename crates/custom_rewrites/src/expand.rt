@@ -1,0 +1,49 @@
+//! What a replacement stands for.
+
+ghost use Rattle.std.specs.Prelude.{◌≡◌, ◌++◌, OnOk, IfOk};
+ghost use Rattle.custom_rewrites.specs.Expand.{expanded, group_in};
+
+use regex::bytes::Captures;
+use size_core::NoMemory;
+use std::alloc::Global;
+
+/// Appends what a group of the match holds: nothing for one that took no part or isn't there.
+fn push_group(captures: &Captures<'_, '_>, index: usize, out: &mut Vec<u8>) -> Result<(), NoMemory>
+    ensures { OnOk result (out.new.items ≡ out.old.items ++ group_in captures.now index) }
+{
+    if let Some(group) = captures.get(index) {
+        out.extend_from_slice(group.as_bytes())?;
+    }
+    Ok(())
+}
+
+/// What the replacement stands for at this match: `\0` to `\9` for a group, `\\` for a backslash, and any
+/// other byte for itself.
+pub(crate) fn expansion_of(
+    alloc: Global,
+    captures: &Captures<'_, '_>,
+    replacement: &[u8],
+) -> Result<Vec<u8>, NoMemory>
+    ensures { IfOk result (λ out. out.items ≡ expanded (group_in captures.now) replacement.now) }
+{
+    let mut out = Vec::new(alloc);
+    let mut left = replacement;
+    'parts: loop {
+        match left {
+            [] => break,
+            [b'\\', digit, rest @ ..] if digit.is_ascii_digit() => {
+                push_group(captures, (*digit - b'0') as usize, &mut out)?;
+                left = rest;
+            }
+            [b'\\', b'\\', rest @ ..] => {
+                out.push(b'\\')?;
+                left = rest;
+            }
+            [byte, rest @ ..] => {
+                out.push(*byte)?;
+                left = rest;
+            }
+        }
+    }
+    Ok(out)
+}

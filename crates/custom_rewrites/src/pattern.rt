@@ -1,0 +1,101 @@
+//! Patterns, and what makes them.
+
+ghost use Rattle.std.specs.Prelude.{◌≡◌, ◌≢◌, ◌<◌, ◌≤◌, Err, IfOk, option_map};
+ghost use Rattle.custom_rewrites.specs.Pattern.{is_found, IsPattern, IsNoPattern};
+ghost use Rattle.custom_rewrites.specs.Expand.{replaced};
+
+use crate::expand::expansion_of;
+use regex::Error;
+use regex::bytes::Regex;
+use size_core::NoMemory;
+use std::alloc::Global;
+use std::marker::Model;
+
+/// Why a pattern isn't made.
+#[derive(Clone, Copy, Debug, PartialEq, Eq, Hash)]
+pub enum PatternAnswer {
+    /// It is no regular expression, or nests too deep.
+    Syntax,
+    /// It was refused for its size.
+    TooBig,
+    /// There was not enough memory.
+    NoMemory,
+}
+
+/// A regular expression that is searched for in labels. Only `Patterns::build` makes one.
+#[derive(Drop)]
+pub struct LabelPattern {
+    regex: Regex,
+}
+
+impl Model for LabelPattern {
+    ghost use Rattle.std.specs.Prelude.{List, ℕ, ◌≡◌};
+    ghost use Rattle.regex.specs.Bytes.{regex_source, regex_config, IsReadFromSource};
+    ghost use Rattle.custom_rewrites.specs.Pattern.{bytes_config};
+
+    ghost Value = { List ℕ };
+
+    ghost view = { λ p. regex_source p.regex };
+
+    ghost invariant = { λ p. (regex_config p.regex ≡ bytes_config) × IsReadFromSource p.regex };
+}
+
+impl LabelPattern {
+    /// Compiles a pattern.
+    pub(crate) fn of(alloc: Global, pattern: &str) -> Result<LabelPattern, PatternAnswer>
+        ensures ok { IfOk result (λ p. (p ≡ pattern.now) × IsPattern pattern.now) }
+        ensures syntax { result ≡ Err PatternAnswer.Syntax → IsNoPattern pattern.now }
+    {
+        match Regex::new(alloc, pattern) {
+            Ok(regex) => Ok(LabelPattern { regex }),
+            Err(Error::Syntax(_)) => Err(PatternAnswer::Syntax),
+            Err(Error::OutOfMemory) => Err(PatternAnswer::NoMemory),
+            Err(_) => Err(PatternAnswer::TooBig),
+        }
+    }
+
+    /// Whether the pattern is found in the label.
+    pub fn finds(&self, alloc: Global, label: &[u8]) -> Result<bool, NoMemory>
+        ensures { IfOk result (λ found. found ≡ is_found self.now label.now) }
+    {
+        let mut matcher = self.regex.matcher(alloc)?;
+        Ok(matcher.is_match(label))
+    }
+
+    /// The label's new text, where the pattern is found in it.
+    pub(crate) fn replaced(
+        &self,
+        alloc: Global,
+        label: &[u8],
+        replacement: &[u8],
+    ) -> Result<Option<Vec<u8>>, NoMemory>
+        ensures { IfOk result (λ out. option_map (λ v. v.items) out
+            ≡ replaced self.now replacement.now label.now) }
+    {
+        let mut matcher = self.regex.matcher(alloc)?;
+        match matcher.captures(label) {
+            Some(captures) => Ok(Some(expansion_of(alloc, &captures, replacement)?)),
+            None => Ok(None),
+        }
+    }
+}
+
+/// What makes patterns. It may refuse one for its size, and counts such refusals.
+pub trait Patterns {
+    ghost use Rattle.std.specs.Prelude.{ℕ, List};
+
+    // How many patterns were refused for their size, and the last of them: empty before any.
+    ghost refused: { Self → ℕ };
+
+    ghost last_refused: { Self → List ℕ };
+
+    /// Makes the pattern of a text. Syntax only where the text is no regular expression or nests too deep,
+    /// TooBig only where this call adds to the refusals.
+    fn build(&mut self, alloc: Global, pattern: &str) -> Result<LabelPattern, PatternAnswer>
+        ensures ok { IfOk result (λ p. (p ≡ pattern.now) × IsPattern pattern.now) }
+        ensures syntax { result ≡ Err PatternAnswer.Syntax → IsNoPattern pattern.now }
+        ensures too_big { result ≡ Err PatternAnswer.TooBig →
+            (refused self.old < refused self.new) × (last_refused self.new ≡ pattern.now) }
+        ensures kept { result ≢ Err PatternAnswer.TooBig → last_refused self.new ≡ last_refused self.old }
+        ensures rises { refused self.old ≤ refused self.new };
+}

@@ -1,0 +1,98 @@
+//! What the sections of a made file hold.
+
+ghost use Rattle.std.specs.Prelude.{◌≡◌, ◌≤◌, ◌++◌, ◌+◌, ◌*◌, ◌/◌, ◌%◌, ◌<◌, OnOk};
+ghost use Rattle.elf_synth.specs.Contents.{text, function_symbol, symbols, function_name, strings, section_names};
+
+use crate::layout::{FUNCTION_LEN, NAME_LEN, SECTION_NAMES, TEXT_ADDRESS};
+use crate::numbers::{push_bytes, push_zeros};
+use crate::records::{SYMBOL_LEN, Symbol, push_symbol};
+use size_core::NoMemory;
+
+/// Adds the text of `n` functions: byte `j` of it is `j` modulo 256.
+#[tactic(auto, unfolding(crate::specs::Contents::text), using(crate::proofs::Rows::next_item))]
+pub fn push_text(out: &mut Vec<u8>, n: u32) -> Result<(), NoMemory>
+    requires { n ≤ 1_000_000 }
+    ensures { OnOk result (out.new.items ≡ out.old.items ++ text n) }
+{
+    for j in 0..FUNCTION_LEN as u32 * n {
+        out.push((j % 256) as u8)?;
+    }
+    Ok(())
+}
+
+// Adds the symbol `k` of `n`. The functions come from the last one down.
+#[tactic(auto, unfolding(crate::specs::Contents::function_symbol))]
+fn push_function_symbol(out: &mut Vec<u8>, n: u32, k: u32) -> Result<(), NoMemory>
+    requires { (k ≤ n) × (n ≤ 1_000_000) }
+    ensures { OnOk result (out.new.items ≡ out.old.items ++ function_symbol n k) }
+{
+    let function = n - k;
+    let symbol = Symbol {
+        name: 1 + NAME_LEN as u32 * function,
+        section: 1,
+        value: TEXT_ADDRESS + FUNCTION_LEN * u64::from(function),
+        size: FUNCTION_LEN + 8 * u64::from(k % 2),
+    };
+    push_symbol(out, symbol)
+}
+
+/// Adds the table of symbols: the null symbol, and one symbol a function.
+#[tactic(auto, unfolding(crate::specs::Contents::symbols), using(crate::proofs::Rows::next_row))]
+pub fn push_symbols(out: &mut Vec<u8>, n: u32) -> Result<(), NoMemory>
+    requires { n ≤ 1_000_000 }
+    ensures { OnOk result (out.new.items ≡ out.old.items ++ symbols n) }
+{
+    push_zeros(out, SYMBOL_LEN)?;
+    for k in 1..n + 1 {
+        push_function_symbol(out, n, k)?;
+    }
+    Ok(())
+}
+
+// The decimal digit of a number that counts a power of ten.
+fn digit(number: u32, power: u32) -> u8
+    requires { 0 < power }
+    ensures { result ≡ 48 + number / power % 10 }
+{
+    b'0' + (number / power % 10) as u8
+}
+
+// Adds the name of function `k`.
+#[tactic(auto, unfolding(crate::specs::Contents::function_name))]
+fn push_function_name(out: &mut Vec<u8>, k: u32) -> Result<(), NoMemory>
+    ensures { OnOk result (out.new.items ≡ out.old.items ++ function_name k) }
+{
+    let name = [
+        b'f',
+        digit(k, 1_000_000),
+        digit(k, 100_000),
+        digit(k, 10_000),
+        digit(k, 1_000),
+        digit(k, 100),
+        digit(k, 10),
+        digit(k, 1),
+        0,
+    ];
+    push_bytes(out, &name)
+}
+
+/// Adds the names of `n` functions.
+#[tactic(auto, unfolding(crate::specs::Contents::strings), using(crate::proofs::Rows::next_row))]
+pub fn push_strings(out: &mut Vec<u8>, n: u32) -> Result<(), NoMemory>
+    requires { n ≤ 1_000_000 }
+    ensures { OnOk result (out.new.items ≡ out.old.items ++ strings n) }
+{
+    push_bytes(out, b"\0")?;
+    for k in 1..n + 1 {
+        push_function_name(out, k)?;
+    }
+    Ok(())
+}
+
+/// Adds the names of the sections.
+#[tactic(auto, unfolding(crate::specs::Contents::section_names))]
+pub fn push_section_names(out: &mut Vec<u8>) -> Result<(), NoMemory>
+    ensures { OnOk result (out.new.items ≡ out.old.items ++ section_names) }
+{
+    push_bytes(out, SECTION_NAMES)
+}

@@ -1,0 +1,78 @@
+//! Where the parts of a made file stand.
+
+ghost use Rattle.std.specs.Prelude.{◌≡◌, ◌≤◌};
+ghost use Rattle.elf_synth.specs.Made.{layout_of};
+
+use crate::records::{FILE_HEADER_LEN, PROGRAM_HEADER_LEN, SYMBOL_LEN};
+
+/// The file offset of the text, which follows the two headers.
+pub const TEXT_OFFSET: u64 = FILE_HEADER_LEN as u64 + PROGRAM_HEADER_LEN as u64;
+
+/// The virtual address of the file's first byte.
+pub const IMAGE_ADDRESS: u64 = 0x40_0000;
+
+/// The virtual address of the text.
+pub const TEXT_ADDRESS: u64 = IMAGE_ADDRESS + TEXT_OFFSET;
+
+/// The bytes of a function in the text.
+pub const FUNCTION_LEN: u64 = 16;
+
+/// The bytes of a function's name, with the zero byte at its end.
+pub const NAME_LEN: u64 = 9;
+
+/// The names of the sections, each with a zero byte at its end.
+pub const SECTION_NAMES: &[u8] = b"\0.text\0.symtab\0.strtab\0.shstrtab\0";
+
+/// Bytes of a file.
+#[derive(Clone, Copy)]
+pub struct Part {
+    /// The file offset of the first one.
+    pub offset: u64,
+    /// How many there are.
+    pub size: u64,
+}
+
+/// The parts of a file that its headers name.
+#[derive(Clone, Copy)]
+pub struct Layout {
+    pub text: Part,
+    pub symbols: Part,
+    pub strings: Part,
+    pub section_names: Part,
+    /// The file offset of the section headers, which end the file.
+    pub section_headers: u64,
+}
+
+impl Layout {
+    /// The layout of a file of `n` functions.
+    #[tactic(auto, using(crate::proofs::Lengths::layout_is))]
+    pub fn of(n: u32) -> Layout
+        requires { n ≤ 1_000_000 }
+        ensures { result ≡ layout_of n }
+    {
+        let n = u64::from(n);
+        let text = Part {
+            offset: TEXT_OFFSET,
+            size: FUNCTION_LEN * n,
+        };
+        let symbols = Part {
+            offset: text.offset + text.size,
+            size: u64::from(SYMBOL_LEN) * (n + 1),
+        };
+        let strings = Part {
+            offset: symbols.offset + symbols.size,
+            size: 1 + NAME_LEN * n,
+        };
+        let section_names = Part {
+            offset: strings.offset + strings.size,
+            size: SECTION_NAMES.len() as u64,
+        };
+        Layout {
+            text,
+            symbols,
+            strings,
+            section_names,
+            section_headers: section_names.offset + section_names.size,
+        }
+    }
+}

@@ -1,0 +1,135 @@
+-- The entries of a table: their sums, and the order under each.
+use Rattle.std.proofs.Common.{◌≡◌, ℕ, ◌<◌, ◌≤◌, List, [], ◌∷◌, ◌++◌, length, get_or, map, refl, sym, ap, ◌∙◌, subst, Bool, true, false, cond, arith}
+use Rattle.std.specs.Prelude.{All, filter}
+use Rattle.std.specs.declared.cmp.Ordering.TheVariants.{Less}
+use Rattle.std.specs.Cmp.Lexicographic.{nat_list_cmp_total}
+use Rattle.std.specs.List.{sum_by, AllByRecursion}
+use Rattle.std.specs.List.Sorted.{IsStrictlySortedBy}
+use Rattle.std.specs.Str.{bytes_eq}
+use Rattle.std.proofs.lemmas.Cmp.{tied_itself}
+use Rattle.std.proofs.lemmas.List.{get_or-map, length-map, length-drop}
+use Rattle.std.proofs.lemmas.List.Elements.{All-head, All-tail}
+use Rattle.std.proofs.lemmas.List.Sums.{sum_by-cons}
+use Rattle.rollup.specs.Totals.{row_cmp, path_cmp}
+use Rattle.rollup.specs.declared.table.RollupRow.{RollupRow}
+use Rattle.report_rows.specs.declared.groups.Group.{Group}
+use Rattle.report_rows.specs.declared.row.RowOptions.{RowOptions}
+use Rattle.report_rows.specs.Groups.{row_from, table_at, group_label, group_entry, HasKey, IsPart, IsGroup, IsRange}
+use Rattle.report_rows.specs.Tables.{Table, vm_sum, file_sum, without, under, first_labels}
+use Rattle.report_rows.specs.Rows.{Entry, label_entry, label_cmp, has_shown, children}
+use Rattle.report_rows.proofs.OrderLemmas.{sum_by-in_order}
+use Rattle.report_rows.proofs.TableLemmas.{same_bytes, sum_by-same, labels-sum}
+use Rattle.report_rows.proofs.LimitLemmas.{sum_by-map}
+use Rattle.report_rows.proofs.GroupLemmas.{deep_of, sum-table}
+
+-- where two paths begin alike, their order is that of what follows
+past : (k : List ℕ) (p q : List (List ℕ)) → path_cmp (k ∷ p) (k ∷ q) ≡ path_cmp p q
+past k p q = rw (tied_itself nat_list_cmp_total k) refl
+
+less-past : (l k j : List ℕ) (p q : List (List ℕ)) → l ≡ k → l ≡ j → path_cmp (k ∷ p) (j ∷ q) ≡ Less → path_cmp p q ≡ Less
+less-past l k j p q a b h = let e : k ≡ j = sym a ∙ b in sym (past k p q) ∙ (ap (λ m. path_cmp (k ∷ p) (m ∷ q)) e ∙ h)
+
+one-less : (l k : List ℕ) (r s : RollupRow) (p q : List (List ℕ)) (rest : Table) → l ≡ k → path_cmp (k ∷ p) q ≡ Less
+    → AllByRecursion (λ (y : RollupRow). row_cmp (record r { path = p }) y ≡ Less) rest → AllByRecursion (λ (y : RollupRow). row_cmp (record r { path = p }) y ≡ Less) (without l s q ++ rest)
+one-less l k r s p [] rest e h more = more
+one-less l k r s p (j ∷ q) rest e h more = step (bytes_eq l j) refl
+  where
+    step : (b : Bool) → bytes_eq l j ≡ b → AllByRecursion (λ (y : RollupRow). row_cmp (record r { path = p }) y ≡ Less) (cond b (record s { path = q } ∷ []) [] ++ rest)
+    step true same = (less-past l k j p q e (same_bytes l j same) h, more)
+    step false same = more
+
+under-less : (l k : List ℕ) (r : RollupRow) (p : List (List ℕ)) (t : Table) → l ≡ k → r.path ≡ k ∷ p → AllByRecursion (λ (y : RollupRow). row_cmp r y ≡ Less) t
+    → AllByRecursion (λ (y : RollupRow). row_cmp (record r { path = p }) y ≡ Less) (under l t)
+unfolding under
+under-less l k r p [] e is h = tt
+under-less l k r p (s ∷ t) e is h =
+    one-less l k r s p s.path (under l t) e (let Q : List (List ℕ) → Type 0 = λ z. path_cmp z s.path ≡ Less in subst Q is h.0) (under-less l k r p t e is h.1)
+
+sorted-at : (l : List ℕ) (r : RollupRow) (t : Table) (k : List ℕ) (p : List (List ℕ)) (b : Bool) → r.path ≡ k ∷ p → bytes_eq l k ≡ b → AllByRecursion (λ (y : RollupRow). row_cmp r y ≡ Less) t
+    → IsStrictlySortedBy row_cmp (under l t) → IsStrictlySortedBy row_cmp (cond b (record r { path = p } ∷ []) [] ++ under l t)
+unfolding IsStrictlySortedBy
+sorted-at l r t k p true is same first rest = (under-less l k r p t (same_bytes l k same) is first, rest)
+sorted-at l r t k p false is same first rest = rest
+
+sorted-path : (l : List ℕ) (r : RollupRow) (t : Table) (q : List (List ℕ)) → r.path ≡ q → AllByRecursion (λ (y : RollupRow). row_cmp r y ≡ Less) t
+    → IsStrictlySortedBy row_cmp (under l t) → IsStrictlySortedBy row_cmp (without l r q ++ under l t)
+sorted-path l r t [] is first rest = rest
+sorted-path l r t (k ∷ p) is first rest = sorted-at l r t k p (bytes_eq l k) is refl first rest
+
+-- the table under a label is in order
+pub under-sorted : (l : List ℕ) (t : Table) → IsStrictlySortedBy row_cmp t → IsStrictlySortedBy row_cmp (under l t)
+unfolding under IsStrictlySortedBy
+under-sorted l [] h = tt
+under-sorted l (r ∷ t) h = sorted-path l r t r.path refl h.0 (under-sorted l t h.1)
+
+filter-at : {X : Type 0} (f : X → ℕ) (x : X) (ys xs : List X) (b : Bool) → sum_by f ys ≤ sum_by f xs → sum_by f (cond b (x ∷ ys) ys) ≤ sum_by f (x ∷ xs)
+filter-at f x ys xs true le = omega (arith, sum_by-cons f x ys, sum_by-cons f x xs)
+filter-at f x ys xs false le = omega (arith, sum_by-cons f x xs)
+
+filter-le : {X : Type 0} (p : X → Bool) (f : X → ℕ) (xs : List X) → sum_by f (filter p xs) ≤ sum_by f xs
+filter-le p f [] = omega arith
+filter-le p f (x ∷ xs) = filter-at f x (filter p xs) xs (p x) (filter-le p f xs)
+
+pub children-le : (o : RowOptions) (t : Table) (f : List ℕ → ℕ) → sum_by f (children o t) ≤ sum_by f (first_labels t)
+unfolding children
+children-le o t f = omega (arith, sum_by-in_order (label_cmp o t) f (filter (has_shown o t) (first_labels t)), filter-le (has_shown o t) f (first_labels t))
+
+pub longer : (level : ℕ) (rows : List RollupRow) → All (λ (r : RollupRow). level < length r.path) rows → All (λ (r : RollupRow). 0 < length r.path) (table_at level rows)
+longer level rows deep k d lt =
+    let inside : k < length rows = rw length-map at lt in
+    rw (get_or-map (row_from level) rows k d d inside) (rw length-drop (omega (arith, deep k d inside)))
+
+map-same : {X Y : Type 0} (f g : X → Y) (P : X → Type 0) → ((x : X) → P x → f x ≡ g x) → (xs : List X) → All P xs → map f xs ≡ map g xs
+map-same f g P same [] all = refl
+map-same f g P same (x ∷ xs) all = rw (same x (All-head P x xs all), map-same f g P same xs (All-tail P x xs all)) refl
+
+pub map-map : {X Y Z : Type 0} (f : Y → Z) (g : X → Y) (xs : List X) → map f (map g xs) ≡ map (λ x. f (g x)) xs
+map-map f g [] = refl
+map-map f g (x ∷ xs) = ap (λ ys. f (g x) ∷ ys) (map-map f g xs)
+
+module _ (o : RowOptions) (depth level : ℕ) (all : List RollupRow) (part : IsPart depth level all) (below : level < depth) (groups : List Group) (every : All (IsGroup o level all) groups)
+    (labels : map (group_label level all) groups ≡ children o (table_at level all)) where
+  abbrev table : Table
+  table = table_at level all
+
+  abbrev lab : Group → List ℕ
+  lab = group_label level all
+
+  -- groups stand for the entries of the children
+  pub groups-are : map (group_entry level all) groups ≡ map (label_entry table) (children o table)
+  groups-are =
+      map-same (group_entry level all) (λ g. label_entry table (lab g)) (IsGroup o level all) (λ g group. group.entry) groups every
+      ∙ (sym (map-map (label_entry table) lab groups) ∙ ap (map (label_entry table)) labels)
+
+  sum-le : (f : Entry → ℕ) (size : RollupRow → ℕ) (same : (r : RollupRow) (p : List (List ℕ)) → size (record r { path = p }) ≡ size r)
+      → ((l : List ℕ) → f (label_entry table l) ≡ sum_by size (under l table)) → sum_by f (map (group_entry level all) groups) ≤ sum_by size all
+  sum-le f size same says =
+      omega (
+        arith,
+        ap (sum_by f) groups-are,
+        sum_by-map f (label_entry table) (children o table),
+        sum_by-same (λ l. f (label_entry table l)) (λ l. sum_by size (under l table)) (children o table) says,
+        children-le o table (λ l. sum_by size (under l table)),
+        labels-sum size same table (longer level all (deep_of depth level all part below)),
+        sum-table size same level all,
+      )
+
+  pub vm-le : sum_by (λ (g : Group). g.vm) groups ≤ vm_sum all
+  vm-le = omega (arith, sym (sum_by-map (λ (e : Entry). e.vm) (group_entry level all) groups), sum-le (λ e. e.vm) (λ r. r.vm) (λ r p. refl) (λ l. refl))
+
+  pub file-le : sum_by (λ (g : Group). g.file) groups ≤ file_sum all
+  file-le = omega (arith, sym (sum_by-map (λ (e : Entry). e.file) (group_entry level all) groups), sum-le (λ e. e.file) (λ r. r.file) (λ r p. refl) (λ l. refl))
+
+  pub have-ranges : All (IsRange level all) groups
+  have-ranges k d lt =
+      let g = get_or groups k d in
+      let group = every k d lt in
+      record {
+        inside = omega (arith, group.some);
+        within = group.within;
+        some = λ _. group.some;
+        ordered = subst (IsStrictlySortedBy row_cmp) (sym (ap (λ (e : Entry). e.below) group.entry)) (under-sorted (lab g) table part.ordered);
+      }
+
+  pub have-keys : All (HasKey o) groups
+  have-keys k d lt = (every k d lt).key

@@ -1,0 +1,13 @@
+mod AscendLemmas
+mod EntryLemmas
+mod GatherLemmas
+mod GroupLemmas
+mod LimitLemmas
+mod ListLemmas
+mod OrderLemmas
+mod RootLemmas
+mod RowLemmas
+mod RunLemmas
+mod SortLemmas
+mod TableLemmas
+mod TreeLemmas

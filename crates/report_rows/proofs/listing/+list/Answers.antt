@@ -1,0 +1,45 @@
+use Rattle.std.proofs.Common.{◌<◌, ◌+◌, ◌-◌, ◌++◌, ◌∙◌, sym, ap, arith, length, map, take, drop, get_or}
+use Rattle.std.specs.List.{flat_map}
+use Rattle.std.proofs.lemmas.List.{take_all}
+use Rattle.report_rows.specs.declared.groups.Group.{Group}
+use Rattle.report_rows.specs.declared.groups.Kind.TheVariants.{Label}
+use Rattle.report_rows.specs.Groups.{table_at, group_entry, IsPart}
+use Rattle.report_rows.proofs.GroupLemmas.{seen, deep_rows}
+use Rattle.report_rows.proofs.ListLemmas.{block, listing-none, listing-more, part-of, list-more}
+use Rattle.report_rows.proofs.listing.+list.Goals as goal
+
+-- the group that stands for one past the end
+abbrev any : Group
+any = record { key = record { 0 = 0 }; from = 0; to = 0; kind = Label; vm = 0; file = 0 }
+
+pub returns-then-level-depth : goal.returns-then-level-depth
+returns-then-level-depth t c =
+    listing-none c.args.options.now c.args.depth c.args.level (table_at c.args.level (seen c.args.rows.now)) c.args.out.now (omega arith)
+
+pub make_row-requires-clause-deep : goal.make_row-requires-clause-deep
+make_row-requires-clause-deep t c = deep_rows c.args.depth c.args.level c.args.rows.now c.requires.part (omega arith)
+
+pub list-requires : goal.list-requires
+list-requires t c =
+    let items = c.in_ok-groups.groups.items in
+    let lt : c.loop-group.group-index < length items = rw (← c.deref-group-items.ensures.value) c.loop-group-test.true in
+    let part : IsPart c.args.depth (c.args.level + 1) (seen (take ((get_or items c.loop-group.group-index any).to - (get_or items c.loop-group.group-index any).from) (drop (get_or items c.loop-group.group-index any).from c.args.rows.now))) =
+    part-of c.args.depth c.args.level c.args.rows.now (get_or items c.loop-group.group-index any) c.requires.part (c.in_ok-groups.ensures.ranges c.loop-group.group-index any lt) in
+    (omega arith, (rw c.deref-group-items.ensures.value part, omega arith))
+
+pub loop-group-preserved : goal.loop-group-preserved
+loop-group-preserved t c =
+    list-more c.args.options.now c.args.depth c.args.level c.args.rows.now c.deref-group-items.result.now c.loop-group.group-index any c.args.out.now c.loop-group.out c.push.new.self c.list.new.out c.in_ok-make_row.field-0
+    c.loop-group-test.true c.loop-group.invariant c.in_ok-make_row.ensures c.in_ok-push.ensures.ok c.in_ok-list.ensures
+
+pub returns : goal.returns
+returns t c =
+    let o = c.args.options.now in
+    let items = c.in_ok-groups.groups.items in
+    let table = table_at c.args.level (seen c.args.rows.now) in
+    let ge = group_entry c.args.level (seen c.args.rows.now) in
+    let f = block o c.args.depth c.args.level in
+    c.loop-group.invariant
+    ∙ ap (λ rows. c.args.out.now ++ rows)
+    (ap (λ gs. flat_map f (map ge gs)) (take_all c.loop-group.group-index c.deref-group-items.result.now (omega arith) ∙ c.deref-group-items.ensures.value)
+    ∙ (ap (flat_map f) c.in_ok-groups.ensures.entries ∙ sym (listing-more o c.args.depth c.args.level table (omega arith))))

@@ -1,0 +1,10 @@
+pub mod GroupKinds
+pub mod Groups
+pub mod Keys
+pub mod Laws
+pub mod Order
+pub mod Rows
+pub mod Shown
+pub mod Tables
+pub mod Trees
+pub mod Worked

@@ -1,0 +1,68 @@
+-- The rows of a report, as a function of the rows of a rollup.
+use Rattle.std.specs.Prelude.{ℕ, Bool, zero, suc, ◌+◌, ◌==◌, ◌||◌, nat_le, List, [], ◌∷◌, length, map, filter, take, drop, if◌then◌else◌}
+use Rattle.std.specs.List.{sum_by, flat_map}
+use Rattle.std.specs.declared.cmp.Ordering.{Ordering}
+use Rattle.std.specs.Ordering.{nat_cmp, ordering_then}
+use Rattle.std.specs.Cmp.Lexicographic.{slice_cmp}
+use Rattle.rollup.specs.Totals.{Totals}
+use Rattle.report_rows.specs.declared.row.RowOptions.{RowOptions}
+use Rattle.report_rows.specs.declared.row.RowKind.{RowKind}
+use Rattle.report_rows.specs.declared.row.RowKind.TheVariants.{Label, Others}
+use Rattle.report_rows.specs.declared.row.Row.{Row}
+use Rattle.report_rows.specs.declared.row.RowTree.{RowTree}
+use Rattle.report_rows.specs.Keys.{key_of, is_shown}
+use Rattle.report_rows.specs.Order.{placed, in_order}
+use Rattle.report_rows.specs.Tables.{Table, vm_sum, file_sum, under, first_labels}
+
+-- what a row says, and the table whose rows stand under it
+pub record Entry : Type 0 where
+  pub kind : RowKind
+  pub vm : ℕ
+  pub file : ℕ
+  pub below : Table
+
+-- a label of a table
+abbrev pub label_entry : Table → List ℕ → Entry
+label_entry t label = record { kind = Label label; vm = vm_sum (under label t); file = file_sum (under label t); below = under label t }
+
+-- labels that are left over, taken together; no row stands under them
+abbrev pub others_entry : List Entry → Entry
+others_entry left = record { kind = Others (length left); vm = sum_by (λ (e : Entry). e.vm) left; file = sum_by (λ (e : Entry). e.file) left; below = [] }
+
+-- the larger key first
+abbrev pub by_key : RowOptions → Entry → Entry → Ordering
+by_key o a b = nat_cmp (key_of o b.vm b.file) (key_of o a.vm a.file)
+
+-- labels of a table: the larger key first, and of one key the lesser label, byte by byte
+abbrev pub label_cmp : RowOptions → Table → List ℕ → List ℕ → Ordering
+label_cmp o t a b = ordering_then (by_key o (label_entry t a) (label_entry t b)) (slice_cmp nat_cmp a b)
+
+abbrev pub has_shown : RowOptions → Table → List ℕ → Bool
+has_shown o t label = is_shown o (vm_sum (under label t)) (file_sum (under label t))
+
+-- the children of a table: its labels with a shown size above 0, in order
+unfoldable pub children : RowOptions → Table → List (List ℕ)
+children o t = in_order (label_cmp o t) (filter (has_shown o t) (first_labels t))
+
+-- Where a limit is above 0 and there are more, so many stay, and the others are one more that stands by its key, before
+-- a label of the same key.
+unfoldable pub limited : RowOptions → List Entry → List Entry
+limited o entries =
+    if o.limit == 0 || nat_le (length entries) o.limit then entries
+    else placed (by_key o) (others_entry (drop o.limit entries)) (take o.limit entries)
+
+-- what stands in the level under a table
+abbrev pub entries_of : RowOptions → Table → List Entry
+entries_of o t = limited o (map (label_entry t) (children o t))
+
+abbrev pub row_of : ℕ → Entry → Row
+row_of level e = record { level = level; kind = e.kind; vm = e.vm; file = e.file }
+
+-- the rows of so many levels under a table, the first of them at this level; what stands under a row follows it
+unfoldable pub listing : RowOptions → ℕ → ℕ → Table → List Row
+listing o zero level t = []
+listing o (suc levels) level t = flat_map (λ (e : Entry). row_of level e ∷ listing o levels (level + 1) e.below) (entries_of o t)
+
+-- the rows of a report
+abbrev pub row_tree : RowOptions → Totals → RowTree
+row_tree o totals = record { depth = totals.depth; vm = vm_sum totals.rows; file = file_sum totals.rows; rows = listing o totals.depth 0 totals.rows }

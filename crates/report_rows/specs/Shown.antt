@@ -1,0 +1,18 @@
+-- Which sizes are shown.
+use Rattle.std.specs.Prelude.{ℕ, Bool, true, false, if◌then◌else◌}
+use Rattle.size_core.specs.declared.choices.Domain.{Domain}
+use Rattle.size_core.specs.declared.choices.Domain.TheVariants.{Vm, File, Both}
+
+abbrev pub shows_vm : Domain → Bool
+shows_vm Vm = true
+shows_vm File = false
+shows_vm Both = true
+
+abbrev pub shows_file : Domain → Bool
+shows_file Vm = false
+shows_file File = true
+shows_file Both = true
+
+-- a size that is not shown counts as 0
+abbrev pub shown : Bool → ℕ → ℕ
+shown shows size = if shows then size else 0

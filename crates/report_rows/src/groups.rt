@@ -1,0 +1,262 @@
+//! The labels of a level, each with its rows, in the order of a report.
+
+ghost use Rattle.std.specs.Prelude.{◌≡◌, ◌≢◌, ◌+◌, ◌-◌, ◌^◌, ◌<◌, ◌≤◌, ◌++◌, [], ◌∷◌, ℕ, All, length, map, filter, take, get_or, nat_le, IfOk, OnOk, if◌then◌else◌};
+ghost use Rattle.std.specs.List.{sum_by, position_or_len};
+ghost use Rattle.report_rows.specs.Groups.{table_at, labels_at, group_label, group_entry, IsPart, IsGroup, IsBorder, IsRange, KeepsRanges, LimitsEntries};
+ghost use Rattle.report_rows.specs.Keys.{key_of, is_shown};
+ghost use Rattle.report_rows.specs.Rows.{children, entries_of, has_shown};
+ghost use Rattle.report_rows.specs.Tables.{vm_sum, file_sum, first_labels};
+
+use crate::row::RowOptions;
+use rollup::RollupRow;
+use size_core::{Domain, NoMemory, Sort};
+use std::alloc::Global;
+use std::cmp::Reverse;
+
+/// What a group stands for.
+#[derive(Clone, Copy, PartialEq, Eq, PartialOrd, Ord, Debug)]
+pub enum Kind {
+    /// One label.
+    Label,
+    /// So many labels that a limit left over.
+    Others(u64),
+}
+
+/// The rows of a rollup from `from` up to `to`, which share a label; or labels left over, with no rows. Groups
+/// come in the order of a report: the larger key first, and of one key the lesser label, which stands first
+/// among the rows.
+#[derive(Clone, Copy, PartialEq, Eq, PartialOrd, Ord, Debug)]
+pub struct Group {
+    pub key: Reverse<u64>,
+    pub from: usize,
+    pub to: usize,
+    pub kind: Kind,
+    pub vm: u64,
+    pub file: u64,
+}
+
+/// The sizes of rows, added up: mapped addresses, and file bytes.
+pub fn sums(rows: &[&RollupRow]) -> (u64, u64)
+    requires vm_fits { vm_sum (map (λ r. r.now) rows.now) ≤ 2 ^ 63 - 1 }
+    requires file_fits { file_sum (map (λ r. r.now) rows.now) ≤ 2 ^ 63 - 1 }
+    ensures vm { result.0 ≡ vm_sum (map (λ r. r.now) rows.now) }
+    ensures file { result.1 ≡ file_sum (map (λ r. r.now) rows.now) }
+{
+    let mut vm = 0;
+    let mut file = 0;
+    for row in rows {
+        vm += row.vm;
+        file += row.file;
+    }
+    (vm, file)
+}
+
+// How many rows at the front share their label of a level.
+fn run_len(rows: &[&RollupRow], level: usize) -> usize
+    requires some { 0 < length rows.now }
+    requires deep { All (λ r. level < length r.now.path) rows.now }
+    ensures some { 0 < result }
+    ensures within { result ≤ length rows.now }
+    ensures same { let labels = labels_at level (map (λ r. r.now) rows.now) in
+        (k : ℕ) → k < result → get_or labels k [] ≡ get_or labels 0 [] }
+    ensures next { let labels = labels_at level (map (λ r. r.now) rows.now) in
+        result < length rows.now → get_or labels result [] ≢ get_or labels 0 [] }
+{
+    let label = rows[0].path.get(level).as_slice();
+    for (i, row) in rows.iter().enumerate() {
+        if row.path.get(level).as_slice() != label {
+            return i;
+        }
+    }
+    rows.len()
+}
+
+// The shown size that orders.
+fn key(options: &RowOptions, vm: u64, file: u64) -> u64
+    ensures { result ≡ key_of options.now vm file }
+{
+    let vm = if options.domain == Domain::File {
+        0
+    } else {
+        vm
+    };
+    let file = if options.domain == Domain::Vm {
+        0
+    } else {
+        file
+    };
+    match options.sort {
+        Sort::Vm => vm,
+        Sort::File => file,
+        Sort::Both => vm.max(file),
+    }
+}
+
+// Whether a shown size is above 0.
+fn is_shown(options: &RowOptions, vm: u64, file: u64) -> bool
+    ensures { result ≡ is_shown options.now vm file }
+{
+    match options.domain {
+        Domain::Vm => vm > 0,
+        Domain::File => file > 0,
+        Domain::Both => vm > 0 || file > 0,
+    }
+}
+
+// The group that begins at a row whose label no earlier row has.
+fn make_group(
+    options: &RowOptions,
+    depth: u32,
+    rows: &[&RollupRow],
+    level: u32,
+    from: usize,
+) -> Group
+    requires part { IsPart depth level (map (λ r. r.now) rows.now) }
+    requires below { level < depth }
+    requires inside { from < length rows.now }
+    requires border { IsBorder (labels_at level (map (λ r. r.now) rows.now)) from }
+    ensures first { result.from ≡ from }
+    ensures group { IsGroup options.now level (map (λ r. r.now) rows.now) result }
+    ensures border { IsBorder (labels_at level (map (λ r. r.now) rows.now)) result.to }
+    ensures same { let labels = labels_at level (map (λ r. r.now) rows.now) in
+        (k : ℕ) → from ≤ k → k < result.to → get_or labels k [] ≡ get_or labels from [] }
+{
+    let to = from + run_len(&rows[from..], level as usize);
+    let (vm, file) = sums(&rows[from..to]);
+    Group {
+        key: Reverse(key(options, vm, file)),
+        from,
+        to,
+        kind: Kind::Label,
+        vm,
+        file,
+    }
+}
+
+// Adds a group that has a shown size above 0.
+fn keep(options: &RowOptions, groups: &mut Vec<Group>, group: Group) -> Result<(), NoMemory>
+    ensures { OnOk result (groups.new.items ≡ groups.old.items ++ (if is_shown options.now group.vm group.file then group ∷ [] else [])) }
+{
+    if is_shown(options, group.vm, group.file) {
+        groups.push(group)?;
+    }
+    Ok(())
+}
+
+// The groups of a level with a shown size above 0, in the order of the rows.
+fn groups_of(
+    alloc: Global,
+    options: &RowOptions,
+    depth: u32,
+    rows: &[&RollupRow],
+    level: u32,
+) -> Result<Vec<Group>, NoMemory>
+    requires part { IsPart depth level (map (λ r. r.now) rows.now) }
+    requires below { level < depth }
+    ensures labels { let all = map (λ r. r.now) rows.now in let table = table_at level all in
+        IfOk result (λ groups. map (group_label level all) groups.items ≡ filter (has_shown options.now table) (first_labels table)) }
+    ensures groups { IfOk result (λ groups. All (IsGroup options.now level (map (λ r. r.now) rows.now)) groups.items) }
+{
+    let mut groups = Vec::new(alloc);
+    let mut from = 0;
+    while from < rows.len() {
+        let group = make_group(options, depth, rows, level, from);
+        keep(options, &mut groups, group)?;
+        from = group.to;
+    }
+    Ok(groups)
+}
+
+// The labels of a level with a shown size above 0, in order.
+fn children(
+    alloc: Global,
+    options: &RowOptions,
+    depth: u32,
+    rows: &[&RollupRow],
+    level: u32,
+) -> Result<Vec<Group>, NoMemory>
+    requires part { IsPart depth level (map (λ r. r.now) rows.now) }
+    requires below { level < depth }
+    ensures labels { let all = map (λ r. r.now) rows.now in
+        IfOk result (λ groups. map (group_label level all) groups.items ≡ children options.now (table_at level all)) }
+    ensures groups { IfOk result (λ groups. All (IsGroup options.now level (map (λ r. r.now) rows.now)) groups.items) }
+{
+    let mut groups = groups_of(alloc, options, depth, rows, level)?;
+    groups.sort_unstable();
+    Ok(groups)
+}
+
+// Groups that are left over, taken together.
+fn others(options: &RowOptions, left: &[Group]) -> Group
+    requires vm_fits { sum_by (λ g. g.vm) left.now ≤ 2 ^ 63 - 1 }
+    requires file_fits { sum_by (λ g. g.file) left.now ≤ 2 ^ 63 - 1 }
+    ensures kind { result.kind ≡ Kind.Others (length left.now) }
+    ensures none { (result.from ≡ 0) × (result.to ≡ 0) }
+    ensures vm { result.vm ≡ sum_by (λ g. g.vm) left.now }
+    ensures file { result.file ≡ sum_by (λ g. g.file) left.now }
+    ensures key { result.key.0 ≡ key_of options.now result.vm result.file }
+{
+    let mut vm = 0;
+    let mut file = 0;
+    for group in left {
+        vm += group.vm;
+        file += group.file;
+    }
+    Group {
+        key: Reverse(key(options, vm, file)),
+        from: 0,
+        to: 0,
+        kind: Kind::Others(left.len() as u64),
+        vm,
+        file,
+    }
+}
+
+// Where a group of others stands: before the first group whose key is not larger.
+fn place(groups: &[Group], others: &Group) -> usize
+    ensures { result ≡ position_or_len (λ g. nat_le g.key.0 others.now.key.0) groups.now }
+{
+    for (i, group) in groups.iter().enumerate() {
+        if group.key.0 <= others.key.0 {
+            return i;
+        }
+    }
+    groups.len()
+}
+
+// Leaves the groups within the limit, and one of the others where there are more.
+fn limit(options: &RowOptions, groups: &mut Vec<Group>) -> Result<(), NoMemory>
+    requires vm_fits { sum_by (λ g. g.vm) groups.old.items ≤ 2 ^ 63 - 1 }
+    requires file_fits { sum_by (λ g. g.file) groups.old.items ≤ 2 ^ 63 - 1 }
+    ensures entries { OnOk result (LimitsEntries options.now groups.old.items groups.new.items) }
+    ensures ranges { OnOk result (KeepsRanges groups.old.items groups.new.items) }
+{
+    let kept = options.limit as usize;
+    if kept == 0 || groups.len() <= kept {
+        return Ok(());
+    }
+    let others = others(options, &groups[kept..]);
+    groups.truncate(kept);
+    let place = place(groups.as_slice(), &others);
+    groups.insert(place, others)?;
+    Ok(())
+}
+
+/// What stands in a level under these rows, in the order of a report.
+pub fn entries(
+    alloc: Global,
+    options: &RowOptions,
+    depth: u32,
+    rows: &[&RollupRow],
+    level: u32,
+) -> Result<Vec<Group>, NoMemory>
+    requires part { IsPart depth level (map (λ r. r.now) rows.now) }
+    requires below { level < depth }
+    ensures entries { let all = map (λ r. r.now) rows.now in
+        IfOk result (λ groups. map (group_entry level all) groups.items ≡ entries_of options.now (table_at level all)) }
+    ensures ranges { IfOk result (λ groups. All (IsRange level (map (λ r. r.now) rows.now)) groups.items) }
+{
+    let mut groups = children(alloc, options, depth, rows, level)?;
+    limit(options, &mut groups)?;
+    Ok(groups)
+}

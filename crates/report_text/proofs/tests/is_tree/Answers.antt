@@ -1,0 +1,18 @@
+use Rattle.std.proofs.Common.{◌≡◌, Bool, true, false, not, refl, subst, sym, ◌∙◌}
+use mathlib.Core.Bool.{beq}
+use Rattle.report_rows.specs.Trees.{AreLevels}
+use Rattle.report_text.proofs.RecordLemmas.{rows-from}
+use Rattle.report_text.proofs.tests.is_tree.Goals as goal
+
+differ : (a b : Bool) → beq a b ≡ false → a ≡ not b
+differ true true e = e
+differ true false e = refl
+differ false true e = refl
+differ false false e = sym e
+
+pub loop-i-preserved : goal.loop-i-preserved
+loop-i-preserved c = λ all.
+    let row = c.get-row.result.now in
+    let rows = c.args.tree.now.rows in
+    let is = sym (c.has_children.ensures row c.get-row.ensures) ∙ (differ c.has_children.result c.is_last.result c.if-has_children-is_last.false ∙ rw c.is_last.ensures refl) in
+    c.loop-i.invariant (subst (AreLevels c.args.tree.now.depth c.loop-i.highest) (sym (rows-from rows c.loop-i.i row c.get-row.ensures)) (c.if-row-highest.false, c.if-row-tree.false, is, all))

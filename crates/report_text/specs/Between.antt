@@ -1,0 +1,46 @@
+-- What holds between two records of a table that is being written.
+use Rattle.std.specs.Prelude.{◌≡◌, ◌≤◌, ⊤, ℕ, List, [], ◌∷◌, ◌++◌, Some, false, length, take, drop}
+use Rattle.std.specs.List.{flat_map}
+use Rattle.std.specs.declared.option.Option.{Option}
+use Rattle.csv.specs.Writing.{row_text, writer_setup, fields_written, has_written, text_written}
+use Rattle.csv.specs.declared.writer.Writer.{Writer}
+use Rattle.size_core.specs.declared.choices.Domain.{Domain}
+use Rattle.report_rows.specs.declared.row.Row.{Row}
+use Rattle.report_rows.specs.declared.row.RowKind.{RowKind}
+use Rattle.report_rows.specs.declared.row.RowKind.TheVariants.{Label, Others}
+use Rattle.report_rows.specs.declared.row.RowTree.{RowTree}
+use Rattle.report_rows.specs.Trees.{AreLevels}
+use Rattle.report_text.specs.Labels.{others_text}
+use Rattle.report_text.specs.Records.{Fields, delimited, labels_above, leaf_records}
+
+-- a writer puts this byte between fields, stands between two records, and has written this text
+pub record IsReady {W : Type 0} (contents : W → Option (List ℕ)) (delimiter : ℕ) (w : Writer W) (text : List ℕ) : Type 0 where
+  pub set : writer_setup w ≡ delimited delimiter
+  pub none : fields_written w ≡ 0
+  pub clean : has_written w ≡ false
+  pub is : text_written contents w ≡ Some text
+
+-- a path has the labels that a next row stands under, whatever its level up to a highest one
+pub record IsPath (highest : ℕ) (path : Fields) (before : List Row) : Type 0 where
+  pub long : highest ≤ length path
+  pub labels : (level : ℕ) → level ≤ highest → take level path ≡ labels_above level before
+
+-- so many rows of a tree are behind; what is written, with the records of the others, is the whole
+pub record HasCome {W : Type 0} (contents : W → Option (List ℕ)) (delimiter : ℕ) (t : RowTree) (domain : Domain) (whole : List ℕ) (i : ℕ) (path : Fields) (w : Writer W) : Type 0 where
+  pub before : List Row
+  pub highest : ℕ
+  pub text : List ℕ
+  pub levels : AreLevels t.depth highest (drop i t.rows)
+  pub on_path : IsPath highest path before
+  pub ready : IsReady contents delimiter w text
+  pub rest : text ++ flat_map (row_text (delimited delimiter)) (leaf_records t.depth domain before (drop i t.rows)) ≡ whole
+
+-- this is the text of a row that is an Others row
+abbrev pub HasText : RowKind → List ℕ → Type 0
+HasText (Label label) text = ⊤
+HasText (Others count) text = text ≡ others_text count
+
+-- a path with a row's label, where it has one
+abbrev pub entered : Fields → RowKind → Fields
+entered path (Label label) = path ++ (label ∷ [])
+entered path (Others count) = path

@@ -1,0 +1,126 @@
+//! The fields of a report's records.
+
+ghost use Rattle.std.specs.Prelude.{◌≡◌, ◌<◌, ◌++◌, ◌∷◌, [], map, replicate, IfOk, OnOk};
+ghost use Rattle.report_text.specs.Between.{HasText};
+ghost use Rattle.report_text.specs.Labels.{kind_text};
+ghost use Rattle.report_text.specs.Records.{header_fields, vm_first, path_fields};
+
+use crate::labels::push_others;
+use report_rows::{Row, RowKind};
+use size_core::{Domain, Names, NoMemory};
+use std::alloc::Global;
+
+/// Adds a field.
+pub fn push<'a>(fields: &mut Vec<&'a [u8]>, field: &'a [u8]) -> Result<(), NoMemory>
+    ensures { OnOk result (map (λ f. f.now) fields.new.items ≡ map (λ f. f.now) fields.old.items ++ field.now ∷ []) }
+{
+    fields.push(field)?;
+    Ok(())
+}
+
+/// Adds a field for each shown size.
+pub fn push_shown<'a>(
+    fields: &mut Vec<&'a [u8]>,
+    domain: Domain,
+    vm: &'a [u8],
+    file: &'a [u8],
+) -> Result<(), NoMemory>
+    ensures { OnOk result (map (λ f. f.now) fields.new.items ≡ map (λ f. f.now) fields.old.items ++ vm_first domain vm.now file.now) }
+{
+    match domain {
+        Domain::Vm => push(fields, vm),
+        Domain::File => push(fields, file),
+        Domain::Both => {
+            push(fields, vm)?;
+            push(fields, file)
+        }
+    }
+}
+
+// The names of data sources.
+fn names<'a>(alloc: Global, sources: &'a Names) -> Result<Vec<&'a [u8]>, NoMemory>
+    ensures { IfOk result (λ v. map (λ f. f.now) v.items ≡ sources.now) }
+{
+    let mut fields = Vec::new(alloc);
+    for i in 0..sources.len() {
+        push(&mut fields, sources.get(i).as_slice())?;
+    }
+    Ok(fields)
+}
+
+/// The fields of the first record.
+#[tactic(auto, unfolding(crate::specs::Records::header_fields))]
+pub fn header<'a>(
+    alloc: Global,
+    sources: &'a Names,
+    domain: Domain,
+) -> Result<Vec<&'a [u8]>, NoMemory>
+    ensures { IfOk result (λ v. map (λ f. f.now) v.items ≡ header_fields sources.now domain) }
+{
+    let mut fields = names(alloc, sources)?;
+    push_shown(&mut fields, domain, b"vmsize", b"filesize")?;
+    Ok(fields)
+}
+
+/// The text of an Others row, and nothing for a label.
+pub fn others_text(alloc: Global, kind: &RowKind) -> Result<Vec<u8>, NoMemory>
+    ensures { IfOk result (λ v. HasText kind.now v.items) }
+{
+    let mut text = Vec::new(alloc);
+    if let RowKind::Others(count) = kind {
+        push_others(&mut text, *count)?;
+    }
+    Ok(text)
+}
+
+// The text of a row, where `others` is that of an Others row.
+fn kind_text<'a>(kind: &'a RowKind, others: &'a [u8]) -> &'a [u8]
+    requires { HasText kind.now others.now }
+    ensures { result.now ≡ kind_text kind.now }
+{
+    match kind {
+        RowKind::Label(label) => label.as_slice(),
+        RowKind::Others(_) => others,
+    }
+}
+
+// Adds so many empty fields.
+fn push_empty<'a>(fields: &mut Vec<&'a [u8]>, count: usize) -> Result<(), NoMemory>
+    ensures { OnOk result (map (λ f. f.now) fields.new.items ≡ map (λ f. f.now) fields.old.items ++ replicate count []) }
+{
+    for _field in 0..count {
+        push(fields, b"")?;
+    }
+    Ok(())
+}
+
+// The labels of a path.
+fn labels<'a, 'p: 'a>(alloc: Global, path: &[&'p [u8]]) -> Result<Vec<&'a [u8]>, NoMemory>
+    ensures { IfOk result (λ v. map (λ f. f.now) v.items ≡ map (λ f. f.now) path.now) }
+{
+    let mut fields = Vec::new(alloc);
+    for label in path {
+        push(&mut fields, *label)?;
+    }
+    Ok(fields)
+}
+
+/// The fields of a row's path, where `above` has the labels that it stands under and `others` is its text if it is an
+/// Others row.
+#[tactic(auto, unfolding(crate::specs::Records::path_fields))]
+pub fn path_fields<'a, 'p: 'a>(
+    alloc: Global,
+    depth: u32,
+    above: &[&'p [u8]],
+    row: &'a Row,
+    others: &'a [u8],
+) -> Result<Vec<&'a [u8]>, NoMemory>
+    requires below { row.now.level < depth }
+    requires text { HasText row.now.kind others.now }
+    ensures { IfOk result (λ v. map (λ f. f.now) v.items ≡ path_fields depth (map (λ f. f.now) above.now) row.now) }
+{
+    let mut fields = labels(alloc, above)?;
+    push(&mut fields, kind_text(&row.kind, others))?;
+    push_empty(&mut fields, (depth - (row.level + 1)) as usize)?;
+    Ok(fields)
+}

@@ -1,0 +1,94 @@
+//! How rows are named.
+
+ghost use Rattle.std.specs.Prelude.{◌≡◌, ◌++◌, ◌<◌, length, OnOk};
+ghost use Rattle.report_text.specs.Labels.{others_text, ends, shortened, escaped, escaped_byte, label_text, hex_digit};
+
+use crate::pieces::push;
+use itoa::Buffer;
+use report_rows::RowKind;
+use size_core::NoMemory;
+use std::alloc::Global;
+
+// A digit of base 16.
+fn hex_digit(digit: u8) -> u8
+    requires { digit < 16 }
+    ensures { result ≡ hex_digit digit }
+{
+    if digit < 10 {
+        b'0' + digit
+    } else {
+        b'a' - 10 + digit
+    }
+}
+
+// Adds a byte, a control byte by its number.
+fn push_byte(out: &mut Vec<u8>, byte: u8) -> Result<(), NoMemory>
+    ensures { OnOk result (out.new.items ≡ out.old.items ++ escaped_byte byte) }
+{
+    if byte < 0x20 || byte == 0x7f {
+        let digits = [b'\\', b'x', hex_digit(byte / 16), hex_digit(byte % 16)];
+        return push(out, &digits);
+    }
+    push(out, &[byte])
+}
+
+// Adds a text with its control bytes by their numbers.
+fn push_escaped(out: &mut Vec<u8>, text: &[u8]) -> Result<(), NoMemory>
+    ensures { OnOk result (out.new.items ≡ out.old.items ++ escaped text.now) }
+{
+    for byte in text {
+        push_byte(out, *byte)?;
+    }
+    Ok(())
+}
+
+// Adds the first 28 bytes of a text, what stands for the middle, and the last 27.
+fn push_ends(out: &mut Vec<u8>, text: &[u8]) -> Result<(), NoMemory>
+    requires { 60 < length text.now }
+    ensures { OnOk result (out.new.items ≡ out.old.items ++ escaped (ends text.now)) }
+{
+    push_escaped(out, &text[..28])?;
+    push_escaped(out, b"[...]")?;
+    push_escaped(out, &text[text.len() - 27..])?;
+    Ok(())
+}
+
+// Adds a text, shortened unless it is wanted whole.
+fn push_shortened(out: &mut Vec<u8>, text: &[u8], wide: bool) -> Result<(), NoMemory>
+    ensures { OnOk result (out.new.items ≡ out.old.items ++ escaped (shortened wide text.now)) }
+{
+    if wide || text.len() <= 60 {
+        return push_escaped(out, text);
+    }
+    push_ends(out, text)
+}
+
+/// Adds the text of labels that a limit left over.
+#[tactic(auto, unfolding(crate::specs::Labels::others_text))]
+pub fn push_others(out: &mut Vec<u8>, count: u64) -> Result<(), NoMemory>
+    ensures { OnOk result (out.new.items ≡ out.old.items ++ others_text count) }
+{
+    let mut buffer = Buffer::new();
+    push(out, b"[")?;
+    push(out, buffer.format(count).as_bytes())?;
+    push(out, b" Others]")
+}
+
+/// Adds what a line shows of a row's text.
+pub fn push_label(
+    alloc: Global,
+    out: &mut Vec<u8>,
+    kind: &RowKind,
+    wide: bool,
+) -> Result<(), NoMemory>
+    ensures { OnOk result (out.new.items ≡ out.old.items ++ label_text wide kind.now) }
+{
+    match kind {
+        RowKind::Label(label) => push_shortened(out, label.as_slice(), wide),
+        RowKind::Others(count) => {
+            let mut others = Vec::new(alloc);
+            push_others(&mut others, *count)?;
+            push_shortened(out, others.as_slice(), wide)
+        }
+    }
+}

@@ -1,0 +1,33 @@
+//! Bytes that are added to a text.
+
+ghost use Rattle.std.specs.Prelude.{◌≡◌, ◌++◌, OnOk};
+ghost use Rattle.report_text.specs.Numbers.{right, spaces};
+
+use size_core::NoMemory;
+
+/// Adds bytes.
+pub fn push(out: &mut Vec<u8>, bytes: &[u8]) -> Result<(), NoMemory>
+    ensures { OnOk result (out.new.items ≡ out.old.items ++ bytes.now) }
+{
+    out.extend_from_slice(bytes)?;
+    Ok(())
+}
+
+/// Adds spaces.
+pub fn push_spaces(out: &mut Vec<u8>, count: usize) -> Result<(), NoMemory>
+    ensures { OnOk result (out.new.items ≡ out.old.items ++ spaces count) }
+{
+    for _space in 0..count {
+        push(out, b" ")?;
+    }
+    Ok(())
+}
+
+/// Adds a text at the right of so many places.
+#[tactic(auto, unfolding(crate::specs::Numbers::right))]
+pub fn push_right(out: &mut Vec<u8>, places: usize, text: &[u8]) -> Result<(), NoMemory>
+    ensures { OnOk result (out.new.items ≡ out.old.items ++ right places text.now) }
+{
+    push_spaces(out, places.saturating_sub(text.len()))?;
+    push(out, text)
+}

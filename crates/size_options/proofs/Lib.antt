@@ -1,0 +1,5 @@
+pub mod CommandLemmas
+pub mod Limits
+pub mod NameLemmas
+pub mod Numbers
+pub mod UsageLemmas

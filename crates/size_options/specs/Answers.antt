@@ -1,0 +1,53 @@
+-- What the answers to the words of a run mean.
+use Rattle.std.specs.Prelude.{◌≡◌, ◌≢◌, ◌<◌, ◌≤◌, ℕ, Bool, false, List, [], Option, None, Some, Err, All, length}
+use Rattle.clap.specs.Words.{Kinds, Text}
+use Rattle.size_options.specs.Asked.{asked}
+use Rattle.size_options.specs.Command.{errors_of, takes_words}
+use Rattle.size_options.specs.Words.{profile_words}
+use Rattle.size_options.specs.declared.answer.OptionAnswer.{OptionAnswer}
+use Rattle.size_options.specs.declared.answer.OptionAnswer.TheVariants.{NoMemory, Usage}
+use Rattle.size_options.specs.declared.answer.UsageKind.{UsageKind}
+use Rattle.size_options.specs.declared.answer.UsageKind.TheVariants.{Words}
+use Rattle.size_options.specs.declared.chosen.Options.{Options}
+
+-- by clap's definition only want of memory keeps the words before the mark from being read
+abbrev pub are_taken : List Text → Bool
+are_taken words = takes_words (profile_words words)
+
+-- the kinds of error that clap's definition gives for the words before the mark
+abbrev pub word_errors : List Text → Kinds
+word_errors words = errors_of (profile_words words)
+
+-- these words can't be read
+abbrev pub IsUnread : List Text → UsageKind → Type 0
+IsUnread words Words = (takes_words words ≡ false) × (errors_of words ≢ [])
+IsUnread words _ = ⊥
+
+-- why there are no matches: these words can't be read; want of memory has no cause
+abbrev pub IsUnreadAnswer : List Text → OptionAnswer → Type 0
+IsUnreadAnswer words NoMemory = Unit {0}
+IsUnreadAnswer words (Usage kind) = IsUnread words kind
+
+-- the words are misused in this way: they can't be read, or they are read and this is what they come to
+pub record IsUsageOf (words : List Text) (kind : UsageKind) : Type 0 where
+  pub not_taken : kind ≡ Words → are_taken words ≡ false
+  pub unread : kind ≡ Words → word_errors words ≢ []
+  pub read : kind ≢ Words → word_errors words ≡ []
+  pub first : kind ≢ Words → asked words ≡ Err kind
+
+-- the cause of a refusal; want of memory has none
+abbrev pub IsRefusalOf : List Text → OptionAnswer → Type 0
+IsRefusalOf words NoMemory = Unit {0}
+IsRefusalOf words (Usage kind) = IsUsageOf words kind
+
+-- a number of at most a million stands for the one file, and else there are files
+abbrev pub HasInput : Option ℕ → List Text → Type 0
+HasInput None files = 0 < length files
+HasInput (Some n) files = (n ≤ 1000000) × (files ≡ [])
+
+-- there are one to eight data sources, each with a name, and something to read
+pub record KeepsLimits (o : Options) : Type 0 where
+  pub some_source : 0 < length o.sources
+  pub few_sources : length o.sources ≤ 8
+  pub named : All (λ name. name ≢ []) o.sources
+  pub input : HasInput o.synth o.files

@@ -1,0 +1,64 @@
+-- What the words of a run ask for, or the first thing that is wrong with them.
+use Rattle.std.specs.Prelude.{Bool, not, ◌&&◌, ◌||◌, ◌==◌, List, [], ◌∷◌, Option, None, Some, Result, Ok, Err, codes, if◌then◌else◌, is_none, is_some, length, option_and_then, unwrap_or}
+use Rattle.clap.specs.Words.{Text}
+use Rattle.size_core.specs.declared.choices.Domain.TheVariants as domain
+use Rattle.size_core.specs.declared.choices.Format.{Format}
+use Rattle.size_core.specs.declared.choices.Format.TheVariants as format
+use Rattle.size_core.specs.declared.choices.Sort.TheVariants as sort
+use Rattle.size_options.specs.Command.{rows_by}
+use Rattle.size_options.specs.Given.{GivenTexts, given_in}
+use Rattle.size_options.specs.Values.{domain_of, is_bad, is_bad_list, names_in, number_of, small_number_of, sort_of, value_or}
+use Rattle.size_options.specs.Words.{has_mark, profile_words}
+use Rattle.size_options.specs.declared.answer.UsageKind.{UsageKind}
+use Rattle.size_options.specs.declared.answer.UsageKind.TheVariants.{BadNumber, BadSort, BadDomain, TwoFormats, BadSourceList, NoFile, SynthWithFile, NoBase}
+use Rattle.size_options.specs.declared.chosen.Options.{Options}
+
+-- the names of the data sources: those of `-d`, or `sections` alone
+abbrev pub source_names : GivenTexts → List Text
+source_names g = names_in (unwrap_or g.sources (codes "sections"))
+
+-- each kind of misuse beside its test, in the order in which they are tried
+abbrev pub usage_tests : GivenTexts → Bool → List (Bool × UsageKind)
+usage_tests g is_marked = (is_bad number_of g.limit || is_bad small_number_of g.synth, BadNumber)
+    ∷ (is_bad sort_of g.sort, BadSort)
+    ∷ (is_bad domain_of g.domain, BadDomain)
+    ∷ (g.csv && g.tsv, TwoFormats)
+    ∷ (is_bad_list (source_names g), BadSourceList)
+    ∷ (length g.files == 0 && is_none g.synth, NoFile)
+    ∷ (not (length g.files == 0) && is_some g.synth, SynthWithFile)
+    ∷ (is_marked, NoBase) ∷ []
+
+-- the kind of the first test that holds
+abbrev pub first_usage : List (Bool × UsageKind) → Option UsageKind
+first_usage [] = None
+first_usage (p ∷ ps) = if p.0 then Some p.1 else first_usage ps
+
+abbrev pub format_of : GivenTexts → Format
+format_of g = if g.csv then format.Csv else (if g.tsv then format.Tsv else format.Text)
+
+-- the options that are given, and for each other one its default
+abbrev pub options_in : GivenTexts → Options
+options_in g = record {
+  sources = source_names g;
+  limit = value_or number_of 20 g.limit;
+  sort = value_or sort_of sort.Both g.sort;
+  domain = value_or domain_of domain.Both g.domain;
+  wide = g.wide;
+  format = format_of g;
+  filter = g.filter;
+  config = g.config;
+  synth = option_and_then small_number_of g.synth;
+  files = g.files;
+}
+
+abbrev pub unless_usage : Option UsageKind → Options → Result Options UsageKind
+unless_usage None options = Ok options
+unless_usage (Some kind) options = Err kind
+
+-- what the matches of the words before the mark hold
+abbrev pub given_by : List Text → GivenTexts
+given_by words = given_in (rows_by (profile_words words))
+
+-- what the words ask for by the matches that clap's definition gives: the options, or the first kind of misuse other than words that can't be read
+unfoldable pub asked : List Text → Result Options UsageKind
+asked words = unless_usage (first_usage (usage_tests (given_by words) (has_mark words))) (options_in (given_by words))

@@ -1,0 +1,57 @@
+//! Why words are no options.
+
+ghost use Rattle.std.specs.Prelude.{◌≡◌};
+ghost use Rattle.size_options.specs.declared.answer.OptionAnswer.TheVariants.{NoMemory as OutOfMemory};
+
+use size_core::NoMemory;
+use std::alloc::AllocError;
+
+/// How the words are misused. Where several kinds apply, the first in this order is the answer.
+#[derive(Clone, Copy, Debug, PartialEq, Eq, Hash)]
+pub enum UsageKind {
+    /// The words can't be read: an unknown option, an option without its value, an option that is given
+    /// twice.
+    Words,
+    /// The value of `-n` or `--synth` is no number of one to ten digits below 2^32, or that of `--synth`
+    /// is above 1,000,000.
+    BadNumber,
+    /// The value of `-s` is none of `vm`, `file` and `both`.
+    BadSort,
+    /// The value of `--domain` is none of `vm`, `file` and `both`.
+    BadDomain,
+    /// `--csv` and `--tsv` are both given.
+    TwoFormats,
+    /// A name in the value of `-d` is empty, or there are more than eight.
+    BadSourceList,
+    /// There is neither a file nor `--synth`.
+    NoFile,
+    /// There are both `--synth` and a file.
+    SynthWithFile,
+    /// There is a word `--`, after which base files would stand; none are read.
+    NoBase,
+}
+
+/// Why there are no options.
+#[derive(Clone, Copy, Debug, PartialEq, Eq, Hash)]
+pub enum OptionAnswer {
+    /// The words are misused.
+    Usage(UsageKind),
+    /// There was not enough memory.
+    NoMemory,
+}
+
+impl From<NoMemory> for OptionAnswer {
+    ghost from_gives = { λ _ e. e ≡ OutOfMemory };
+
+    fn from(_: NoMemory) -> OptionAnswer {
+        OptionAnswer::NoMemory
+    }
+}
+
+impl From<AllocError> for OptionAnswer {
+    ghost from_gives = { λ _ e. e ≡ OutOfMemory };
+
+    fn from(_: AllocError) -> OptionAnswer {
+        OptionAnswer::NoMemory
+    }
+}

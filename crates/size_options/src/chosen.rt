@@ -1,0 +1,138 @@
+//! The options of a run.
+
+ghost use Rattle.std.specs.Prelude.{◌≡◌, IfOk, map, option_and_then, option_map};
+ghost use Rattle.size_core.specs.declared.choices.Domain.TheVariants as domain;
+ghost use Rattle.size_core.specs.declared.choices.Sort.TheVariants as sort;
+ghost use Rattle.size_options.specs.Asked.{format_of, options_in};
+ghost use Rattle.size_options.specs.Given.{texts_of};
+ghost use Rattle.size_options.specs.Values.{domain_of, names_in, number_of, small_number_of, sort_of, value_or};
+
+use crate::given::Given;
+use crate::values::{domain_of, number_of, small_number_of, sort_of};
+use size_core::{Domain, Format, Names, NoMemory, Sort, Text};
+use std::alloc::Global;
+
+/// How many children of one path are kept where `-n` isn't given.
+const LIMIT: u32 = 20;
+
+/// The data sources where `-d` isn't given.
+pub const SOURCES: &str = "sections";
+
+/// What the words of a run ask for.
+#[derive(Debug, Drop)]
+pub struct Options {
+    /// The names of the data sources, one to eight, none empty. Whether they are known isn't checked yet.
+    pub sources: Names,
+    /// How many children of one path are kept; 0 is unlimited.
+    pub limit: u32,
+    /// Which size orders the rows.
+    pub sort: Sort,
+    /// Which sizes are shown.
+    pub domain: Domain,
+    /// Labels are written whole in the text report.
+    pub wide: bool,
+    /// How the report is written.
+    pub format: Format,
+    /// The pattern that a byte's labels are searched for.
+    pub filter: Option<Text>,
+    /// The name of the configuration's file.
+    pub config: Option<Text>,
+    /// The number of functions of the made file that is profiled in place of files, at most 1,000,000.
+    pub synth: Option<u32>,
+    /// The names of the files, in order. There is one at least, unless `synth` is given, and then none.
+    pub files: Names,
+}
+
+fn limit_of(value: Option<&str>) -> u32
+    ensures { result ≡ value_or number_of 20 (option_map (λ s. s.now) value.entry) }
+{
+    value.and_then(number_of).unwrap_or(LIMIT)
+}
+
+fn order_of(value: Option<&str>) -> Sort
+    ensures { result ≡ value_or sort_of sort.Both (option_map (λ s. s.now) value.entry) }
+{
+    value.and_then(sort_of).unwrap_or(Sort::Both)
+}
+
+fn shown_by(value: Option<&str>) -> Domain
+    ensures { result ≡ value_or domain_of domain.Both (option_map (λ s. s.now) value.entry) }
+{
+    value.and_then(domain_of).unwrap_or(Domain::Both)
+}
+
+fn synth_of(value: Option<&str>) -> Option<u32>
+    ensures { result ≡ option_and_then small_number_of (option_map (λ s. s.now) value.entry) }
+{
+    value.and_then(small_number_of)
+}
+
+fn format_of(given: &Given<'_, '_>) -> Format
+    ensures { result ≡ format_of (texts_of given.now) }
+{
+    if given.csv {
+        Format::Csv
+    } else if given.tsv {
+        Format::Tsv
+    } else {
+        Format::Text
+    }
+}
+
+fn text_of(alloc: Global, value: Option<&str>) -> Result<Option<Text>, NoMemory>
+    ensures { IfOk result (λ t. t ≡ option_map (λ s. s.now) value.entry) }
+{
+    match value {
+        Some(text) => Ok(Some(Text::of(alloc, text)?)),
+        None => Ok(None),
+    }
+}
+
+fn names_of(alloc: Global, texts: &[&str]) -> Result<Names, NoMemory>
+    ensures { IfOk result (λ n. n ≡ map (λ s. s.now) texts.entry.now) }
+{
+    let mut names = Names::new(alloc);
+    for text in texts {
+        names.push(Text::of(alloc, text)?)?;
+    }
+    Ok(names)
+}
+
+// The names between the commas.
+fn names_in(alloc: Global, list: &str) -> Result<Names, NoMemory>
+    ensures { IfOk result (λ n. n ≡ names_in list.entry.now) }
+{
+    let mut names = Names::new(alloc);
+    let mut left = list;
+    'names: while let Some((name, rest)) = left.split_once(',') {
+        names.push(Text::of(alloc, name)?)?;
+        left = rest;
+    }
+    names.push(Text::of(alloc, left)?)?;
+    Ok(names)
+}
+
+/// The options that were given, and for each other one its default.
+pub fn options_of(alloc: Global, given: &Given<'_, '_>) -> Result<Options, NoMemory>
+    ensures { IfOk result (λ o. o ≡ options_in (texts_of given.entry.now)) }
+{
+    let sources = names_in(alloc, given.sources.unwrap_or(SOURCES))?;
+    let filter = text_of(alloc, given.filter)?;
+    let config = text_of(alloc, given.config)?;
+    let files = match given.files {
+        Some(files) => names_of(alloc, files)?,
+        None => Names::new(alloc),
+    };
+    Ok(Options {
+        sources,
+        limit: limit_of(given.limit),
+        sort: order_of(given.sort),
+        domain: shown_by(given.domain),
+        wide: given.wide,
+        format: format_of(given),
+        filter,
+        config,
+        synth: synth_of(given.synth),
+        files,
+    })
+}

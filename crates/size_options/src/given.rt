@@ -1,0 +1,61 @@
+//! What the matches hold, argument by argument. Above this file nothing sees `clap`.
+
+ghost use Rattle.std.specs.Prelude.{◌≡◌, map, option_map};
+ghost use Rattle.clap.specs.Words.{all_of, first_of, found_of, rows_of};
+ghost use Rattle.size_options.specs.Given.{given_in, is_on, texts_of};
+
+use clap::ArgMatches;
+
+/// The text of each option that is given, which flags are, and the files.
+#[derive(Clone, Copy)]
+pub struct Given<'m, 'a> {
+    pub sources: Option<&'a str>,
+    pub limit: Option<&'a str>,
+    pub sort: Option<&'a str>,
+    pub domain: Option<&'a str>,
+    pub wide: bool,
+    pub csv: bool,
+    pub tsv: bool,
+    pub config: Option<&'a str>,
+    pub filter: Option<&'a str>,
+    pub synth: Option<&'a str>,
+    pub files: Option<&'m [&'a str]>,
+}
+
+fn value_of<'a>(matches: &ArgMatches<'a>, id: &str) -> Option<&'a str>
+    ensures { option_map (λ s. s.now) result ≡ first_of id.now (rows_of (found_of matches.now)) }
+{
+    matches.get_str(id)
+}
+
+fn is_on(matches: &ArgMatches<'_>, id: &str) -> bool
+    ensures { result ≡ is_on id.now (rows_of (found_of matches.now)) }
+{
+    value_of(matches, id).is_some_and(|text| text == "true")
+}
+
+fn values_of<'m, 'a>(matches: &'m ArgMatches<'a>, id: &str) -> Option<&'m [&'a str]>
+    ensures { option_map (λ s. map (λ v. v.now) s.now) result
+        ≡ all_of id.now (rows_of (found_of matches.entry.now)) }
+{
+    matches.get_raw(id)
+}
+
+/// What the matches hold.
+pub fn given_of<'m, 'a>(matches: &'m ArgMatches<'a>) -> Given<'m, 'a>
+    ensures { texts_of result ≡ given_in (rows_of (found_of matches.entry.now)) }
+{
+    Given {
+        sources: value_of(matches, "sources"),
+        limit: value_of(matches, "limit"),
+        sort: value_of(matches, "sort"),
+        domain: value_of(matches, "domain"),
+        wide: is_on(matches, "wide"),
+        csv: is_on(matches, "csv"),
+        tsv: is_on(matches, "tsv"),
+        config: value_of(matches, "config"),
+        filter: value_of(matches, "source-filter"),
+        synth: value_of(matches, "synth"),
+        files: values_of(matches, "FILE"),
+    }
+}

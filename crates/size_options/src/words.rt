@@ -1,0 +1,101 @@
+//! The words of a run.
+
+ghost use Rattle.std.specs.Prelude.{◌≡◌, ◌≤◌, [], None, Ok, IfErr, IfOk, length, map, option_map, position, string_bytes};
+ghost use Rattle.size_options.specs.Answers.{IsRefusalOf, KeepsLimits, word_errors};
+ghost use Rattle.size_options.specs.Asked.{asked, first_usage, usage_tests};
+ghost use Rattle.size_options.specs.Given.{texts_of};
+ghost use Rattle.size_options.specs.Values.{domain_of, is_bad, number_of, small_number_of, sort_of};
+ghost use Rattle.size_options.specs.Words.{is_mark, mark_at, seen_words};
+
+use crate::answer::{OptionAnswer, UsageKind};
+use crate::chosen::{Options, SOURCES, options_of};
+use crate::given::{Given, given_of};
+use crate::matched::matches_of;
+use crate::values::{domain_of, is_bad_list, number_of, small_number_of, sort_of};
+use std::alloc::Global;
+
+fn is_bad_number(value: Option<&str>) -> bool
+    ensures { result ≡ is_bad number_of (option_map (λ s. s.now) value.entry) }
+{
+    value.is_some_and(|text| number_of(text).is_none())
+}
+
+fn is_bad_small_number(value: Option<&str>) -> bool
+    ensures { result ≡ is_bad small_number_of (option_map (λ s. s.now) value.entry) }
+{
+    value.is_some_and(|text| small_number_of(text).is_none())
+}
+
+fn is_bad_sort(value: Option<&str>) -> bool
+    ensures { result ≡ is_bad sort_of (option_map (λ s. s.now) value.entry) }
+{
+    value.is_some_and(|text| sort_of(text).is_none())
+}
+
+fn is_bad_domain(value: Option<&str>) -> bool
+    ensures { result ≡ is_bad domain_of (option_map (λ s. s.now) value.entry) }
+{
+    value.is_some_and(|text| domain_of(text).is_none())
+}
+
+// The first way in which what was given is misused.
+fn usage_of(given: &Given<'_, '_>, is_marked: bool) -> Option<UsageKind>
+    ensures { result ≡ first_usage (usage_tests (texts_of given.now) is_marked) }
+{
+    let has_no_file = given.files.is_none_or(|files| files.is_empty());
+    if is_bad_number(given.limit) || is_bad_small_number(given.synth) {
+        Some(UsageKind::BadNumber)
+    } else if is_bad_sort(given.sort) {
+        Some(UsageKind::BadSort)
+    } else if is_bad_domain(given.domain) {
+        Some(UsageKind::BadDomain)
+    } else if given.csv && given.tsv {
+        Some(UsageKind::TwoFormats)
+    } else if is_bad_list(given.sources.unwrap_or(SOURCES)) {
+        Some(UsageKind::BadSourceList)
+    } else if has_no_file && given.synth.is_none() {
+        Some(UsageKind::NoFile)
+    } else if !has_no_file && given.synth.is_some() {
+        Some(UsageKind::SynthWithFile)
+    } else if is_marked {
+        Some(UsageKind::NoBase)
+    } else {
+        None
+    }
+}
+
+// Where the first mark stands.
+fn mark_found(words: &[String]) -> Option<usize>
+    ensures { result ≡ position (λ w. is_mark (string_bytes w)) words.now }
+{
+    words.iter().position(|word| word.as_str() == "--")
+}
+
+// How many words stand before the first mark, or all of them.
+fn mark_at(words: &[String]) -> usize
+    ensures at { result ≡ mark_at (seen_words words.now) }
+    ensures within { result ≤ length words.now }
+{
+    mark_found(words).unwrap_or(words.len())
+}
+
+/// The options that the words ask for. `words` are those after the program's name; the first word that is
+/// `--` ends the words of the profile, and those before it are read as clap reads the words of a command.
+///
+/// `Usage` tells how the words are misused: `Words` comes only where clap doesn't take the words of the
+/// profile, and each other kind exactly where it is the first that applies. Want of memory may come
+/// instead of any answer.
+pub fn options(alloc: Global, words: &[String]) -> Result<Options, OptionAnswer>
+    ensures asked { IfOk result (λ options. asked (seen_words words.entry.now) ≡ Ok options) }
+    ensures read { IfOk result (λ _. word_errors (seen_words words.entry.now) ≡ []) }
+    ensures limits { IfOk result KeepsLimits }
+    ensures refused { IfErr result (IsRefusalOf (seen_words words.entry.now)) }
+{
+    let end = mark_at(words);
+    let matches = matches_of(alloc, &words[..end])?;
+    let given = given_of(&matches);
+    match usage_of(&given, end < words.len()) {
+        Some(kind) => Err(OptionAnswer::Usage(kind)),
+        None => Ok(options_of(alloc, &given)?),
+    }
+}
