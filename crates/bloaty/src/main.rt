@@ -2,6 +2,7 @@
 #![tactic(auto)]
 
 use bloaty_engine::bloaty;
+use custom_rewrites::RegexPatterns;
 use outside::{HostFiles, HostSink};
 use size_core::Limits;
 use std::io::ErrorKind;
@@ -34,12 +35,14 @@ fn main(rt: HostRuntime) -> ExitCode {
         Err(e) => ExitCode::from(status_without_words(&e)),
         Ok(words) => {
             let mut files = HostFiles::new(&rt);
+            let mut patterns = RegexPatterns::new(Vec::new(rt.alloc()));
             let mut out = HostSink::new(rt.stdout());
             let mut err = HostSink::new(rt.stderr());
             let outcome = bloaty(
                 rt.alloc(),
                 &words,
                 &mut files,
+                &mut patterns,
                 &mut out,
                 &mut err,
                 &Limits::FULL,

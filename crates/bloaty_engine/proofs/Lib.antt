@@ -1,7 +1,9 @@
-pub mod PlacedLemmas
+pub mod CountLemmas
+pub mod FileLemmas
+pub mod HeldLemmas
+pub mod MapLemmas
+pub mod NumberLemmas
+pub mod PlanLemmas
 pub mod ProfileLemmas
-pub mod RowLemmas
 pub mod RunLemmas
-pub mod SizeLemmas
-pub mod TextLemmas
-pub mod TallyLemmas
+pub mod SpellLemmas

@@ -1,99 +1,424 @@
--- What the verdict is, case by case.
-use Rattle.std.proofs.Common.{◌≡◌, ℕ, ◌<◌, ◌≤◌, Bool, true, false, List, length, Option, Some, Ok, Err, inl, inr, refl, sym, ap, ◌∙◌, arith}
-use Rattle.std.specs.Prelude.{nat_lt, ◌⊎◌, if◌then◌else◌}
-use Rattle.std.proofs.lemmas.Grind.{common_steps}
-use Rattle.size_core.specs.declared.fault.BadFile.{BadFile}
+-- How a run ends, by what its steps answer.
+use Rattle.std.proofs.Common.{◌≡◌, ℕ, zero, suc, ◌+◌, ◌≤◌, Bool, true, false, cond, ◌||◌, nat_lt, List, [], ◌∷◌, length, Option, None, Some, Result, Ok, Err, refl, sym, ap, ◌∙◌, arith}
+use Rattle.std.specs.Prelude.{⊤, IfSome, IsOk, slice_get, unwrap_or, Vec}
+use Rattle.std.specs.declared.alloc.Global.{Global}
 use Rattle.size_core.specs.declared.limits.Limits.{Limits}
-use Rattle.size_core.specs.Checks.{Check}
-use Rattle.outside.specs.Held.{Pairs, held_bytes}
-use Rattle.data_sources.specs.declared.answer.ClaimAnswer.{ClaimAnswer}
-use Rattle.data_sources.specs.declared.answer.ClaimAnswer.TheVariants as answer
-use Rattle.data_sources.specs.Kind.{format_fault}
-use Rattle.bloaty_engine.specs.Profile.{sections_of}
-use Rattle.bloaty_engine.specs.Refusal.{refusal}
-use Rattle.bloaty_engine.specs.Run.{HasFault, IsAnswer, IsRead, by_fault, file_limit, file_verdict, verdict, word_verdict}
-use Rattle.bloaty_engine.specs.Words.{file_word}
+use Rattle.size_model.specs.declared.view.FileView.{FileView}
+use Rattle.size_model.specs.Loads.{mapped_count}
+use Rattle.outside.specs.Causes.{Rose}
+use Rattle.outside.specs.Held.{Pairs}
+use Rattle.config_text.specs.declared.config.CustomSource.{CustomSource}
+use Rattle.config_text.specs.Config.{config}
+use Rattle.config_text.specs.Grammar.{Fault as ConfigFault}
+use Rattle.elf_synth.specs.Made.{made}
+use Rattle.rollup.specs.Totals.{IsTotals, Totals}
+use Rattle.report_rows.specs.declared.row.RowOptions.{RowOptions}
+use Rattle.report_rows.specs.Rows.{row_tree}
+use Rattle.size_options.specs.declared.chosen.Options.{Options}
+use Rattle.size_options.specs.declared.answer.UsageKind.{UsageKind}
+use Rattle.size_options.specs.declared.answer.UsageKind.TheVariants as usage
+use Rattle.bloaty_engine.specs.declared.answer.ProfileAnswer.{ProfileAnswer}
+use Rattle.bloaty_engine.specs.declared.answer.ProfileAnswer.TheVariants as profile
 use Rattle.bloaty_engine.specs.declared.outcome.Outcome.{Outcome}
-use Rattle.bloaty_engine.specs.declared.outcome.Outcome.TheVariants.{Done, Usage, TooLong, Bad, TooManyClaims, WriteFailed, NoMemory}
-use Rattle.bloaty_engine.specs.declared.outcome.UsageKind.TheVariants.{Words}
+use Rattle.bloaty_engine.specs.declared.outcome.Outcome.TheVariants.{Done, Usage, ReadFailed, TooLong, Config, UnknownSource, PatternSyntax, PatternTooBig, Bad, TooManyClaims, MappedTooLarge, WriteFailed, NoMemory}
+use Rattle.size_options.specs.Answers.{IsUsageOf, are_taken}
+use Rattle.size_options.specs.Asked.{asked as options_of}
+use Rattle.bloaty_engine.specs.Answers.{IsFinished, EndsReport, IsAnswer, IsAsked, IsReached, IsRun}
+use Rattle.bloaty_engine.specs.Counts.{filter_test}
+use Rattle.bloaty_engine.specs.Named.{AreContents, AreFiles, Contents, IsText, file_name, file_names, name_at, names_of}
+use Rattle.bloaty_engine.specs.Patterns.{ArePatterns}
+use Rattle.bloaty_engine.specs.Plans.{EndsPlan, IsPlan, Plans}
+use Rattle.bloaty_engine.specs.Report.{AreSizes, IsReport, depth_of, printed, report_tree, row_options}
+use Rattle.bloaty_engine.specs.Sources.{Chosen, chosen_before, chosen_from, chosen_named, chosen_sources}
+use Rattle.bloaty_engine.specs.Steps.{EndsConfig, EndsFiles}
+use Rattle.bloaty_engine.specs.Verdict.{◌>>=◌, Request, asked, config_limit, counted_file, counted_from, customs_in, end_at, file_limit, if_config, if_unknown, if_viewed, total_limit, verdict}
+use Rattle.bloaty_engine.specs.Views.{viewed}
+use Rattle.bloaty_engine.proofs.FileLemmas.{some-held}
+use Rattle.bloaty_engine.proofs.HeldLemmas.{held-some}
 
-below : (m n : ℕ) → m < n → nat_lt m n ≡ true
-below m n lt = grind (arith, common_steps)
+ok-same : {X E : Type 0} (x y : X) → ◌≡◌ {A = Result X E} (Ok x) (Ok y) → x ≡ y
+ok-same x y e = cc
 
-not-below : (m n : ℕ) → n ≤ m → nat_lt m n ≡ false
-not-below m n le = grind (arith, common_steps)
+-- What is asked, case by case.
 
--- where the words are taken, the verdict is the file's
-pub verdict-is : (limits : Limits) (words : List (List ℕ)) (pairs : Pairs) (name : List ℕ) → Some name ≡ file_word words → verdict limits words pairs ≡ file_verdict limits (held_bytes pairs name)
-verdict-is limits words pairs name taken = ap (word_verdict limits pairs) (sym taken)
+request-of : Options → List CustomSource → List Chosen → Request
+request-of o customs sources = record { options = o; customs = customs; sources = sources }
 
-pub file-long : (limits : Limits) (file : List ℕ) → file_limit limits < length file → file_verdict limits file ≡ TooLong 1
-unfolding file_verdict
-file-long limits file lt = rw (below (file_limit limits) (length file) lt) refl
+asked-config : (limits : Limits) (o : Options) (contents : Contents) (end : Outcome) → customs_in limits o.config contents.config ≡ Err end → asked limits (Ok o) contents ≡ Err end
+unfolding asked
+asked-config limits o contents end e =
+    ap (λ r. r >>= λ customs. if_unknown (chosen_sources customs o.sources) >>= λ sources. Ok (record { options = o; customs = customs; sources = sources })) e
 
-pub file-bad : (limits : Limits) (file : List ℕ) (bad : BadFile) → length file ≤ file_limit limits → format_fault file ≡ Err bad → file_verdict limits file ≡ Bad 1 bad.fault bad.offset
-unfolding file_verdict
-file-bad limits file bad le e = rw (not-below (file_limit limits) (length file) le, e) refl
+asked-sources : (limits : Limits) (o : Options) (contents : Contents) (customs : List CustomSource) → customs_in limits o.config contents.config ≡ Ok customs
+    → asked limits (Ok o) contents ≡ (if_unknown (chosen_sources customs o.sources) >>= λ sources. Ok (request-of o customs sources))
+unfolding asked request-of
+asked-sources limits o contents customs e =
+    ap (λ r. r >>= λ customs. if_unknown (chosen_sources customs o.sources) >>= λ sources. Ok (record { options = o; customs = customs; sources = sources })) e
 
-pub file-many : (limits : Limits) (file : List ℕ) → length file ≤ file_limit limits → format_fault file ≡ Ok tt → limits.claims < length (sections_of file) → file_verdict limits file ≡ TooManyClaims 1
-unfolding file_verdict
-file-many limits file le e many = rw (not-below (file_limit limits) (length file) le, e, below limits.claims (length (sections_of file)) many) refl
+asked-unknown : (limits : Limits) (o : Options) (contents : Contents) (customs : List CustomSource) (i : ℕ) → customs_in limits o.config contents.config ≡ Ok customs → chosen_sources customs o.sources ≡ Err i
+    → asked limits (Ok o) contents ≡ Err (UnknownSource i)
+asked-unknown limits o contents customs i e u =
+    asked-sources limits o contents customs e ∙ ap (λ r. if_unknown r >>= λ sources. Ok (request-of o customs sources)) u
 
-pub file-done : (limits : Limits) (file : List ℕ) → length file ≤ file_limit limits → format_fault file ≡ Ok tt → length (sections_of file) ≤ limits.claims → file_verdict limits file ≡ Done
-unfolding file_verdict
-file-done limits file le e few = rw (not-below (file_limit limits) (length file) le, e, not-below limits.claims (length (sections_of file)) few) refl
+asked-known : (limits : Limits) (o : Options) (contents : Contents) (customs : List CustomSource) (sources : List Chosen) → customs_in limits o.config contents.config ≡ Ok customs → chosen_sources customs o.sources ≡ Ok sources
+    → asked limits (Ok o) contents ≡ Ok (request-of o customs sources)
+asked-known limits o contents customs sources e k =
+    asked-sources limits o contents customs e ∙ ap (λ r. if_unknown r >>= λ sources. Ok (request-of o customs sources)) k
 
-by-count : (b : Bool) → (if b then TooManyClaims 1 else Done) ≡ Usage Words → ⊥
-by-count true e = cc e
-by-count false e = cc e
+verdict-asked : (limits : Limits) (o : Options) (contents : Contents) (end : Outcome) → asked limits (Ok o) contents ≡ Err end → verdict limits (Ok o) contents ≡ Err end
+unfolding verdict
+verdict-asked limits o contents end e =
+    ap (λ r. r >>= λ q. counted_from limits q.sources contents.files 1 0 0 (file_names q.options) >>= λ files. Ok (record { request = q; files = files })) e
 
-by-check : (limits : Limits) (file : List ℕ) (check : Check) → by_fault limits file check ≡ Usage Words → ⊥
-by-check limits file (Ok u) e = by-count (nat_lt limits.claims (length (sections_of file))) e
-by-check limits file (Err bad) e = cc e
+verdict-files : (limits : Limits) (o : Options) (contents : Contents) (r : Request) → asked limits (Ok o) contents ≡ Ok r
+    → verdict limits (Ok o) contents ≡ (counted_from limits r.sources contents.files 1 0 0 (file_names r.options) >>= λ files. Ok (record { request = r; files = files }))
+unfolding verdict
+verdict-files limits o contents r e =
+    ap (λ p. p >>= λ q. counted_from limits q.sources contents.files 1 0 0 (file_names q.options) >>= λ files. Ok (record { request = q; files = files })) e
 
-by-length : (b : Bool) (limits : Limits) (file : List ℕ) → (if b then TooLong 1 else by_fault limits file (format_fault file)) ≡ Usage Words → ⊥
-by-length true limits file e = cc e
-by-length false limits file e = by-check limits file (format_fault file) e
+-- Which ends a step may have.
 
--- a file decides nothing about the words
-file-no_usage : (limits : Limits) (file : List ℕ) → file_verdict limits file ≡ Usage Words → ⊥
-unfolding file_verdict
-file-no_usage limits file e = by-length (nat_lt (file_limit limits) (length file)) limits file e
+IsConfigEnd : Outcome → Type 0
+IsConfigEnd (TooLong zero) = ⊤
+IsConfigEnd (Config kind offset) = ⊤
+IsConfigEnd end = ⊥
 
-pub no-usage : (limits : Limits) (words : List (List ℕ)) (pairs : Pairs) (name : List ℕ) → Some name ≡ file_word words → verdict limits words pairs ≡ Usage Words → ⊥
-no-usage limits words pairs name taken e = file-no_usage limits (held_bytes pairs name) (sym (verdict-is limits words pairs name taken) ∙ e)
+err-same : {X : Type 0} (x y : Outcome) → ◌≡◌ {A = Result X Outcome} (Err x) (Err y) → x ≡ y
+err-same x y e = cc
 
--- Why a file has no report.
-pub record Refuses (limits : Limits) (file : List ℕ) (why : ClaimAnswer) : Type 0 where
-  pub within : length file ≤ file_limit limits
-  pub bad : (b : BadFile) → why ≡ answer.Bad b → format_fault file ≡ Err b
-  pub many : why ≡ answer.TooManyClaims → (format_fault file ≡ Ok tt) × (limits.claims < length (sections_of file))
+config-end : (end other : Outcome) → IsConfigEnd other → other ≡ end → IsConfigEnd end
+config-end end other is same = rw (← same) is
 
-pub refusal-answers : (limits : Limits) (words : List (List ℕ)) (pairs : Pairs) (name file : List ℕ) (why : ClaimAnswer) → Some name ≡ file_word words → file ≡ held_bytes pairs name → Refuses limits file why
-    → IsAnswer (verdict limits words pairs) (refusal why)
-refusal-answers limits words pairs name file (answer.Bad b) taken held refuses =
-    sym (verdict-is limits words pairs name taken ∙ rw (← held) (file-bad limits file b refuses.within (refuses.bad b refl)))
-refusal-answers limits words pairs name file answer.TooManyClaims taken held refuses =
-    sym (verdict-is limits words pairs name taken ∙ rw (← held) (file-many limits file refuses.within (refuses.many refl).0 (refuses.many refl).1))
-refusal-answers limits words pairs name file answer.NoMemory taken held refuses = no-usage limits words pairs name taken
+customs-parsed : (parsed : Result (List CustomSource) ConfigFault) (end : Outcome) → if_config parsed ≡ Err end → IsConfigEnd end
+unfolding IsConfigEnd
+customs-parsed (Ok customs) end e = cc
+customs-parsed (Err (kind, offset)) end e = config-end end (Config kind offset) tt (err-same _ _ e)
 
-pub refusal-is_verdict : (limits : Limits) (words : List (List ℕ)) (pairs : Pairs) (name file : List ℕ) (why : ClaimAnswer) → Some name ≡ file_word words → file ≡ held_bytes pairs name → Refuses limits file why
-    → (refusal why ≡ verdict limits words pairs) ⊎ (refusal why ≡ NoMemory)
-refusal-is_verdict limits words pairs name file (answer.Bad b) taken held refuses = inl (refusal-answers limits words pairs name file (answer.Bad b) taken held refuses)
-refusal-is_verdict limits words pairs name file answer.TooManyClaims taken held refuses = inl (refusal-answers limits words pairs name file answer.TooManyClaims taken held refuses)
-refusal-is_verdict limits words pairs name file answer.NoMemory taken held refuses = inr refl
+customs-long : (b : Bool) (parsed : Result (List CustomSource) ConfigFault) (end : Outcome) → cond b (Err (TooLong 0)) (if_config parsed) ≡ Err end → IsConfigEnd end
+unfolding IsConfigEnd
+customs-long true parsed end e = config-end end (TooLong 0) tt (err-same _ _ e)
+customs-long false parsed end e = customs-parsed parsed end e
 
-pub refusal-has_fault : (held : Option Pairs) (limits : Limits) (words : List (List ℕ)) (file : List ℕ) (why : ClaimAnswer) → IsRead held words file → Refuses limits file why
-    → HasFault held words limits (refusal why)
-refusal-has_fault held limits words file (answer.Bad b) read refuses = (file, read, file-bad limits file b refuses.within (refuses.bad b refl))
-refusal-has_fault held limits words file answer.TooManyClaims read refuses = (file, read, file-many limits file refuses.within (refuses.many refl).0 (refuses.many refl).1)
-refusal-has_fault held limits words file answer.NoMemory read refuses = tt
+customs-error : (limits : Limits) (name : Option (List ℕ)) (text : List ℕ) (end : Outcome) → customs_in limits name text ≡ Err end → IsConfigEnd end
+customs-error limits None text end e = cc
+customs-error limits (Some n) text end e = customs-long (nat_lt (config_limit limits) (length text)) (config text) end e
 
--- where there is a report, it was written or the writing failed
-pub written-answers : (verdict outcome : Outcome) → verdict ≡ Done → (outcome ≡ Done) ⊎ (outcome ≡ WriteFailed) → IsAnswer verdict outcome
-written-answers verdict outcome done (inl e) = rw e (sym done)
-written-answers verdict outcome done (inr e) = rw e done
+IsFileEnd : Outcome → Type 0
+IsFileEnd (TooLong i) = ⊤
+IsFileEnd (Bad i fault offset) = ⊤
+IsFileEnd (TooManyClaims i) = ⊤
+IsFileEnd MappedTooLarge = ⊤
+IsFileEnd NoMemory = ⊤
+IsFileEnd end = ⊥
 
-pub written-is_verdict : (verdict outcome : Outcome) → verdict ≡ Done → (outcome ≡ Done) ⊎ (outcome ≡ WriteFailed) → (outcome ≡ WriteFailed → ⊥) → outcome ≡ verdict
-written-is_verdict verdict outcome done (inl e) sound = e ∙ sym done
-written-is_verdict verdict outcome done (inr e) sound = absurd (sound e)
+end-is : (i : ℕ) (why : ProfileAnswer) → IsFileEnd (end_at i why)
+unfolding IsFileEnd
+end-is i (profile.Bad bad) = tt
+end-is i profile.TooManyClaims = tt
+end-is i profile.MappedTooLarge = tt
+end-is i profile.NoMemory = tt
+
+file-end : (end other : Outcome) → IsFileEnd other → other ≡ end → IsFileEnd end
+file-end end other is same = rw (← same) is
+
+viewed-error : (i : ℕ) (decided : Result FileView ProfileAnswer) (end : Outcome) → if_viewed i decided ≡ Err end → IsFileEnd end
+viewed-error i (Ok f) end e = cc
+viewed-error i (Err why) end e = file-end end (end_at i why) (end-is i why) (err-same _ _ e)
+
+long-error : (b : Bool) (i : ℕ) (decided : Result FileView ProfileAnswer) (end : Outcome) → cond b (Err (TooLong i)) (if_viewed i decided) ≡ Err end → IsFileEnd end
+unfolding IsFileEnd
+long-error true i decided end e = file-end end (TooLong i) tt (err-same _ _ e)
+long-error false i decided end e = viewed-error i decided end e
+
+file-error : (limits : Limits) (sources : List Chosen) (i lengths mapped : ℕ) (name file : List ℕ) (end : Outcome) → counted_file limits sources i lengths mapped name file ≡ Err end → IsFileEnd end
+unfolding counted_file
+file-error limits sources i lengths mapped name file end e =
+    long-error (nat_lt (file_limit limits) (length file) || nat_lt (total_limit limits) (lengths + length file)) i (viewed mapped limits.claims name file sources) end e
+
+counted-error : (limits : Limits) (sources : List Chosen) (files : ℕ → List ℕ) (i lengths mapped : ℕ) (names : List (List ℕ)) (end : Outcome) → counted_from limits sources files i lengths mapped names ≡ Err end → IsFileEnd end
+counted-error limits sources files i lengths mapped [] end e = cc
+counted-error limits sources files i lengths mapped (n ∷ names) end e =
+    by-file (counted_file limits sources i lengths mapped n (files i)) refl (λ f x at. counted-error limits sources files (i + 1) (lengths + f.len) (mapped + mapped_count f.loads) names x at)
+  where
+    Next : Type 0
+    Next = (f : FileView) (x : Outcome) → counted_from limits sources files (i + 1) (lengths + f.len) (mapped + mapped_count f.loads) names ≡ Err x → IsFileEnd x
+
+    by-rest : (f : FileView) (r : Result (List FileView) Outcome) → counted_from limits sources files (i + 1) (lengths + f.len) (mapped + mapped_count f.loads) names ≡ r → (r >>= λ others. Ok (f ∷ others)) ≡ Err end → Next → IsFileEnd end
+    by-rest f (Ok gs) at wrong next = cc
+    by-rest f (Err x) at wrong next = file-end end x (next f x at) (err-same _ _ wrong)
+
+    by-file : (r : Result FileView Outcome) → counted_file limits sources i lengths mapped n (files i) ≡ r → Next → IsFileEnd end
+    by-file (Ok f) at next = by-rest f (counted_from limits sources files (i + 1) (lengths + f.len) (mapped + mapped_count f.loads) names) refl (rw at at e) next
+    by-file (Err x) at next = file-end end x (file-error limits sources i lengths mapped n (files i) x at) (err-same _ _ (rw at at e))
+
+-- the tree of a report hangs on the depth and the rows alone
+tree-same : (ro : RowOptions) (t : Totals) (n : ℕ) → t.depth ≡ n → row_tree ro t ≡ row_tree ro (record { depth = n; rows = t.rows; lengths = 0; mapped = 0 })
+tree-same ro t n e = ap (λ d. row_tree ro (record { depth = d; rows = t.rows; lengths = 0; mapped = 0 })) e
+
+-- each name has its data source
+chosen-count : (customs : List CustomSource) (i : ℕ) (names : List (List ℕ)) (sources : List Chosen) → chosen_from customs i names ≡ Ok sources → length sources ≡ length names
+chosen-count customs i [] sources e = let none : [] ≡ sources = ok-same [] sources e in rw (← none) refl
+chosen-count customs i (n ∷ names) sources e = by-name (chosen_named customs n) refl (λ others at. chosen-count customs (i + 1) names others at)
+  where
+    Next : Type 0
+    Next = (others : List Chosen) → chosen_from customs (i + 1) names ≡ Ok others → length others ≡ length names
+
+    by-rest : (c : Chosen) (r : Result (List Chosen) ℕ) → chosen_from customs (i + 1) names ≡ r → chosen_before i (Some c) r ≡ Ok sources → Next → length sources ≡ suc (length names)
+    by-rest c (Ok others) at is next =
+        let same : c ∷ others ≡ sources = ok-same (c ∷ others) sources is in
+        rw (← same) (ap suc (next others at))
+    by-rest c (Err u) at is next = cc
+
+    by-name : (found : Option Chosen) → chosen_named customs n ≡ found → Next → length sources ≡ suc (length names)
+    by-name None at next = absurd (let wrong : ◌≡◌ {A = Result (List Chosen) ℕ} (Err i) (Ok sources) = rw at at e in cc)
+    by-name (Some c) at next = by-rest c (chosen_from customs (i + 1) names) refl (rw at at e) next
+
+pub planned-count : (customs : List CustomSource) (names : List (List ℕ)) (sources : List Chosen) → chosen_sources customs names ≡ Ok sources → length sources ≡ length names
+planned-count customs names sources e = chosen-count customs 1 names sources e
+
+-- a file never ends a run by a pattern
+pub never-big : (limits : Limits) (sources : List Chosen) (filter : Option (List ℕ → Bool)) (names : List (List ℕ)) (files : ℕ → List ℕ) (i : ℕ) → EndsFiles limits sources filter names files (Err (PatternTooBig i)) → ⊥
+unfolding IsFileEnd
+never-big limits sources filter names files i e = counted-error limits sources files 1 0 0 names (PatternTooBig i) e
+
+-- a count that rose later rose
+pub rose-later : (a b n : ℕ) → a ≤ b → Rose b n → Rose a n
+rose-later a b n le r = grind arith
+
+-- What the steps decide of the run.
+
+-- bytes of files, where they aren't read
+some-files : (held : Option Pairs) (synth : Option ℕ) (names : List (List ℕ)) → (files : ℕ → List ℕ) × AreFiles held synth names files
+some-files held None names = some-held held names
+some-files held (Some n) names = (λ i. made n, refl)
+
+-- a run ends so over some bytes of its files
+abbrev pub RunsTo : Option Pairs → Limits → Options → List ℕ → Result (Vec ℕ Global) Outcome → Type 0
+RunsTo held limits o last result = (contents : Contents) × AreContents held o contents × EndsReport limits o last contents result
+
+contents-of : List ℕ → (ℕ → List ℕ) → Contents
+contents-of text files = record { config = text; files = files }
+
+no-end : (b : Bool) → b ≡ true → b ≡ false → ⊥
+no-end true p q = cc
+no-end false p q = cc
+
+module _ (held : Option Pairs) (limits : Limits) (o : Options) (last text : List ℕ) (is-text : IsText held o.config text) where
+  -- over bytes of files that aren't read
+  unread : Contents
+  unread = contents-of text (some-files held o.synth o.files).0
+
+  unread-are : AreContents held o unread
+  unfolding contents-of unread
+  unread-are = record { config = is-text; files = (some-files held o.synth o.files).1 }
+
+  from-verdict : (end : Outcome) → customs_in limits o.config text ≡ Err end → verdict limits (Ok o) unread ≡ Err end
+  unfolding contents-of unread
+  from-verdict end e = verdict-asked limits o unread end (asked-config limits o unread end e)
+
+  pub ends-config : (end : Outcome) → EndsConfig limits o.config text (Err end) → RunsTo held limits o last (Err end)
+  unfolding IsConfigEnd
+  ends-config (ReadFailed zero) e = (unread, unread-are, ((o, refl, e.1), (λ p. cc), refl))
+  ends-config (ReadFailed (suc k)) e = absurd (omega (arith, e.0))
+  ends-config NoMemory e = (unread, unread-are, (tt, (λ p. cc), refl))
+  ends-config (TooLong zero) e = (unread, unread-are, (from-verdict (TooLong zero) e, (λ p. cc), refl))
+  ends-config (Config kind offset) e = (unread, unread-are, (from-verdict (Config kind offset) e, (λ p. cc), refl))
+  ends-config (TooLong (suc k)) e = absurd (customs-error limits o.config text (TooLong (suc k)) e)
+  ends-config Done e = absurd (customs-error limits o.config text Done e)
+  ends-config (Usage kind) e = absurd (customs-error limits o.config text (Usage kind) e)
+  ends-config (UnknownSource i) e = absurd (customs-error limits o.config text (UnknownSource i) e)
+  ends-config (PatternSyntax i) e = absurd (customs-error limits o.config text (PatternSyntax i) e)
+  ends-config (PatternTooBig i) e = absurd (customs-error limits o.config text (PatternTooBig i) e)
+  ends-config (Bad i fault offset) e = absurd (customs-error limits o.config text (Bad i fault offset) e)
+  ends-config (TooManyClaims i) e = absurd (customs-error limits o.config text (TooManyClaims i) e)
+  ends-config MappedTooLarge e = absurd (customs-error limits o.config text MappedTooLarge e)
+  ends-config WriteFailed e = absurd (customs-error limits o.config text WriteFailed e)
+
+  module _ (customs : List CustomSource) (configured : customs_in limits o.config text ≡ Ok customs) where
+    unknown-verdict : (i : ℕ) → chosen_sources customs o.sources ≡ Err i → verdict limits (Ok o) unread ≡ Err (UnknownSource i)
+    unfolding contents-of unread
+    unknown-verdict i e = verdict-asked limits o unread (UnknownSource i) (asked-unknown limits o unread customs i configured e)
+
+    is-asked : (sources : Result (List Chosen) ℕ) (P : Request → Type 0) → chosen_sources customs o.sources ≡ sources → IsOk sources → ((known : List Chosen) → P (request-of o customs known)) → IsAsked limits (Ok o) unread P
+    unfolding contents-of unread
+    is-asked (Ok known) P e ok p = (request-of o customs known, asked-known limits o unread customs known configured e, p known)
+    is-asked (Err i) P e ok p = cc
+
+    pub ends-plan : (end : Outcome) → EndsPlan o.sources o.filter customs last end → RunsTo held limits o last (Err end)
+    unfolding request-of
+    ends-plan (UnknownSource i) e = (unread, unread-are, (unknown-verdict i e, (λ p. cc), refl))
+    ends-plan (PatternSyntax i) e = (unread, unread-are, (is-asked (chosen_sources customs o.sources) _ refl e.0 (λ known. e.1), (λ p. cc), refl))
+    ends-plan (PatternTooBig i) e = (unread, unread-are, (is-asked (chosen_sources customs o.sources) _ refl e.0 (λ known. e.1), (λ p. cc), refl))
+    ends-plan NoMemory e = (unread, unread-are, (tt, (λ p. cc), refl))
+    ends-plan Done e = absurd e
+    ends-plan (Usage kind) e = absurd e
+    ends-plan (ReadFailed i) e = absurd e
+    ends-plan (TooLong i) e = absurd e
+    ends-plan (Config kind offset) e = absurd e
+    ends-plan (Bad i fault offset) e = absurd e
+    ends-plan (TooManyClaims i) e = absurd e
+    ends-plan MappedTooLarge e = absurd e
+    ends-plan WriteFailed e = absurd e
+
+    module _ (p : Plans) (planned : IsPlan o.sources o.filter customs p) (files : ℕ → List ℕ) (are : AreFiles held o.synth o.files files) where
+      read : Contents
+      read = contents-of text files
+
+      read-are : AreContents held o read
+      unfolding contents-of read
+      read-are = record { config = is-text; files = are }
+
+      asked-read : asked limits (Ok o) read ≡ Ok (request-of o customs p.sources)
+      unfolding contents-of read
+      asked-read = asked-known limits o read customs p.sources configured planned.sources
+
+      patterns-read : IsAsked limits (Ok o) read (λ r. ArePatterns r.options.filter r.customs)
+      unfolding request-of
+      patterns-read = (request-of o customs p.sources, asked-read, planned.patterns)
+
+      counted-read : Result (List FileView) Outcome
+      counted-read = counted_from limits p.sources files 1 0 0 (file_names o)
+
+      verdict-read : (r : Result (List FileView) Outcome) → counted-read ≡ r → verdict limits (Ok o) read ≡ (r >>= λ fs. Ok (record { request = request-of o customs p.sources; files = fs }))
+      unfolding contents-of read request-of counted-read
+      verdict-read r e = verdict-files limits o read (request-of o customs p.sources) asked-read ∙ ap (λ q. q >>= λ fs. Ok (record { request = request-of o customs p.sources; files = fs })) e
+
+      verdict-end : (end : Outcome) → counted-read ≡ Err end → verdict limits (Ok o) read ≡ Err end
+      verdict-end end e = verdict-read (Err end) e
+
+      not-end : (end : Outcome) → counted-read ≡ Err end → IsFileEnd end
+      unfolding counted-read
+      not-end end e = counted-error limits p.sources files 1 0 0 (file_names o) end e
+
+      pub ends-files : (end : Outcome) → EndsFiles limits p.sources (filter_test p.filter) (file_names o) files (Err end) → RunsTo held limits o last (Err end)
+      unfolding IsFileEnd counted-read contents-of read request-of
+      ends-files (ReadFailed i) e =
+          let i-is : i ≡ suc e.0 = omega (arith, e.1) in
+          let reached : IsReached limits (Ok o) read (suc e.0) = (request-of o customs p.sources, asked-read, (e.2, e.3)) in
+          (read, read-are, (rw i-is reached, (λ q. patterns-read), refl))
+      ends-files NoMemory e = (read, read-are, (tt, (λ q. cc), refl))
+      ends-files (TooLong i) e = (read, read-are, (verdict-end (TooLong i) e, (λ q. patterns-read), refl))
+      ends-files (Bad i fault offset) e = (read, read-are, (verdict-end (Bad i fault offset) e, (λ q. patterns-read), refl))
+      ends-files (TooManyClaims i) e = (read, read-are, (verdict-end (TooManyClaims i) e, (λ q. patterns-read), refl))
+      ends-files MappedTooLarge e = (read, read-are, (verdict-end MappedTooLarge e, (λ q. patterns-read), refl))
+      ends-files Done e = absurd (not-end Done e)
+      ends-files (Usage kind) e = absurd (not-end (Usage kind) e)
+      ends-files (Config kind offset) e = absurd (not-end (Config kind offset) e)
+      ends-files (UnknownSource i) e = absurd (not-end (UnknownSource i) e)
+      ends-files (PatternSyntax i) e = absurd (not-end (PatternSyntax i) e)
+      ends-files (PatternTooBig i) e = absurd (not-end (PatternTooBig i) e)
+      ends-files WriteFailed e = absurd (not-end WriteFailed e)
+
+      -- the report of the files that were counted
+      pub ends-report : (t : Totals) (out : Vec ℕ Global) → EndsFiles limits p.sources (filter_test p.filter) (file_names o) files (Ok t) → IsTotals t.depth t.rows t.lengths t.mapped → length p.sources ≡ length o.sources
+          → out.items ≡ printed o (row_tree (row_options o) t) → RunsTo held limits o last (Ok out)
+      unfolding counted-read contents-of read request-of
+      ends-report t out e totals same is =
+          let filter : p.filter ≡ o.filter = planned.filter in
+          let depth : t.depth ≡ length o.sources = e.2.depth ∙ same in
+          let tree : row_tree (row_options o) t ≡ report_tree o t.rows = tree-same (row_options o) t (length o.sources) depth in
+          let sizes : AreSizes (filter_test o.filter) (depth_of o) e.0 t.rows = record {
+            ordered = totals.ordered;
+            deep = rw depth at totals.deep;
+            some = totals.some;
+            file = rw filter at e.2.file;
+            vm = rw filter at e.2.vm;
+          } in
+          let report : IsReport (record { request = request-of o customs p.sources; files = e.0 }) out.items = record { rows = t.rows; sizes = sizes; is = is ∙ ap (printed o) tree } in
+          (read, read-are, ((record { request = request-of o customs p.sources; files = e.0 }, out.items, verdict-read (Ok e.0) e.1, report, refl), patterns-read))
+
+-- What is told of the words.
+
+-- the name of a file that has one
+pub named-file : (o : Options) (i : ℕ) (last : Option (List ℕ)) → IfSome last (λ n. name_at o i ≡ Some n) → IfSome last (λ n. n ≡ file_name (Ok o) i)
+named-file o i None named = tt
+named-file o i (Some n) named = sym (ap (λ name. unwrap_or name []) named)
+
+-- bytes that the files of options hold, or any where there are no options
+some-contents : (held : Option Pairs) (given : Result Options UsageKind) → (contents : Contents) × ((o : Options) → given ≡ Ok o → AreContents held o contents)
+unfolding contents-of
+some-contents held (Err kind) = (contents-of [] (λ i. []), λ o e. cc)
+some-contents held (Ok o) = (contents-of (some-text held o.config).0 (some-files held o.synth o.files).0, λ p e. of-options held o p (ok-same o p e))
+  where
+    some-text : (held : Option Pairs) (name : Option (List ℕ)) → (text : List ℕ) × IsText held name text
+    some-text held None = ([], tt)
+    some-text held (Some name) = held-some held name
+
+    of-options : (held : Option Pairs) (o p : Options) → o ≡ p → AreContents held p (contents-of (some-text held o.config).0 (some-files held o.synth o.files).0)
+    of-options held o p same = rw (← same) (record { config = (some-text held o.config).1; files = (some-files held o.synth o.files).1 })
+
+-- words that are misused end the run so
+usage-verdict : (limits : Limits) (given : Result Options UsageKind) (contents : Contents) (kind : UsageKind) → given ≡ Err kind → verdict limits given contents ≡ Err (Usage kind)
+unfolding verdict asked
+usage-verdict limits given contents kind e = rw e refl
+
+usage-answer : (limits : Limits) (words : List (List ℕ)) (contents : Contents) (last : List ℕ) (kind : UsageKind) → IsUsageOf words kind → IsAnswer limits (options_of words) contents last (Usage kind)
+usage-answer limits words contents last usage.Words is = tt
+usage-answer limits words contents last usage.BadNumber is = usage-verdict limits (options_of words) contents usage.BadNumber (is.first (λ e. cc))
+usage-answer limits words contents last usage.BadSort is = usage-verdict limits (options_of words) contents usage.BadSort (is.first (λ e. cc))
+usage-answer limits words contents last usage.BadDomain is = usage-verdict limits (options_of words) contents usage.BadDomain (is.first (λ e. cc))
+usage-answer limits words contents last usage.TwoFormats is = usage-verdict limits (options_of words) contents usage.TwoFormats (is.first (λ e. cc))
+usage-answer limits words contents last usage.BadSourceList is = usage-verdict limits (options_of words) contents usage.BadSourceList (is.first (λ e. cc))
+usage-answer limits words contents last usage.NoFile is = usage-verdict limits (options_of words) contents usage.NoFile (is.first (λ e. cc))
+usage-answer limits words contents last usage.SynthWithFile is = usage-verdict limits (options_of words) contents usage.SynthWithFile (is.first (λ e. cc))
+usage-answer limits words contents last usage.NoBase is = usage-verdict limits (options_of words) contents usage.NoBase (is.first (λ e. cc))
+
+pub usage-run : (held : Option Pairs) (limits : Limits) (words : List (List ℕ)) (last : List ℕ) (out : Option (List ℕ)) (kind : UsageKind) → IsUsageOf words kind
+    → (contents : Contents) × IsRun held limits (options_of words) last out out (Usage kind) contents
+usage-run held limits words last out kind is =
+    let some = some-contents held (options_of words) in
+    (some.0, record { bytes = some.1; is = usage-answer limits words some.0 last kind is; patterns = λ e. cc; written = refl })
+
+pub no-memory-run : (held : Option Pairs) (limits : Limits) (given : Result Options UsageKind) (last : List ℕ) (out : Option (List ℕ)) → (contents : Contents) × IsRun held limits given last out out NoMemory contents
+no-memory-run held limits given last out =
+    let some = some-contents held given in
+    (some.0, record { bytes = some.1; is = tt; patterns = λ e. cc; written = refl })
+
+-- where no file is made, the names are those of the words
+pub none-name : (o : Options) (k : ℕ) → o.synth ≡ None → name_at o (k + 1) ≡ slice_get o.files k
+none-name o k e =
+    let p : k + 1 ≡ suc k = omega arith in
+    rw p (ap (λ made. slice_get (names_of made o.files) k) e)
+
+-- Runs that nothing interrupts.
+
+no-error : {X : Type 0} (r : Result X Outcome) (end : Outcome) → IsOk r → r ≡ Err end → ⊥
+no-error (Ok x) end ok e = cc
+no-error (Err x) end ok e = cc
+
+module _ (held : Option Pairs) (limits : Limits) (given : Result Options UsageKind) (last : List ℕ) (old new : Option (List ℕ)) (contents : Contents) (A B C : Type 0) where
+  pub complete-run : (answer : Outcome) → IsRun held limits given last old new answer contents → ((kind : UsageKind) → answer ≡ Usage kind → ⊥)
+      → ((i : ℕ) → answer ≡ ReadFailed i → A) → ((i : ℕ) → answer ≡ PatternTooBig i → B) → (answer ≡ WriteFailed → C)
+      → IsOk (verdict limits given contents) → (A → ⊥) → (B → ⊥) → (C → ⊥) → IsFinished answer
+  complete-run Done run taken failed refused wrote ok a b c = tt
+  complete-run NoMemory run taken failed refused wrote ok a b c = tt
+  complete-run (PatternSyntax i) run taken failed refused wrote ok a b c = tt
+  complete-run (Usage kind) run taken failed refused wrote ok a b c = absurd (taken kind refl)
+  complete-run (ReadFailed i) run taken failed refused wrote ok a b c = absurd (a (failed i refl))
+  complete-run (PatternTooBig i) run taken failed refused wrote ok a b c = absurd (b (refused i refl))
+  complete-run WriteFailed run taken failed refused wrote ok a b c = absurd (c (wrote refl))
+  complete-run (TooLong i) run taken failed refused wrote ok a b c = absurd (no-error (verdict limits given contents) (TooLong i) ok run.is)
+  complete-run (Config kind offset) run taken failed refused wrote ok a b c = absurd (no-error (verdict limits given contents) (Config kind offset) ok run.is)
+  complete-run (UnknownSource i) run taken failed refused wrote ok a b c = absurd (no-error (verdict limits given contents) (UnknownSource i) ok run.is)
+  complete-run (Bad i fault offset) run taken failed refused wrote ok a b c = absurd (no-error (verdict limits given contents) (Bad i fault offset) ok run.is)
+  complete-run (TooManyClaims i) run taken failed refused wrote ok a b c = absurd (no-error (verdict limits given contents) (TooManyClaims i) ok run.is)
+  complete-run MappedTooLarge run taken failed refused wrote ok a b c = absurd (no-error (verdict limits given contents) MappedTooLarge ok run.is)
+
+-- words that are misused have no report, or aren't taken
+untaken : (b : Bool) → b ≡ false → b ≡ true → ⊥
+untaken true p q = cc
+untaken false p q = cc
+
+misused-kind : (limits : Limits) (words : List (List ℕ)) (contents : Contents) (kind : UsageKind) → IsUsageOf words kind → (kind ≡ usage.Words → ⊥) → IsOk (verdict limits (options_of words) contents) → ⊥
+misused-kind limits words contents kind is other ok = no-error (verdict limits (options_of words) contents) (Usage kind) ok (usage-verdict limits (options_of words) contents kind (is.first other))
+
+pub usage-complete : (limits : Limits) (words : List (List ℕ)) (contents : Contents) (kind : UsageKind) → IsUsageOf words kind → IsOk (verdict limits (options_of words) contents) → are_taken words ≡ true → ⊥
+usage-complete limits words contents usage.Words is ok taken = untaken (are_taken words) (is.not_taken refl) taken
+usage-complete limits words contents usage.BadNumber is ok taken = misused-kind limits words contents usage.BadNumber is (λ e. cc) ok
+usage-complete limits words contents usage.BadSort is ok taken = misused-kind limits words contents usage.BadSort is (λ e. cc) ok
+usage-complete limits words contents usage.BadDomain is ok taken = misused-kind limits words contents usage.BadDomain is (λ e. cc) ok
+usage-complete limits words contents usage.TwoFormats is ok taken = misused-kind limits words contents usage.TwoFormats is (λ e. cc) ok
+usage-complete limits words contents usage.BadSourceList is ok taken = misused-kind limits words contents usage.BadSourceList is (λ e. cc) ok
+usage-complete limits words contents usage.NoFile is ok taken = misused-kind limits words contents usage.NoFile is (λ e. cc) ok
+usage-complete limits words contents usage.SynthWithFile is ok taken = misused-kind limits words contents usage.SynthWithFile is (λ e. cc) ok
+usage-complete limits words contents usage.NoBase is ok taken = misused-kind limits words contents usage.NoBase is (λ e. cc) ok

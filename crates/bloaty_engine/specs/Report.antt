@@ -1,16 +1,64 @@
--- The text of the report.
-use Rattle.std.specs.Prelude.{ℕ, List, [], ◌∷◌, ◌++◌, codes, decimal}
-use Rattle.std.specs.List.{flat_map}
-use Rattle.csv.specs.Writing.{row_text, default_writer}
-use Rattle.bloaty_engine.specs.Rows.{Rows}
+-- The report of files.
+use Rattle.std.specs.Prelude.{◌≡◌, ◌⊎◌, ℕ, ◌<◌, Bool, List, length, Option, All}
+use Rattle.std.specs.List.{sum_by}
+use Rattle.std.specs.List.Sorted.{IsStrictlySortedBy}
+use Rattle.size_core.specs.declared.choices.Format.{Format}
+use Rattle.size_core.specs.declared.choices.Format.TheVariants.{Text, Csv, Tsv}
+use Rattle.size_model.specs.declared.view.FileView.{FileView}
+use Rattle.size_model.specs.Sizes.{file_size, vm_size}
+use Rattle.rollup.specs.declared.table.RollupRow.{RollupRow}
+use Rattle.rollup.specs.Adding.{file_where, vm_where}
+use Rattle.rollup.specs.Totals.{row_cmp}
+use Rattle.report_rows.specs.declared.row.RowOptions.{RowOptions}
+use Rattle.report_rows.specs.declared.row.RowTree.{RowTree}
+use Rattle.report_rows.specs.Rows.{row_tree}
+use Rattle.report_rows.specs.Tables.{file_sum, under_path, vm_sum}
+use Rattle.report_text.specs.Lines.{report_text}
+use Rattle.report_text.specs.Records.{csv_text, tsv_text}
+use Rattle.size_options.specs.declared.chosen.Options.{Options}
+use Rattle.bloaty_engine.specs.Counts.{file_size_where, filter_test, vm_size_where}
+use Rattle.bloaty_engine.specs.Verdict.{Counted}
 
-abbrev pub header_fields : List (List ℕ)
-header_fields = codes "sections" ∷ codes "filesize" ∷ []
+-- The rows of files: each full path with a size above 0, once and in ascending order, with its sizes over all files. For
+-- every set of paths, as that of one path or of those that begin so, the sizes of its rows add up to the numbers of bytes
+-- and of mapped addresses that pass the filter and have one of its paths.
+pub record AreSizes (filter : Option (List ℕ → Bool)) (depth : ℕ) (files : List FileView) (rows : List RollupRow) : Type 0 where
+  pub ordered : IsStrictlySortedBy row_cmp rows
+  pub deep : All (λ (r : RollupRow). length r.path ≡ depth) rows
+  pub some : All (λ (r : RollupRow). (0 < r.vm) ⊎ (0 < r.file)) rows
+  pub file : (test : List (List ℕ) → Bool) → file_where test rows ≡ sum_by (file_size_where filter test) files
+  pub vm : (test : List (List ℕ) → Bool) → vm_where test rows ≡ sum_by (vm_size_where filter test) files
 
--- the fields of a row: its label, and its size in decimal
-abbrev pub row_fields : List ℕ × ℕ → List (List ℕ)
-row_fields row = row.0 ∷ decimal row.1 ∷ []
+-- the sizes of what stands under a path are those of the path over all files
+pub record CountsPath (filter : Option (List ℕ → Bool)) (files : List FileView) (rows : List RollupRow) (path : List (List ℕ)) : Type 0 where
+  pub file : file_sum (under_path path rows) ≡ file_size filter files path
+  pub vm : vm_sum (under_path path rows) ≡ vm_size filter files path
 
--- a header and a record for each row: commas, a line feed after each, quotes only where a field needs them
-unfoldable pub csv_text : Rows → List ℕ
-csv_text rows = row_text default_writer header_fields ++ flat_map (λ row. row_text default_writer (row_fields row)) rows
+abbrev pub RowsCountPaths : Type 0
+RowsCountPaths = (filter : Option (List ℕ → Bool)) (depth : ℕ) (files : List FileView) (rows : List RollupRow)
+    → AreSizes filter depth files rows → (path : List (List ℕ)) → CountsPath filter files rows path
+
+abbrev pub row_options : Options → RowOptions
+row_options o = record { limit = o.limit; sort = o.sort; domain = o.domain }
+
+abbrev pub depth_of : Options → ℕ
+depth_of o = length o.sources
+
+-- the tree of a report over these rows
+abbrev pub report_tree : Options → List RollupRow → RowTree
+report_tree o rows = row_tree (row_options o) (record { depth = depth_of o; rows = rows; lengths = 0; mapped = 0 })
+
+abbrev pub printed_as : Format → Options → RowTree → List ℕ
+printed_as Text o tree = report_text tree o.domain o.wide
+printed_as Csv o tree = csv_text tree o.domain o.sources
+printed_as Tsv o tree = tsv_text tree o.domain o.sources
+
+-- the text of a tree
+unfoldable pub printed : Options → RowTree → List ℕ
+printed o tree = printed_as o.format o tree
+
+-- the report of the files of a run
+pub record IsReport (c : Counted) (text : List ℕ) : Type 0 where
+  pub rows : List RollupRow
+  pub sizes : AreSizes (filter_test c.request.options.filter) (depth_of c.request.options) c.files rows
+  pub is : text ≡ printed c.request.options (report_tree c.request.options rows)

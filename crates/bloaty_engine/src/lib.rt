@@ -1,14 +1,25 @@
-//! The whole run over the words, the files and the sinks that it is handed.
+//! The whole run: words, files and outputs, from the options to the report.
 #![tactic(auto)]
 
+mod answer;
+mod asked;
+mod claims;
+mod files;
+mod laws;
 mod line;
+mod maps;
 mod outcome;
+mod planning;
 mod profile;
 mod report;
-mod rows;
+mod request;
 mod run;
-mod tally;
-mod words;
 
-pub use outcome::{Outcome, UsageKind};
+pub use answer::ProfileAnswer;
+pub use asked::{Plan, PlanAnswer};
+pub use laws::rows_count_paths;
+pub use outcome::Outcome;
+pub use planning::plan;
+pub use profile::profile_file;
 pub use run::bloaty;
+pub use size_options::UsageKind;

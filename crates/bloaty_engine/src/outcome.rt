@@ -2,34 +2,39 @@
 
 ghost use Rattle.std.specs.Prelude.{◌≡◌};
 
-use size_core::Fault;
+use config_text::ConfigKind;
+use size_core::{Fault, NoMemory};
+use size_options::UsageKind;
 
-/// What is wrong with the words of a run.
-#[derive(Clone, Copy, Debug, PartialEq, Eq, Hash)]
-pub enum UsageKind {
-    /// They aren't those of a command.
-    Words,
-}
-
-/// How a run ends. Files are numbered from 1, in the order of the words.
+/// How a run ends. File 0 is the configuration, and the files have the numbers from 1 on, in the order of the words.
 #[derive(Clone, Copy, Debug, PartialEq, Eq, Hash)]
 pub enum Outcome {
     /// The report was written whole.
     Done,
-    /// The words aren't taken.
+    /// The words ask for nothing that is done.
     Usage(UsageKind),
     /// The file couldn't be read.
     ReadFailed(usize),
     /// The file, or all files up to it together, are longer than the limit.
     TooLong(usize),
+    /// The configuration has a fault, at an offset in bytes.
+    Config(ConfigKind, u64),
+    /// A name of `-d` means no data source; the names are numbered from 1.
+    UnknownSource(usize),
+    /// A pattern is no regular expression, or nests too deep. The filter is pattern 0, rewrites have the numbers from 1 on.
+    PatternSyntax(usize),
+    /// A pattern was refused for its size.
+    PatternTooBig(usize),
     /// The file has a fault, at a file offset.
     Bad {
         file: usize,
         fault: Fault,
         offset: u64,
     },
-    /// The data source makes more claims on the file than the limit.
+    /// The data sources asked make more claims on the file than the limit.
     TooManyClaims(usize),
+    /// The mapped sizes of the files pass 2^63 - 1.
+    MappedTooLarge,
     /// The output didn't take the whole report.
     WriteFailed,
     /// There was not enough memory.
@@ -46,11 +51,25 @@ impl Outcome {
         match self {
             Outcome::Done => 0,
             Outcome::Bad { .. } => 1,
-            Outcome::Usage(_) => 2,
+            Outcome::Usage(_)
+            | Outcome::Config(..)
+            | Outcome::UnknownSource(_)
+            | Outcome::PatternSyntax(_)
+            | Outcome::PatternTooBig(_) => 2,
             Outcome::ReadFailed(_) => 3,
             Outcome::WriteFailed => 4,
             Outcome::NoMemory => 5,
-            Outcome::TooLong(_) | Outcome::TooManyClaims(_) => 6,
+            Outcome::TooLong(_) | Outcome::TooManyClaims(_) | Outcome::MappedTooLarge => 6,
         }
+    }
+}
+
+impl From<NoMemory> for Outcome {
+    ghost use Rattle.bloaty_engine.specs.declared.outcome.Outcome.TheVariants.{NoMemory as OutOfMemory};
+
+    ghost from_gives = { λ _ e. e ≡ OutOfMemory };
+
+    fn from(_: NoMemory) -> Outcome {
+        Outcome::NoMemory
     }
 }

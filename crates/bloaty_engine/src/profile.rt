@@ -1,23 +1,36 @@
-//! The report of one file's bytes.
+//! The sizes of one file.
 
-ghost use Rattle.std.specs.Prelude.{◌≡◌, ◌^◌, ◌<◌, ◌≤◌, ◌++◌, IfOk, OnOk, IsErrOf, length, Ok, Err};
+ghost use Rattle.std.specs.Prelude.{◌≡◌, ◌+◌, ◌-◌, ◌≤◌, ◌<◌, ◌^◌, ℕ, Bool, ◌++◌, ◌⊎◌, List, All, length, map, Ok, Err, IfOk, IfSome, OnOk, OnErr, IsErrOf};
 ghost use Rattle.std.specs.Option.{option_to_list};
-ghost use Rattle.size_core.specs.declared.fault.BadFile.{BadFile as BadFileSpec};
-ghost use Rattle.data_sources.specs.Kind.{format_fault};
+ghost use Rattle.size_model.specs.declared.view.FileView.{FileView as FileViewSpec};
+ghost use Rattle.size_model.specs.declared.view.SourceView.{SourceView as SourceViewSpec};
+ghost use Rattle.size_model.specs.Loads.{IsLoad, mapped_count};
 ghost use Rattle.data_sources.specs.Loads.{loads_of};
 ghost use Rattle.data_sources.specs.Opened.{bytes_of};
-ghost use Rattle.bloaty_engine.specs.Profile.{IsReport, sections_of};
+ghost use Rattle.data_sources.specs.Views.{view_of};
+ghost use Rattle.dual_map.specs.Layout.{IsOver, LabelsBelow};
+ghost use Rattle.rollup.specs.Adding.{file_count, file_where, piece_count, vm_count, vm_where};
+ghost use Rattle.custom_rewrites.specs.Pattern.{is_found};
+ghost use Rattle.bloaty_engine.specs.Counts.{file_size_where, filter_test, marks_by, step_bound, vm_size_where};
+ghost use Rattle.bloaty_engine.specs.Views.{Answers, file_views, viewed};
 
-use crate::report::csv_report;
-use crate::rows::file_rows;
-use crate::tally::Claimed;
-use data_sources::{Binary, ClaimAnswer, claims, load_at, load_slots, open_binary};
-use size_core::{LabelPool, List, Load, NoMemory, Source};
+use crate::answer::ProfileAnswer;
+use crate::asked::Plan;
+use crate::maps::maps_of;
+use custom_rewrites::LabelPattern;
+use data_sources::{Binary, load_at, load_slots, open_binary};
+use dual_map::{Base, DualMap};
+use rollup::Rollup;
+use size_core::{LabelPool, Limits, Load, NoMemory, Steps};
 use std::alloc::Global;
+use std::sync::ledger::Ledger;
 
 // Adds a load, where there is one.
-fn push_load(loads: &mut List<Load>, load: Option<Load>) -> Result<(), NoMemory>
-    ensures { OnOk result (loads.new ≡ loads.old ++ option_to_list load) }
+fn push_load(loads: &mut Vec<Load>, load: Option<Load>) -> Result<(), NoMemory>
+    requires fits { IfSome load IsLoad }
+    requires all { All IsLoad loads.old.items }
+    ensures pushed { OnOk result (loads.new.items ≡ loads.old.items ++ option_to_list load) }
+    ensures all { OnOk result (All IsLoad loads.new.items) }
 {
     if let Some(load) = load {
         loads.push(load)?;
@@ -27,37 +40,123 @@ fn push_load(loads: &mut List<Load>, load: Option<Load>) -> Result<(), NoMemory>
 
 // The loads of a file, in order.
 #[tactic(auto, using(size_core::proofs::Gathered::gather_next, size_core::proofs::Gathered::gather_end), unfolding(data_sources::specs::Loads::loads_of))]
-fn loads_of(alloc: Global, binary: &Binary<'_>) -> Result<List<Load>, NoMemory>
-    ensures { IfOk result (λ loads. loads ≡ loads_of (bytes_of binary.now)) }
+fn loads_of(alloc: Global, binary: &Binary<'_>) -> Result<Vec<Load>, NoMemory>
+    ensures are { IfOk result (λ loads. loads.items ≡ loads_of (bytes_of binary.now)) }
+    ensures fit { IfOk result (λ loads. All IsLoad loads.items) }
 {
-    let mut loads = List::new(alloc);
+    let mut loads = Vec::new(alloc);
     for i in 0..load_slots(binary) {
         push_load(&mut loads, load_at(binary, i))?;
     }
     Ok(loads)
 }
 
-/// The report of a file, or its first fault. TooManyClaims comes where it has none and its sections, headers
-/// and loads make more than `limit` claims.
-pub fn profile(alloc: Global, file: &[u8], limit: u64) -> Result<Vec<u8>, ClaimAnswer>
-    requires { length file.now < 2 ^ 32 }
-    ensures report { IfOk result (λ text. IsReport file.now text.items) }
-    ensures sound { OnOk result (format_fault file.now ≡ Ok tt) }
-    ensures few { OnOk result (length (sections_of file.now) ≤ limit) }
-    ensures bad { (bad : BadFileSpec) → IsErrOf result (ClaimAnswer.Bad bad) → format_fault file.now ≡ Err bad }
-    ensures many { IsErrOf result ClaimAnswer.TooManyClaims → (format_fault file.now ≡ Ok tt) × (limit < length (sections_of file.now)) }
+// Which labels a pattern is found in; each label is asked once.
+fn marks_of(alloc: Global, pattern: &LabelPattern, pool: &LabelPool) -> Result<Vec<bool>, NoMemory>
+    ensures { IfOk result (λ marks. marks.items ≡ map (is_found pattern.now) pool.now) }
+{
+    let mut marks = Vec::new(alloc);
+    for k in 0..pool.len() {
+        let found = pattern.finds(alloc, pool.get(k))?;
+        marks.push(found)?;
+    }
+    Ok(marks)
+}
+
+// Adds what the maps say of a file, where the plan's filter passes it.
+fn add_maps<L: Ledger>(
+    alloc: Global,
+    plan: &Plan,
+    base: &Base,
+    file_len: u64,
+    maps: &[DualMap],
+    pool: &LabelPool,
+    total: &mut Rollup,
+    steps: &mut Steps<L>,
+) -> Result<(), ProfileAnswer>
+    requires len { base.now.len ≡ file_len }
+    requires depth { length maps.now ≡ total.old.depth }
+    requires over { All (IsOver base.now) maps.now }
+    requires labels { All (LabelsBelow (length pool.now)) maps.now }
+    requires lengths { total.old.lengths + file_len ≤ 2 ^ 63 - 1 }
+    ensures file { OnOk result ((test : List (List ℕ) → Bool) → file_where test total.new.rows ≡ file_where test total.old.rows + file_count test pool.now (marks_by plan.now.filter pool.now) maps.now file_len) }
+    ensures vm { OnOk result ((test : List (List ℕ) → Bool) → vm_where test total.new.rows ≡ vm_where test total.old.rows + vm_count test pool.now (marks_by plan.now.filter pool.now) maps.now base.now.loads) }
+    ensures depth { total.new.depth ≡ total.old.depth }
+    ensures lengths { OnOk result (total.new.lengths ≡ total.old.lengths + file_len) }
+    ensures mapped { OnOk result (total.new.mapped ≡ total.old.mapped + mapped_count base.now.loads) }
+    ensures fits { OnOk result (total.old.mapped + mapped_count base.now.loads ≤ 2 ^ 63 - 1) }
+    ensures too_large { IsErrOf result ProfileAnswer.MappedTooLarge → 2 ^ 63 - 1 < total.old.mapped + mapped_count base.now.loads }
+    ensures other { OnErr result ((result ≡ Err ProfileAnswer.MappedTooLarge) ⊎ (result ≡ Err ProfileAnswer.NoMemory)) }
+    ensures unchanged { OnErr result (total.new ≡ total.old) }
+    ensures cost { steps.new ≤ steps.old + piece_count maps.now }
+{
+    match plan.filter() {
+        None => total.add_file(base, file_len, maps, pool, None, steps)?,
+        Some(pattern) => {
+            let marks = marks_of(alloc, pattern, pool)?;
+            total.add_file(base, file_len, maps, pool, Some(&marks), steps)?;
+        }
+    }
+    Ok(())
+}
+
+/// Adds the sizes of one file to a total: to each path of labels, over the data sources of the plan, the number of
+/// the file's bytes and of its mapped addresses that pass the filter and have it. `inputfiles` labels them `name`.
+///
+/// # Errors
+///
+/// `Bad` gives the first fault of the file, or else of a data source on it; `TooManyClaims` comes where the claims
+/// of the data sources pass `limits.claims`, at the data source at which they do; `MappedTooLarge` where there is
+/// none of these and the mapped sizes of all files pass 2^63 - 1. After a refusal the total is as it was.
+pub fn profile_file<L: Ledger>(
+    alloc: Global,
+    plan: &Plan,
+    name: &str,
+    file: &[u8],
+    total: &mut Rollup,
+    limits: &Limits,
+    steps: &mut Steps<L>,
+) -> Result<(), ProfileAnswer>
+    requires short { length file.now < 2 ^ 32 }
+    requires depth { total.old.depth ≡ length plan.now.sources }
+    requires lengths { total.old.lengths + length file.now ≤ 2 ^ 62 }
+
+    // The first of the file's faults and limits decides, want of memory aside.
+    ensures answer { Answers result (viewed total.old.mapped limits.now.claims name.now file.now plan.now.sources) }
+    ensures unchanged { OnErr result (total.new ≡ total.old) }
+
+    // The paths of which a test holds, as that a path is this one or begins so, grow by the bytes that have one.
+    ensures file { OnOk result ((f : FileViewSpec) (test : List (List ℕ) → Bool)
+        → viewed total.old.mapped limits.now.claims name.now file.now plan.now.sources ≡ Ok f
+        → file_where test total.new.rows ≡ file_where test total.old.rows + file_size_where (filter_test plan.now.filter) test f) }
+    ensures vm { OnOk result ((f : FileViewSpec) (test : List (List ℕ) → Bool)
+        → viewed total.old.mapped limits.now.claims name.now file.now plan.now.sources ≡ Ok f
+        → vm_where test total.new.rows ≡ vm_where test total.old.rows + vm_size_where (filter_test plan.now.filter) test f) }
+
+    // What was added, filtered or not.
+    ensures depth { total.new.depth ≡ total.old.depth }
+    ensures lengths { OnOk result (total.new.lengths ≡ total.old.lengths + length file.now) }
+    ensures mapped { OnOk result (total.new.mapped ≡ total.old.mapped + mapped_count (loads_of file.now)) }
+
+    // No more pieces are read than the claims and the loads make.
+    ensures cost { (views : List SourceViewSpec)
+        → file_views limits.now.claims name.now file.now plan.now.sources ≡ Ok views
+        → steps.new ≤ steps.old + step_bound (view_of file.now views) }
 {
     let binary = open_binary(file)?;
-    let mut pool = LabelPool::new(alloc);
-    let unmapped = pool.intern(b"[Unmapped]")?;
-    let claims = claims(alloc, &binary, Source::Sections, b"", &mut pool, limit)?;
     let loads = loads_of(alloc, &binary)?;
-    let claimed = Claimed {
-        len: file.len() as u64,
-        loads: &loads,
-        claims: &claims,
-        unmapped,
-    };
-    let rows = file_rows(alloc, &claimed, &pool)?;
-    Ok(csv_report(alloc, &rows)?)
+    let file_len = file.len() as u64;
+    let base = Base::from_loads(alloc, file_len, &loads)?;
+    let mut pool = LabelPool::new(alloc);
+    let maps = maps_of(
+        alloc,
+        plan,
+        &binary,
+        name.as_bytes(),
+        &base,
+        file_len,
+        &mut pool,
+        limits.claims,
+    )?;
+    add_maps(alloc, plan, &base, file_len, &maps, &pool, total, steps)
 }

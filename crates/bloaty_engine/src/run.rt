@@ -1,32 +1,25 @@
 //! The whole run.
 
-ghost use Rattle.std.specs.Prelude.{◌≡◌, ◌⊎◌, ◌↔◌, ◌≤◌, ℕ, None, Some, IfSome, MatchResult};
-ghost use Rattle.std.specs.Option.{ForSome};
+ghost use Rattle.std.specs.Prelude.{◌≡◌, ◌⊎◌, ◌<◌, ◌++◌, ℕ, Ok, Some, codes, false, true, IfSome, IsOk};
 ghost use Rattle.outside.specs.Causes.{Rose};
 ghost use Rattle.outside.specs.Grown.{Grew, GrewByPart};
-ghost use Rattle.outside.specs.Held.{IsLonger};
-ghost use Rattle.bloaty_engine.specs.Refusal.{refusal};
-ghost use Rattle.bloaty_engine.specs.Line.{line_of};
-ghost use Rattle.bloaty_engine.specs.Run.{HasFault, IsAnswer, Writes, file_limit, verdict};
-ghost use Rattle.bloaty_engine.specs.Words.{file_word, name_in, seen_words};
+ghost use Rattle.size_options.specs.Answers.{KeepsLimits, are_taken};
+ghost use Rattle.size_options.specs.Asked.{asked as options_of};
+ghost use Rattle.size_options.specs.declared.answer.UsageKind.{UsageKind as UsageKindSpec};
+ghost use Rattle.size_options.specs.Words.{seen_words};
+ghost use Rattle.bloaty_engine.specs.Answers.{IsFinished, IsRun};
+ghost use Rattle.bloaty_engine.specs.Verdict.{verdict};
+ghost use Rattle.bloaty_engine.specs.Line.{line_of, usage_text};
+ghost use Rattle.bloaty_engine.specs.Named.{Contents, file_name, name_at};
 
-use crate::line::tell;
-use crate::outcome::{Outcome, UsageKind};
-use crate::profile::profile;
-use crate::words::{file_of, name_of};
-use data_sources::ClaimAnswer;
-use outside::{FileAnswer, Files, Sink, write_whole};
-use size_core::{BadFile, Limits};
+use crate::line::{tell, tell_no_memory, tell_usage};
+use crate::outcome::Outcome;
+use crate::report::report;
+use custom_rewrites::Patterns;
+use outside::{Files, Sink, write_whole};
+use size_core::Limits;
+use size_options::{OptionAnswer, Options, UsageKind, options};
 use std::alloc::Global;
-
-// How many bytes of the file are read.
-fn file_limit(limits: &Limits) -> u64
-    ensures { result ≡ file_limit limits.now }
-{
-    let file = limits.file.min(u64::from(u32::MAX));
-    let total = limits.total.min(1 << 62);
-    file.min(total)
-}
 
 // Writes the report.
 fn write<O: Sink>(out: &mut O, report: &[u8]) -> Outcome
@@ -41,86 +34,74 @@ fn write<O: Sink>(out: &mut O, report: &[u8]) -> Outcome
     }
 }
 
-// The outcome where a file has no report.
-fn refusal(answer: ClaimAnswer) -> Outcome
-    ensures { result ≡ refusal answer }
-{
-    match answer {
-        ClaimAnswer::Bad(BadFile { fault, offset }) => Outcome::Bad {
-            file: 1,
-            fault,
-            offset,
-        },
-        ClaimAnswer::TooManyClaims => Outcome::TooManyClaims(1),
-        ClaimAnswer::NoMemory => Outcome::NoMemory,
-    }
-}
-
-// Reads, profiles and writes.
-fn answer<F: Files, O: Sink>(
+// Makes the report and writes it.
+fn answer<F: Files, P: Patterns, O: Sink>(
     alloc: Global,
-    words: &[String],
+    options: &Options,
     files: &mut F,
+    patterns: &mut P,
     out: &mut O,
     limits: &Limits,
 ) -> Outcome
-    ensures standing { ForSome (F.held files.old) (λ pairs. IsAnswer (verdict limits.now (seen_words words.now) pairs) result) }
-    ensures complete { ForSome (F.held files.old) (λ pairs. ¬ Rose (F.faults files.old) (F.faults files.new) → ¬ Rose (O.faults out.old) (O.faults out.new)
-        → (result ≡ verdict limits.now (seen_words words.now) pairs) ⊎ (result ≡ Outcome.NoMemory)) }
-    ensures usage { (result ≡ Outcome.Usage UsageKind.Words) ↔ (file_word (seen_words words.now) ≡ None) }
-    ensures failed_name { (i : ℕ) → (result ≡ Outcome.ReadFailed i) → (i ≡ 1) × IfSome (F.last_failed files.new) (λ n. n ≡ name_in (seen_words words.now)) }
-    ensures read_failed { (i : ℕ) → (result ≡ Outcome.ReadFailed i) → Rose (F.faults files.old) (F.faults files.new) }
-    ensures too_long { (i : ℕ) → (result ≡ Outcome.TooLong i) → (i ≡ 1) × IsLonger (F.held files.old) (name_in (seen_words words.now)) (file_limit limits.now) (F.taken files.old) (F.taken files.new) }
-    ensures fault { HasFault (F.held files.old) (seen_words words.now) limits.now result }
+    requires { KeepsLimits options.now }
+    ensures run { (contents : Contents) × IsRun (F.held files.old) limits.now (Ok options.now) (P.last_refused patterns.new) (O.written out.old) (O.written out.new) result contents }
+    ensures failed { (i : ℕ) → (result ≡ Outcome.ReadFailed i) → Rose (F.faults files.old) (F.faults files.new) × IfSome (F.last_failed files.new) (λ n. name_at options.now i ≡ Some n) }
+    ensures refused { (i : ℕ) → (result ≡ Outcome.PatternTooBig i) → P.refused patterns.old < P.refused patterns.new }
     ensures write_failed { (result ≡ Outcome.WriteFailed) → Rose (O.faults out.old) (O.faults out.new) }
-    ensures written { Writes (F.held files.old) (seen_words words.now) (O.written out.old) (O.written out.new) result }
+    ensures taken { (kind : UsageKindSpec) → (result ≡ Outcome.Usage kind) → ⊥ }
 {
-    let Some(name) = file_of(words) else {
-        return Outcome::Usage(UsageKind::Words);
-    };
-    match files.read(alloc, name, file_limit(limits)) {
-        Err(FileAnswer::Failed) => Outcome::ReadFailed(1),
-        Err(FileAnswer::TooLong) => Outcome::TooLong(1),
-        Err(FileAnswer::NoMemory) => Outcome::NoMemory,
-        Ok(bytes) => match profile(alloc, &bytes, limits.claims) {
-            Err(answer) => refusal(answer),
-            Ok(report) => write(out, &report),
-        },
+    match report(alloc, options, files, patterns, limits) {
+        Err(end) => end,
+        Ok(text) => write(out, &text),
     }
 }
 
-/// A run over its words, the files that they name, the output, and the place for a line that tells how the run
-/// ended where it isn't done. The words are `--csv -n 0 -d sections --domain=file FILE`, and the report has a
-/// row for each label that the file's sections, headers and loads give its bytes.
-pub fn bloaty<F: Files, O: Sink, E: Sink>(
+// Tells that the words are misused.
+fn misused<E: Sink>(err: &mut E, kind: UsageKind) -> Outcome
+    ensures is { result ≡ Outcome.Usage kind }
+    ensures told { ¬ Rose (E.faults err.old) (E.faults err.new) → Grew (E.written err.old) (E.written err.new) (codes "bloaty: usage: " ++ usage_text kind ++ codes "\n") }
+{
+    let _ = tell_usage(err, kind);
+    Outcome::Usage(kind)
+}
+
+/// Makes the report that the words ask for and writes it to `out`, or tells in a line on `err` why not. File offsets,
+/// lengths and sizes are bytes; `patterns` makes the patterns of the configuration and the filter.
+pub fn bloaty<F: Files, P: Patterns, O: Sink, E: Sink>(
     alloc: Global,
     words: &[String],
     files: &mut F,
+    patterns: &mut P,
     out: &mut O,
     err: &mut E,
     limits: &Limits,
 ) -> Outcome
-    ensures standing { ForSome (F.held files.old) (λ pairs. IsAnswer (verdict limits.now (seen_words words.now) pairs) result) }
-    ensures complete { ForSome (F.held files.old) (λ pairs. ¬ Rose (F.faults files.old) (F.faults files.new) → ¬ Rose (O.faults out.old) (O.faults out.new)
-        → (result ≡ verdict limits.now (seen_words words.now) pairs) ⊎ (result ≡ Outcome.NoMemory)) }
-
-    // The words alone decide whether they are taken.
-    ensures usage { (result ≡ Outcome.Usage UsageKind.Words) ↔ (file_word (seen_words words.now) ≡ None) }
+    // The words, and the bytes that the files hold, decide the answer and what is written, but for the interruptions;
+    // where they decide on a report and nothing interrupts the run, it is done.
+    ensures run { (contents : Contents) × IsRun (F.held files.old) limits.now (options_of (seen_words words.now)) (P.last_refused patterns.new) (O.written out.old) (O.written out.new) result contents
+        × (IsOk (verdict limits.now (options_of (seen_words words.now)) contents) → are_taken (seen_words words.now) ≡ true → ¬ Rose (F.faults files.old) (F.faults files.new)
+        → ¬ (P.refused patterns.old < P.refused patterns.new) → ¬ Rose (O.faults out.old) (O.faults out.new) → IsFinished result) }
 
     // Each interruption has its cause.
-    ensures failed_name { (i : ℕ) → (result ≡ Outcome.ReadFailed i) → (i ≡ 1) × IfSome (F.last_failed files.new) (λ n. n ≡ name_in (seen_words words.now)) }
-    ensures read_failed { (i : ℕ) → (result ≡ Outcome.ReadFailed i) → Rose (F.faults files.old) (F.faults files.new) }
-    ensures too_long { (i : ℕ) → (result ≡ Outcome.TooLong i) → (i ≡ 1) × IsLonger (F.held files.old) (name_in (seen_words words.now)) (file_limit limits.now) (F.taken files.old) (F.taken files.new) }
-    ensures fault { HasFault (F.held files.old) (seen_words words.now) limits.now result }
+    ensures words { (result ≡ Outcome.Usage UsageKind.Words) → are_taken (seen_words words.now) ≡ false }
+    ensures failed { (i : ℕ) → (result ≡ Outcome.ReadFailed i) → Rose (F.faults files.old) (F.faults files.new) × IfSome (F.last_failed files.new) (λ n. n ≡ file_name (options_of (seen_words words.now)) i) }
+    ensures refused { (i : ℕ) → (result ≡ Outcome.PatternTooBig i) → P.refused patterns.old < P.refused patterns.new }
     ensures write_failed { (result ≡ Outcome.WriteFailed) → Rose (O.faults out.old) (O.faults out.new) }
 
-    // What was written to the output, and the line that tells of the outcome.
-    ensures written { Writes (F.held files.old) (seen_words words.now) (O.written out.old) (O.written out.new) result }
-    ensures told { ¬ Rose (E.faults err.old) (E.faults err.new)
-        → Grew (E.written err.old) (E.written err.new) (line_of (name_in (seen_words words.now)) result) }
+    // The line of the outcome.
+    ensures told { ¬ Rose (E.faults err.old) (E.faults err.new) → Grew (E.written err.old) (E.written err.new) (line_of (options_of (seen_words words.now)) result) }
     ensures silent { (result ≡ Outcome.Done) → E.written err.new ≡ E.written err.old }
 {
-    let outcome = answer(alloc, words, files, out, limits);
-    let _ = tell(err, name_of(words), &outcome);
-    outcome
+    match options(alloc, words) {
+        Ok(options) => {
+            let outcome = answer(alloc, &options, files, patterns, out, limits);
+            let _ = tell(err, &options, &outcome);
+            outcome
+        }
+        Err(OptionAnswer::Usage(kind)) => misused(err, kind),
+        Err(OptionAnswer::NoMemory) => {
+            let _ = tell_no_memory(err);
+            Outcome::NoMemory
+        }
+    }
 }

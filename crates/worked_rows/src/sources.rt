@@ -1,15 +1,16 @@
 //! The data sources on ELF files.
 
-use crate::image::{
-    Class, EXECUTABLE, Function, Head, LOAD, NAMES, NULL, Section, Segment, TEXT, file, functions,
-    plain_file, thread_local,
-};
 use crate::sizes::{Sizes, sizes_of};
 use data_sources::{ClaimAnswer, claims, open_binary};
 use size_core::{BadFile, Claim, Fault, LabelPool, Side, Source, Span};
 use std::alloc::Global;
 use std::process::Abort;
 use std::test::Fail;
+use worked_files::{
+    Class, EXECUTABLE, Function, Head, LOAD, NAMES, NULL, SYMBOL_NAMES, Section, Segment, TEXT,
+    file, functions, large_bss, loaded_twice, object, object_functions, plain_file, symbol_table,
+    thread_local, two_functions,
+};
 
 // A label with its file size and its VM size.
 type Row<'a> = (&'a [u8], u64, u64);
@@ -71,40 +72,10 @@ fn assert_bad(
     Ok(())
 }
 
-// Names of symbols, and where each begins.
-const SYMBOL_NAMES: Section<'static> = Section {
-    name: b".strtab",
-    kind: 3,
-    bytes: b"\0a\0b\0",
-    ..NULL
-};
-
-fn symbol_table<'a>(bytes: &'a [u8], names: u32) -> Section<'a> {
-    Section {
-        name: b".symtab",
-        kind: 2,
-        bytes,
-        link: names,
-        ..NULL
-    }
-}
-
 #[test]
 fn sections_of_a_large_bss(rt: HostRuntime) -> Result<(), Fail> {
     let alloc = rt.alloc();
-    let load = Segment {
-        memsz: 136 + (1 << 40),
-        ..LOAD
-    };
-    let bss = Section {
-        name: b".bss",
-        kind: 8,
-        flags: 3,
-        addr: 0x400088,
-        empty: 1 << 40,
-        ..NULL
-    };
-    let file = file(alloc, EXECUTABLE, &[load], &[NULL, TEXT, NAMES, bss])?;
+    let file = large_bss(alloc)?;
     assert_eq!(rt; file.len(), 416);
     assert_rows(
         &rt,
@@ -145,21 +116,7 @@ fn thread_local_storage_takes_no_address(rt: HostRuntime) -> Result<(), Fail> {
 #[test]
 fn bytes_loaded_twice_count_once(rt: HostRuntime) -> Result<(), Fail> {
     let alloc = rt.alloc();
-    let code = Segment {
-        filesz: 192,
-        memsz: 192,
-        ..LOAD
-    };
-    let data = Segment {
-        flags: 4,
-        vaddr: 0x600000,
-        ..code
-    };
-    let text = Section {
-        addr: 0x4000b0,
-        ..TEXT
-    };
-    let file = file(alloc, EXECUTABLE, &[code, data], &[NULL, text, NAMES])?;
+    let file = loaded_twice(alloc)?;
     assert_eq!(rt; file.len(), 408);
     let rows: [Row<'_>; 4] = [
         (b"LOAD #0 [RX]", 192, 192),
@@ -183,25 +140,7 @@ fn bytes_loaded_twice_count_once(rt: HostRuntime) -> Result<(), Fail> {
 #[test]
 fn the_first_symbol_takes_a_byte(rt: HostRuntime) -> Result<(), Fail> {
     let alloc = rt.alloc();
-    let a = Function {
-        name: 1,
-        value: 0x400078,
-        size: 8,
-        section: 1,
-    };
-    let b = Function {
-        name: 3,
-        size: 12,
-        ..a
-    };
-    let symbols = functions(alloc, Class::Bits64, &[a, b])?;
-    let table = symbol_table(&symbols, 3);
-    let file = file(
-        alloc,
-        EXECUTABLE,
-        &[LOAD],
-        &[NULL, TEXT, table, SYMBOL_NAMES, NAMES],
-    )?;
+    let file = two_functions(alloc)?;
     for source in [Source::Symbols, Source::RawSymbols] {
         let sizes = rows_of(&rt, alloc, &file, source)?;
         assert_eq!(rt; sizes.of(b"a"), (8, 8));
@@ -329,36 +268,10 @@ fn a_table_may_name_itself(rt: HostRuntime) -> Result<(), Fail> {
     )
 }
 
-// A file without addresses that are settled.
-const RELOCATABLE: Head = Head {
-    kind: 1,
-    ..EXECUTABLE
-};
-
-const TEXT_A: Section<'static> = Section {
-    name: b".text.a",
-    addr: 0,
-    ..TEXT
-};
-
-const TEXT_B: Section<'static> = Section {
-    name: b".text.b",
-    addr: 0,
-    bytes: b"8 bytes.",
-    ..TEXT
-};
-
 #[test]
 fn each_section_of_an_object_is_a_space(rt: HostRuntime) -> Result<(), Fail> {
     let alloc = rt.alloc();
-    let bss = Section {
-        name: b".bss",
-        kind: 8,
-        flags: 3,
-        empty: 32,
-        ..NULL
-    };
-    let file = file(alloc, RELOCATABLE, &[], &[NULL, TEXT_A, TEXT_B, bss, NAMES])?;
+    let file = object(alloc)?;
     assert_eq!(rt; file.len(), 440);
     let rows: [Row<'_>; 6] = [
         (b"[ELF Section Headers]", 320, 0),
@@ -382,26 +295,7 @@ fn each_section_of_an_object_is_a_space(rt: HostRuntime) -> Result<(), Fail> {
 #[test]
 fn symbols_of_an_object_stand_in_their_sections(rt: HostRuntime) -> Result<(), Fail> {
     let alloc = rt.alloc();
-    let a = Function {
-        name: 1,
-        value: 0,
-        size: 16,
-        section: 1,
-    };
-    let b = Function {
-        name: 3,
-        size: 8,
-        section: 2,
-        ..a
-    };
-    let symbols = functions(alloc, Class::Bits64, &[a, b])?;
-    let table = symbol_table(&symbols, 4);
-    let file = file(
-        alloc,
-        RELOCATABLE,
-        &[],
-        &[NULL, TEXT_A, TEXT_B, table, SYMBOL_NAMES, NAMES],
-    )?;
+    let file = object_functions(alloc)?;
     let sizes = rows_of(&rt, alloc, &file, Source::Symbols)?;
     assert_eq!(rt; sizes.of(b"a"), (16, 16));
     assert_eq!(rt; sizes.of(b"b"), (8, 8));

@@ -1,0 +1,367 @@
+-- How files are counted one after the other.
+use Rattle.std.proofs.Common.{◌≡◌, ℕ, zero, suc, ◌+◌, ◌-◌, ◌^◌, ◌<◌, ◌≤◌, min, Bool, true, false, cond, ◌||◌, ◌==◌, nat_lt, List, [], ◌∷◌, ◌++◌, length, take, drop, Option, None, Some, Result, Ok, Err, refl, sym, ap, ◌∙◌, subst, arith}
+use Rattle.std.specs.Prelude.{IsOk, if◌then◌else◌, slice_get}
+use Rattle.std.specs.List.{sum_by}
+use Rattle.std.proofs.lemmas.Bool.Decides.{nat_tests}
+use Rattle.std.proofs.lemmas.List.{take-append-drop, take_all}
+use Rattle.std.proofs.lemmas.Option.{none-some, same_Some}
+use Rattle.std.proofs.lemmas.List.Sums.{sum_by-append, sum_by-cons}
+use Rattle.size_core.specs.declared.limits.Limits.{Limits}
+use Rattle.size_model.specs.declared.view.FileView.{FileView}
+use Rattle.size_model.specs.declared.view.SourceView.{SourceView}
+use Rattle.size_model.specs.Loads.{mapped_count}
+use Rattle.size_model.proofs.Firsts.{drop-get}
+use Rattle.data_sources.specs.Loads.{loads_of}
+use Rattle.data_sources.specs.Views.{view_of}
+use Rattle.outside.specs.Held.{Pairs, held_bytes, IsHeld}
+use Rattle.rollup.specs.Adding.{file_where, vm_where}
+use Rattle.rollup.specs.Totals.{Totals}
+use Rattle.bloaty_engine.specs.declared.answer.ProfileAnswer.{ProfileAnswer}
+use Rattle.bloaty_engine.specs.declared.answer.ProfileAnswer.TheVariants as profile
+use Rattle.bloaty_engine.specs.declared.outcome.Outcome.{Outcome}
+use Rattle.bloaty_engine.specs.declared.outcome.Outcome.TheVariants.{Done, Usage, ReadFailed, TooLong, Config, UnknownSource, PatternSyntax, PatternTooBig, Bad, TooManyClaims, MappedTooLarge, WriteFailed, NoMemory}
+use Rattle.bloaty_engine.specs.Counts.{file_size_where, vm_size_where}
+use Rattle.bloaty_engine.specs.Named.{AreHeld}
+use Rattle.bloaty_engine.specs.Sources.{Chosen}
+use Rattle.bloaty_engine.specs.Steps.{EndsAs, EndsFiles, Finds, HasCounted}
+use Rattle.bloaty_engine.specs.Verdict.{◌>>=◌, counted_file, counted_from, end_at, file_limit, if_viewed, total_limit}
+use Rattle.bloaty_engine.specs.Views.{Answers, file_views, view_within, viewed}
+
+-- One file.
+
+below : (m n : ℕ) → m < n → nat_lt m n ≡ true
+below m n lt = grind (arith, nat_tests)
+
+not-below : (m n : ℕ) → n ≤ m → nat_lt m n ≡ false
+not-below m n le = grind (arith, nat_tests)
+
+-- a file within the limits is what its bytes decide
+pub counted-within : (limits : Limits) (sources : List Chosen) (i lengths mapped : ℕ) (name file : List ℕ) → length file ≤ file_limit limits → lengths + length file ≤ total_limit limits
+    → counted_file limits sources i lengths mapped name file ≡ if_viewed i (viewed mapped limits.claims name file sources)
+unfolding counted_file
+counted-within limits sources i lengths mapped name file le total =
+    rw (not-below (file_limit limits) (length file) le, not-below (total_limit limits) (lengths + length file) total) refl
+
+-- a file over a limit is too long
+long-choice : (b c : Bool) (decided : Result FileView Outcome) (i : ℕ) → (b || c) ≡ true → cond (b || c) (Err (TooLong i)) decided ≡ Err (TooLong i)
+long-choice b c decided i e = ap (λ t. cond t (Err (TooLong i)) decided) e
+
+pub counted-long : (limits : Limits) (sources : List Chosen) (i lengths mapped : ℕ) (name file : List ℕ) → min (file_limit limits) (total_limit limits - lengths) < length file → lengths ≤ total_limit limits
+    → counted_file limits sources i lengths mapped name file ≡ Err (TooLong i)
+unfolding counted_file
+counted-long limits sources i lengths mapped name file lt le =
+    long-choice (nat_lt (file_limit limits) (length file)) (nat_lt (total_limit limits) (lengths + length file)) (if_viewed i (viewed mapped limits.claims name file sources)) i (grind (arith, nat_tests))
+
+-- how a file that isn't counted ends the run
+pub ends-viewed : (i : ℕ) (why : ProfileAnswer) (decided : Result FileView ProfileAnswer) → Answers (Err why) decided → EndsAs (Err (end_at i why)) (if_viewed i decided)
+ends-viewed i (profile.Bad bad) decided e = ap (if_viewed i) e
+ends-viewed i profile.TooManyClaims decided e = ap (if_viewed i) e
+ends-viewed i profile.MappedTooLarge decided e = ap (if_viewed i) e
+ends-viewed i profile.NoMemory decided e = tt
+
+pub ok-viewed : (i : ℕ) (decided : Result FileView ProfileAnswer) → IsOk decided → IsOk (if_viewed i decided)
+ok-viewed i (Ok f) ok = refl
+ok-viewed i (Err e) ok = cc
+
+pub viewed-ok : (i : ℕ) (decided : Result FileView ProfileAnswer) (f : FileView) → if_viewed i decided ≡ Ok f → decided ≡ Ok f
+viewed-ok i (Ok g) f e = cc
+viewed-ok i (Err a) f e = cc
+
+-- the length and the loads of a view are those of the file
+view-choice : (b : Bool) (v f : FileView) → cond b (Err profile.MappedTooLarge) (Ok v) ≡ Ok f → f ≡ v
+view-choice true v f e = cc
+view-choice false v f e = cc
+
+views-choice : (mapped : ℕ) (file : List ℕ) (r : Result (List SourceView) ProfileAnswer) (f : FileView) → view_within mapped file r ≡ Ok f → (f.len ≡ length file) × (f.loads ≡ loads_of file)
+views-choice mapped file (Ok views) f e =
+    let same : f ≡ view_of file views = view-choice (nat_lt (2 ^ 63 - 1) (mapped + mapped_count (loads_of file))) (view_of file views) f e in
+    rw same (refl, refl)
+views-choice mapped file (Err a) f e = cc
+
+pub view-parts : (mapped limit : ℕ) (name file : List ℕ) (sources : List Chosen) (f : FileView) → viewed mapped limit name file sources ≡ Ok f → (f.len ≡ length file) × (f.loads ≡ loads_of file)
+unfolding viewed
+view-parts mapped limit name file sources f e = views-choice mapped file (file_views limit name file sources) f e
+
+-- a sum over one file more
+pub sum-more : (size : FileView → ℕ) (files : List FileView) (f : FileView) → sum_by size (files ++ f ∷ []) ≡ sum_by size files + size f
+sum-more size files f = sum_by-append size files (f ∷ []) ∙ ap (λ n. sum_by size files + n) (sum_by-cons size f [] ∙ omega arith)
+
+-- a total counts one file more
+pub counted-one : (filter : Option (List ℕ → Bool)) (count : ℕ) (files : List FileView) (f : FileView) (old new : Totals) → HasCounted filter count files old
+    → new.depth ≡ old.depth → new.lengths ≡ old.lengths + f.len → new.mapped ≡ old.mapped + mapped_count f.loads
+    → ((test : List (List ℕ) → Bool) → file_where test new.rows ≡ file_where test old.rows + file_size_where filter test f)
+    → ((test : List (List ℕ) → Bool) → vm_where test new.rows ≡ vm_where test old.rows + vm_size_where filter test f)
+    → HasCounted filter count (files ++ f ∷ []) new
+counted-one filter count files f old new has depth lengths mapped file vm = record {
+  depth = depth ∙ has.depth;
+  lengths = omega (arith, lengths, has.lengths, sum-more (λ (g : FileView). g.len) files f);
+  mapped = omega (arith, mapped, has.mapped, sum-more (λ (g : FileView). mapped_count g.loads) files f);
+  file = λ test. omega (arith, file test, has.file test, sum-more (file_size_where filter test) files f);
+  vm = λ test. omega (arith, vm test, has.vm test, sum-more (vm_size_where filter test) files f);
+}
+
+-- a total of no file
+pub none-counted : (filter : Option (List ℕ → Bool)) (count depth : ℕ) → depth ≡ count → HasCounted filter count [] (record { depth = depth; rows = []; lengths = 0; mapped = 0 })
+none-counted filter count depth is = record { depth = is; lengths = refl; mapped = refl; file = λ test. refl; vm = λ test. refl }
+
+-- Files in a row.
+
+abbrev lens : List FileView → ℕ
+lens files = sum_by (λ (f : FileView). f.len) files
+
+abbrev maps : List FileView → ℕ
+maps files = sum_by (λ (f : FileView). mapped_count f.loads) files
+
+bind-none : (r : Result (List FileView) Outcome) → (r >>= λ gs. Ok ([] ++ gs)) ≡ r
+bind-none (Ok gs) = refl
+bind-none (Err e) = refl
+
+bind-cons : (f : FileView) (fs : List FileView) (r : Result (List FileView) Outcome) → ((r >>= λ gs. Ok (fs ++ gs)) >>= λ others. Ok (f ∷ others)) ≡ (r >>= λ gs. Ok (f ∷ (fs ++ gs)))
+bind-cons f fs (Ok gs) = refl
+bind-cons f fs (Err e) = refl
+
+ok-same : {X : Type 0} (x y : X) → ◌≡◌ {A = Result X Outcome} (Ok x) (Ok y) → x ≡ y
+ok-same x y e = cc
+
+module _ (limits : Limits) (sources : List Chosen) (bytes : ℕ → List ℕ) where
+  -- files behind files that are counted
+  pub counted-append : (i lengths mapped : ℕ) (names rest : List (List ℕ)) (fs : List FileView) → counted_from limits sources bytes i lengths mapped names ≡ Ok fs
+      → counted_from limits sources bytes i lengths mapped (names ++ rest) ≡ (counted_from limits sources bytes (i + length names) (lengths + lens fs) (mapped + maps fs) rest >>= λ gs. Ok (fs ++ gs))
+  counted-append i lengths mapped [] rest fs e =
+      let none : [] ≡ fs = ok-same [] fs e in
+      let p : i + 0 ≡ i = omega arith in
+      let q : lengths + 0 ≡ lengths = omega arith in
+      let r : mapped + 0 ≡ mapped = omega arith in
+      subst (λ hs. counted_from limits sources bytes i lengths mapped rest ≡ (counted_from limits sources bytes (i + 0) (lengths + lens hs) (mapped + maps hs) rest >>= λ gs. Ok (hs ++ gs))) none
+      (rw (p, q, r) (sym (bind-none (counted_from limits sources bytes i lengths mapped rest))))
+  counted-append i lengths mapped (n ∷ names) rest fs e =
+      by-file (counted_file limits sources i lengths mapped n (bytes i)) refl (λ f gs others. counted-append (i + 1) (lengths + f.len) (mapped + mapped_count f.loads) names rest gs others)
+    where
+      Next : Type 0
+      Next = (f : FileView) (gs : List FileView) → counted_from limits sources bytes (i + 1) (lengths + f.len) (mapped + mapped_count f.loads) names ≡ Ok gs
+          → counted_from limits sources bytes (i + 1) (lengths + f.len) (mapped + mapped_count f.loads) (names ++ rest)
+          ≡ (counted_from limits sources bytes (i + 1 + length names) (lengths + f.len + lens gs) (mapped + mapped_count f.loads + maps gs) rest >>= λ ks. Ok (gs ++ ks))
+
+      by-rest : (f : FileView) → counted_file limits sources i lengths mapped n (bytes i) ≡ Ok f → (r : Result (List FileView) Outcome)
+          → counted_from limits sources bytes (i + 1) (lengths + f.len) (mapped + mapped_count f.loads) names ≡ r → Next
+          → counted_from limits sources bytes i lengths mapped (n ∷ names ++ rest) ≡ (counted_from limits sources bytes (i + suc (length names)) (lengths + lens fs) (mapped + maps fs) rest >>= λ gs. Ok (fs ++ gs))
+      by-rest f at (Err x) others next = absurd (let wrong : ◌≡◌ {A = Result (List FileView) Outcome} (Err x) (Ok fs) = rw (at, others) at e in cc)
+      by-rest f at (Ok gs) others next =
+          let is : f ∷ gs ≡ fs = ok-same (f ∷ gs) fs (rw (at, others) at e) in
+          let p : i + 1 + length names ≡ i + suc (length names) = omega arith in
+          let q : lengths + f.len + lens gs ≡ lengths + lens (f ∷ gs) = omega (arith, sum_by-cons (λ (g : FileView). g.len) f gs) in
+          let s : mapped + mapped_count f.loads + maps gs ≡ mapped + maps (f ∷ gs) = omega (arith, sum_by-cons (λ (g : FileView). mapped_count g.loads) f gs) in
+          subst (λ hs. counted_from limits sources bytes i lengths mapped (n ∷ names ++ rest) ≡ (counted_from limits sources bytes (i + suc (length names)) (lengths + lens hs) (mapped + maps hs) rest >>= λ ks. Ok (hs ++ ks))) is
+          (rw (at, next f gs others, p, q, s) (bind-cons f gs (counted_from limits sources bytes (i + suc (length names)) (lengths + lens (f ∷ gs)) (mapped + maps (f ∷ gs)) rest)))
+
+      by-file : (r : Result FileView Outcome) → counted_file limits sources i lengths mapped n (bytes i) ≡ r → Next
+          → counted_from limits sources bytes i lengths mapped (n ∷ names ++ rest) ≡ (counted_from limits sources bytes (i + suc (length names)) (lengths + lens fs) (mapped + maps fs) rest >>= λ gs. Ok (fs ++ gs))
+      by-file (Err x) at next = absurd (let wrong : ◌≡◌ {A = Result (List FileView) Outcome} (Err x) (Ok fs) = rw at at e in cc)
+      by-file (Ok f) at next = by-rest f at (counted_from limits sources bytes (i + 1) (lengths + f.len) (mapped + mapped_count f.loads) names) refl next
+
+-- files whose bytes are the same
+pub same-counted : (limits : Limits) (sources : List Chosen) (old new : ℕ → List ℕ) (i lengths mapped : ℕ) (names : List (List ℕ)) → ((j : ℕ) → i ≤ j → j < i + length names → old j ≡ new j)
+    → counted_from limits sources old i lengths mapped names ≡ counted_from limits sources new i lengths mapped names
+same-counted limits sources old new i lengths mapped [] same = refl
+same-counted limits sources old new i lengths mapped (n ∷ names) same =
+    rw (same i (omega arith) (omega arith))
+    (by-file (counted_file limits sources i lengths mapped n (new i)) (λ f. same-counted limits sources old new (i + 1) (lengths + f.len) (mapped + mapped_count f.loads) names (λ j le lt. same j (omega arith) (omega arith))))
+  where
+    by-file : (r : Result FileView Outcome)
+        → ((f : FileView) → counted_from limits sources old (i + 1) (lengths + f.len) (mapped + mapped_count f.loads) names ≡ counted_from limits sources new (i + 1) (lengths + f.len) (mapped + mapped_count f.loads) names)
+        → (r >>= λ f. counted_from limits sources old (i + 1) (lengths + f.len) (mapped + mapped_count f.loads) names >>= λ others. Ok (f ∷ others))
+        ≡ (r >>= λ f. counted_from limits sources new (i + 1) (lengths + f.len) (mapped + mapped_count f.loads) names >>= λ others. Ok (f ∷ others))
+    by-file (Ok f) next = ap (λ p. p >>= λ others. Ok (f ∷ others)) (next f)
+    by-file (Err e) next = refl
+
+-- Bytes that are read.
+
+-- bytes of files, as they hold them where they tell
+pub some-held : (held : Option Pairs) (names : List (List ℕ)) → (bytes : ℕ → List ℕ) × AreHeld held names bytes
+some-held None names = (λ j. [], tt)
+some-held (Some pairs) names = (λ j. held-at pairs (slice_get names (j - 1)), λ k name at. found pairs k name at)
+  where
+    held-at : Pairs → Option (List ℕ) → List ℕ
+    held-at pairs None = []
+    held-at pairs (Some name) = held_bytes pairs name
+
+    found : (pairs : Pairs) (k : ℕ) (name : List ℕ) → slice_get names k ≡ Some name → held-at pairs (slice_get names (k + 1 - 1)) ≡ held_bytes pairs name
+    found pairs k name at =
+        let p : k + 1 - 1 ≡ k = omega arith in
+        rw (p, at) refl
+
+set-at : (ℕ → List ℕ) → ℕ → List ℕ → ℕ → List ℕ
+set-at bytes i b j = if j == i then b else bytes j
+
+set-same : (bytes : ℕ → List ℕ) (i : ℕ) (b : List ℕ) → set-at bytes i b i ≡ b
+unfolding set-at
+set-same bytes i b = ap (λ t. cond t b (bytes i)) (let p : (i == i) ≡ true = grind (arith, nat_tests) in p)
+
+set-other : (bytes : ℕ → List ℕ) (i j : ℕ) (b : List ℕ) → j < i → set-at bytes i b j ≡ bytes j
+unfolding set-at
+set-other bytes i j b lt = ap (λ t. cond t b (bytes j)) (let p : (j == i) ≡ false = grind (arith, nat_tests) in p)
+
+-- the bytes so far and those of one file more
+pub record Extends (held : Option Pairs) (names : List (List ℕ)) (old : ℕ → List ℕ) (i : ℕ) (b : List ℕ) : Type 0 where
+  pub bytes : ℕ → List ℕ
+  pub are : AreHeld held names bytes
+  pub here : bytes i ≡ b
+  pub before : (j : ℕ) → j < i → old j ≡ bytes j
+
+pub extended : (held : Option Pairs) (names : List (List ℕ)) (old : ℕ → List ℕ) (k : ℕ) (name b : List ℕ) → AreHeld held names old → slice_get names k ≡ Some name → IsHeld held name b → Extends held names old (k + 1) b
+extended None names old k name b are at is = record { bytes = set-at old (k + 1) b; are = tt; here = set-same old (k + 1) b; before = λ j lt. sym (set-other old (k + 1) j b lt) }
+extended (Some pairs) names old k name b are at is = record { bytes = old; are = are; here = are k name at ∙ sym is; before = λ j lt. refl }
+
+-- the files before number k are counted
+pub record AreCountedTo (held : Option Pairs) (limits : Limits) (sources : List Chosen) (filter : Option (List ℕ → Bool)) (names : List (List ℕ)) (k lengths : ℕ) (t : Totals) : Type 0 where
+  pub bytes : ℕ → List ℕ
+  pub are : AreHeld held names bytes
+  pub files : List FileView
+  pub counted : counted_from limits sources bytes 1 0 0 (take k names) ≡ Ok files
+  pub has : HasCounted filter (length sources) files t
+  pub lengths_are : lengths ≡ t.lengths
+
+take-length : (names : List (List ℕ)) (k : ℕ) → k ≤ length names → length (take k names) ≡ k
+take-length [] zero le = refl
+take-length [] (suc k) le = absurd (omega arith)
+take-length (n ∷ names) zero le = refl
+take-length (n ∷ names) (suc k) le = omega (arith, take-length names k (omega arith))
+
+take-next : (names : List (List ℕ)) (k : ℕ) (name : List ℕ) → slice_get names k ≡ Some name → take (k + 1) names ≡ take k names ++ name ∷ []
+take-next [] k name at = absurd (none-some name at)
+take-next (n ∷ names) zero name at = ap (λ m. m ∷ []) (same_Some n name at)
+take-next (n ∷ names) (suc k) name at =
+    let p : suc k + 1 ≡ suc (k + 1) = omega arith in
+    rw p (ap (λ ms. n ∷ ms) (take-next names k name at))
+
+take-rest : (names : List (List ℕ)) (k : ℕ) (name : List ℕ) → slice_get names k ≡ Some name → take k names ++ name ∷ drop (suc k) names ≡ names
+take-rest names k name at = ap (λ ms. take k names ++ ms) (sym (drop-get names k name at)) ∙ take-append-drop k names
+
+module _ (held : Option Pairs) (limits : Limits) (sources : List Chosen) (filter : Option (List ℕ → Bool)) (names : List (List ℕ)) where
+  -- the files so far, with the bytes of one more
+  pub recounted : (k lengths : ℕ) (t : Totals) (b : List ℕ) (to : AreCountedTo held limits sources filter names k lengths t) (more : Extends held names to.bytes (k + 1) b) → k ≤ length names
+      → counted_from limits sources more.bytes 1 0 0 (take k names) ≡ Ok to.files
+  recounted k lengths t b to more le =
+      sym (same-counted limits sources to.bytes more.bytes 1 0 0 (take k names) (λ j low high. more.before j (omega (arith, take-length names k le)))) ∙ to.counted
+
+  behind : (k lengths : ℕ) (t : Totals) (b : List ℕ) (rest : List (List ℕ)) (to : AreCountedTo held limits sources filter names k lengths t) (more : Extends held names to.bytes (k + 1) b) → k ≤ length names
+      → counted_from limits sources more.bytes 1 0 0 (take k names ++ rest) ≡ (counted_from limits sources more.bytes (k + 1) lengths t.mapped rest >>= λ gs. Ok (to.files ++ gs))
+  behind k lengths t b rest to more le =
+      let p : 1 + length (take k names) ≡ k + 1 = omega (arith, take-length names k le) in
+      let q : 0 + lens to.files ≡ lengths = omega (arith, to.has.lengths, to.lengths_are) in
+      let r : 0 + maps to.files ≡ t.mapped = omega (arith, to.has.mapped) in
+      counted-append limits sources more.bytes 1 0 0 (take k names) rest to.files (recounted k lengths t b to more le)
+      ∙ (ap (λ i. counted_from limits sources more.bytes i (0 + lens to.files) (0 + maps to.files) rest >>= λ gs. Ok (to.files ++ gs)) p
+      ∙ (ap (λ n. counted_from limits sources more.bytes (k + 1) n (0 + maps to.files) rest >>= λ gs. Ok (to.files ++ gs)) q
+      ∙ ap (λ n. counted_from limits sources more.bytes (k + 1) lengths n rest >>= λ gs. Ok (to.files ++ gs)) r))
+
+  -- one file more is counted
+  pub counted-next : (k lengths more_lengths : ℕ) (old new : Totals) (name b : List ℕ) (f : FileView) (to : AreCountedTo held limits sources filter names k lengths old) (more : Extends held names to.bytes (k + 1) b)
+      → slice_get names k ≡ Some name → k ≤ length names → counted_file limits sources (k + 1) lengths old.mapped name b ≡ Ok f → HasCounted filter (length sources) (to.files ++ f ∷ []) new → more_lengths ≡ new.lengths
+      → AreCountedTo held limits sources filter names (k + 1) more_lengths new
+  counted-next k lengths more_lengths old new name b f to more at le is has lengths_are =
+      let file : counted_file limits sources (k + 1) lengths old.mapped name (more.bytes (k + 1)) ≡ Ok f = rw more.here is in
+      record {
+        bytes = more.bytes;
+        are = more.are;
+        files = to.files ++ f ∷ [];
+        counted = ap (counted_from limits sources more.bytes 1 0 0) (take-next names k name at) ∙ (behind k lengths old b (name ∷ []) to more le ∙ rw file refl);
+        has = has;
+        lengths_are = lengths_are;
+      }
+
+  -- the run ends at one file
+  pub counted-stop : (k lengths : ℕ) (t : Totals) (name b : List ℕ) (end : Outcome) (to : AreCountedTo held limits sources filter names k lengths t) (more : Extends held names to.bytes (k + 1) b)
+      → slice_get names k ≡ Some name → k ≤ length names → counted_file limits sources (k + 1) lengths t.mapped name b ≡ Err end → counted_from limits sources more.bytes 1 0 0 names ≡ Err end
+  counted-stop k lengths t name b end to more at le is =
+      let file : counted_file limits sources (k + 1) lengths t.mapped name (more.bytes (k + 1)) ≡ Err end = rw more.here is in
+      ap (counted_from limits sources more.bytes 1 0 0) (sym (take-rest names k name at)) ∙ (behind k lengths t b (name ∷ drop (suc k) names) to more le ∙ rw file refl)
+
+  ok-is : {X E : Type 0} (r : Result X E) (x : X) → r ≡ Ok x → IsOk r
+  ok-is (Ok y) x e = refl
+  ok-is (Err y) x e = cc
+
+  -- how a run ends at a read
+  pub read-ends : (k lengths limit : ℕ) (t : Totals) (name b : List ℕ) (end : Outcome) (to : AreCountedTo held limits sources filter names k lengths t) (more : Extends held names to.bytes (k + 1) b)
+      → slice_get names k ≡ Some name → k < length names → lengths ≤ total_limit limits → limit ≡ min (file_limit limits) (total_limit limits - lengths) → Finds (k + 1) limit b (Err end)
+      → (bytes : ℕ → List ℕ) × AreHeld held names bytes × EndsFiles limits sources filter names bytes (Err end)
+  read-ends k lengths limit t name b (ReadFailed i) to more at lt le is e = (more.bytes, more.are, (k, e, lt, ok-is _ to.files (recounted k lengths t b to more (omega arith))))
+  read-ends k lengths limit t name b (TooLong i) to more at lt le is e =
+      let long : counted_file limits sources (k + 1) lengths t.mapped name b ≡ Err (TooLong (k + 1)) = counted-long limits sources (k + 1) lengths t.mapped name b (rw (← is) e.1) le in
+      (more.bytes, more.are, rw e.0 (counted-stop k lengths t name b (TooLong (k + 1)) to more at (omega arith) long))
+  read-ends k lengths limit t name b NoMemory to more at lt le is e = (more.bytes, more.are, tt)
+  read-ends k lengths limit t name b Done to more at lt le is e = absurd e
+  read-ends k lengths limit t name b (Usage kind) to more at lt le is e = absurd e
+  read-ends k lengths limit t name b (Config kind offset) to more at lt le is e = absurd e
+  read-ends k lengths limit t name b (UnknownSource i) to more at lt le is e = absurd e
+  read-ends k lengths limit t name b (PatternSyntax i) to more at lt le is e = absurd e
+  read-ends k lengths limit t name b (PatternTooBig i) to more at lt le is e = absurd e
+  read-ends k lengths limit t name b (Bad i fault offset) to more at lt le is e = absurd e
+  read-ends k lengths limit t name b (TooManyClaims i) to more at lt le is e = absurd e
+  read-ends k lengths limit t name b MappedTooLarge to more at lt le is e = absurd e
+  read-ends k lengths limit t name b WriteFailed to more at lt le is e = absurd e
+
+  -- how a run ends at a file that is read
+  pub count-ends : (k lengths : ℕ) (t : Totals) (name b : List ℕ) (end : Outcome) (to : AreCountedTo held limits sources filter names k lengths t) (more : Extends held names to.bytes (k + 1) b)
+      → slice_get names k ≡ Some name → k < length names → EndsAs {X = FileView} (Err end) (counted_file limits sources (k + 1) t.lengths t.mapped name b)
+      → (bytes : ℕ → List ℕ) × AreHeld held names bytes × EndsFiles limits sources filter names bytes (Err end)
+  count-ends k lengths t name b end to more at lt e = by-end end (rw (← to.lengths_are) at e)
+    where
+      stopped : (end : Outcome) → counted_file limits sources (k + 1) lengths t.mapped name b ≡ Err end → counted_from limits sources more.bytes 1 0 0 names ≡ Err end
+      stopped end e = counted-stop k lengths t name b end to more at (omega arith) e
+
+      by-end : (end : Outcome) → EndsAs {X = FileView} (Err end) (counted_file limits sources (k + 1) lengths t.mapped name b) → (bytes : ℕ → List ℕ) × AreHeld held names bytes × EndsFiles limits sources filter names bytes (Err end)
+      by-end (ReadFailed i) e = absurd e
+      by-end NoMemory e = (more.bytes, more.are, tt)
+      by-end (TooLong i) e = (more.bytes, more.are, stopped (TooLong i) e)
+      by-end Done e = (more.bytes, more.are, stopped Done e)
+      by-end (Usage kind) e = (more.bytes, more.are, stopped (Usage kind) e)
+      by-end (Config kind offset) e = (more.bytes, more.are, stopped (Config kind offset) e)
+      by-end (UnknownSource i) e = (more.bytes, more.are, stopped (UnknownSource i) e)
+      by-end (PatternSyntax i) e = (more.bytes, more.are, stopped (PatternSyntax i) e)
+      by-end (PatternTooBig i) e = (more.bytes, more.are, stopped (PatternTooBig i) e)
+      by-end (Bad i fault offset) e = (more.bytes, more.are, stopped (Bad i fault offset) e)
+      by-end (TooManyClaims i) e = (more.bytes, more.are, stopped (TooManyClaims i) e)
+      by-end MappedTooLarge e = (more.bytes, more.are, stopped MappedTooLarge e)
+      by-end WriteFailed e = (more.bytes, more.are, stopped WriteFailed e)
+
+  -- all files
+  pub all-counted : (k lengths : ℕ) (t : Totals) → AreCountedTo held limits sources filter names k lengths t → length names ≤ k
+      → (bytes : ℕ → List ℕ) × AreHeld held names bytes × EndsFiles limits sources filter names bytes (Ok t)
+  all-counted k lengths t to le = (to.bytes, to.are, (to.files, ap (counted_from limits sources to.bytes 1 0 0) (sym (take_all k names le)) ∙ to.counted, to.has))
+
+  take-none : (ns : List (List ℕ)) → take 0 ns ≡ []
+  take-none [] = refl
+  take-none (n ∷ ns) = refl
+
+  -- no file yet
+  pub counted-none : (depth : ℕ) → depth ≡ length sources → AreCountedTo held limits sources filter names 0 0 (record { depth = depth; rows = []; lengths = 0; mapped = 0 })
+  counted-none depth is = record {
+    bytes = (some-held held names).0;
+    are = (some-held held names).1;
+    files = [];
+    counted = ap (counted_from limits sources (some-held held names).0 1 0 0) (take-none names);
+    has = none-counted filter (length sources) depth is;
+    lengths_are = refl;
+  }
+
+-- a step that went well gave something
+pub ok-some : {X E : Type 0} (r : Result X E) → IsOk r → (x : X) × (r ≡ Ok x)
+ok-some (Ok x) ok = (x, refl)
+ok-some (Err e) ok = cc
+
+-- The one made file.
+
+pub made-long : (limits : Limits) (sources : List Chosen) (name file : List ℕ) → min (file_limit limits) (total_limit limits) < length file
+    → (counted_file limits sources 1 0 0 name file >>= λ f. (Ok [] >>= λ others. Ok (f ∷ others))) ≡ Err (TooLong 1)
+made-long limits sources name file lt =
+    let p : total_limit limits - 0 ≡ total_limit limits = omega arith in
+    ap (λ r. r >>= λ f. (Ok [] >>= λ others. Ok (f ∷ others))) (counted-long limits sources 1 0 0 name file (rw p lt) (omega arith))
+
+pub made-counted : (limits : Limits) (sources : List Chosen) (name file : List ℕ) (f : FileView) → counted_file limits sources 1 0 0 name file ≡ Ok f
+    → (counted_file limits sources 1 0 0 name file >>= λ g. (Ok [] >>= λ others. Ok (g ∷ others))) ≡ Ok (f ∷ [])
+made-counted limits sources name file f e = ap (λ r. r >>= λ g. (Ok [] >>= λ others. Ok (g ∷ others))) e
+
+-- what may still be read is within the limit of all files
+pub min-within : (file total lengths limit : ℕ) → limit ≡ min file (total - lengths) → limit ≤ total - lengths
+min-within file total lengths limit e = grind arith

@@ -1,0 +1,19 @@
+-- The made file is counted, or it is too long.
+use Rattle.std.proofs.Common.{◌≡◌, ◌<◌, [], ◌∷◌, length, min, codes, arith}
+use Rattle.elf_synth.specs.Made.{made}
+use Rattle.bloaty_engine.specs.Verdict.{file_limit, total_limit}
+use Rattle.bloaty_engine.proofs.FileLemmas.{made-counted, made-long, none-counted, ok-some}
+use Rattle.bloaty_engine.proofs.files.count_made.Goals as goal
+
+pub returns-then-len-limit-clause-counted : goal.returns-then-len-limit-clause-counted
+returns-then-len-limit-clause-counted c =
+    let limit : c.min-limit.result ≡ min (file_limit c.args.limits.now) (total_limit c.args.limits.now) = rw (c.file_limit.ensures, c.total_limit.ensures) at c.min-limit.ensures in
+    let long : c.min-limit.result < length c.in_ok-file.file.items = omega (arith, c.if-len-limit.true, c.len.ensures, c.in_ok-file.file.ok) in
+    made-long c.args.limits.now c.args.plan.now.sources (codes "synth") (made c.args.n) (rw (← limit, ← c.in_ok-file.ensures.bytes) long)
+
+pub returns-clause-counted : goal.returns-clause-counted
+returns-clause-counted c =
+    let ended = rw (c.new-total.ensures, c.deref.ensures.value, c.in_ok-file.ensures.bytes, c.in_ok-name.ensures) at c.in_ok-count_file.ensures.ended in
+    let counted = rw (c.new-total.ensures, c.deref.ensures.value, c.in_ok-file.ensures.bytes, c.in_ok-name.ensures) at c.in_ok-count_file.ensures.counted in
+    let f = ok-some _ ended in
+    (f.0 ∷ [], made-counted c.args.limits.now c.args.plan.now.sources (codes "synth") (made c.args.n) f.0 f.1, counted [] f.0 f.1 (none-counted _ _ c.depth.result c.depth.ensures))

@@ -1,0 +1,85 @@
+-- What a run answers and writes, by the options of its words and the bytes of its files.
+use Rattle.std.specs.Prelude.{⊤, ◌≡◌, ℕ, zero, suc, ◌<◌, Bool, true, false, List, length, Option, Some, Result, Ok, Err, Vec, IsOk}
+use Rattle.std.specs.declared.alloc.Global.{Global}
+use Rattle.size_core.specs.declared.limits.Limits.{Limits}
+use Rattle.outside.specs.Grown.{Grew, GrewByPart}
+use Rattle.outside.specs.Held.{Pairs}
+use Rattle.custom_rewrites.specs.Pattern.{IsNoPattern}
+use Rattle.size_options.specs.declared.chosen.Options.{Options}
+use Rattle.size_options.specs.declared.answer.UsageKind.{UsageKind}
+use Rattle.size_options.specs.declared.answer.UsageKind.TheVariants as usage
+use Rattle.bloaty_engine.specs.declared.outcome.Outcome.{Outcome}
+use Rattle.bloaty_engine.specs.declared.outcome.Outcome.TheVariants.{Done, Usage, ReadFailed, TooLong, PatternSyntax, PatternTooBig, Bad, TooManyClaims, MappedTooLarge, WriteFailed, NoMemory}
+use Rattle.bloaty_engine.specs.Named.{AreContents, Contents, file_names}
+use Rattle.bloaty_engine.specs.Patterns.{ArePatterns, StopsAt}
+use Rattle.bloaty_engine.specs.Report.{IsReport}
+use Rattle.bloaty_engine.specs.Verdict.{Counted, Request, asked, counted_files, verdict}
+
+-- the words and the configuration have no fault, and what they ask is so
+abbrev pub IsAsked : Limits → Result Options UsageKind → Contents → (Request → Type 0) → Type 0
+IsAsked limits given contents P = (r : Request) × (asked limits given contents ≡ Ok r) × P r
+
+-- Where a read of file i may fail: the configuration is read once the words are taken, and a file once the files before
+-- it are counted.
+abbrev pub IsReached : Limits → Result Options UsageKind → Contents → ℕ → Type 0
+IsReached limits given contents zero = (o : Options) × (given ≡ Ok o) × ((name : List ℕ) × (o.config ≡ Some name))
+IsReached limits given contents (suc k) = IsAsked limits given contents (λ r. (k < length (file_names r.options)) × IsOk (counted_files limits r contents k))
+
+-- An answer is the verdict, or it interrupts the run at a place that no fault of the verdict stands before. `last` is
+-- the last pattern that was refused for its size.
+abbrev pub IsAnswer : Limits → Result Options UsageKind → Contents → List ℕ → Outcome → Type 0
+IsAnswer limits given contents last Done = IsOk (verdict limits given contents)
+IsAnswer limits given contents last WriteFailed = IsOk (verdict limits given contents)
+IsAnswer limits given contents last (Usage usage.Words) = Unit {0}
+IsAnswer limits given contents last NoMemory = Unit {0}
+IsAnswer limits given contents last (ReadFailed i) = IsReached limits given contents i
+IsAnswer limits given contents last (PatternSyntax i) = IsAsked limits given contents (λ r. StopsAt r.options.filter r.customs i IsNoPattern)
+IsAnswer limits given contents last (PatternTooBig i) = IsAsked limits given contents (λ r. StopsAt r.options.filter r.customs i (λ pattern. last ≡ pattern))
+IsAnswer limits given contents last answer = verdict limits given contents ≡ Err answer
+
+-- the patterns stand before the files: an answer that comes after them
+abbrev pub is_past_patterns : Outcome → Bool
+is_past_patterns Done = true
+is_past_patterns (ReadFailed (suc k)) = true
+is_past_patterns (TooLong (suc k)) = true
+is_past_patterns (Bad i fault offset) = true
+is_past_patterns (TooManyClaims i) = true
+is_past_patterns MappedTooLarge = true
+is_past_patterns WriteFailed = true
+is_past_patterns answer = false
+
+-- what was written: the report whole, or a proper prefix of it, or nothing
+abbrev pub HasReport : Limits → Result Options UsageKind → Contents → (List ℕ → Type 0) → Type 0
+HasReport limits given contents P = (c : Counted) × (text : List ℕ) × (verdict limits given contents ≡ Ok c) × IsReport c text × P text
+
+abbrev pub Writes : Limits → Result Options UsageKind → Contents → Option (List ℕ) → Option (List ℕ) → Outcome → Type 0
+Writes limits given contents old new Done = HasReport limits given contents (Grew old new)
+Writes limits given contents old new WriteFailed = HasReport limits given contents (GrewByPart old new)
+Writes limits given contents old new answer = new ≡ old
+
+-- A run over files of these bytes: those that the files hold, where they tell.
+pub record IsRun (held : Option Pairs) (limits : Limits) (given : Result Options UsageKind) (last : List ℕ) (old new : Option (List ℕ)) (answer : Outcome) (contents : Contents) : Type 0 where
+  pub bytes : (o : Options) → given ≡ Ok o → AreContents held o contents
+  pub is : IsAnswer limits given contents last answer
+  pub patterns : is_past_patterns answer ≡ true → IsAsked limits given contents (λ r. ArePatterns r.options.filter r.customs)
+  pub written : Writes limits given contents old new answer
+
+-- where no fault stands and nothing interrupts it, a run is done, for want of memory aside; a pattern may still be none
+abbrev pub IsFinished : Outcome → Type 0
+IsFinished Done = ⊤
+IsFinished NoMemory = ⊤
+IsFinished (PatternSyntax i) = ⊤
+IsFinished answer = ⊥
+
+-- Up to its report a run gives the report's text, or it ends so.
+abbrev pub is_end : Outcome → Bool
+is_end Done = false
+is_end WriteFailed = false
+is_end (Usage kind) = false
+is_end answer = true
+
+abbrev pub EndsReport : Limits → Options → List ℕ → Contents → Result (Vec ℕ Global) Outcome → Type 0
+EndsReport limits o last contents (Ok text) =
+    HasReport limits (Ok o) contents (λ t. t ≡ text.items) × IsAsked limits (Ok o) contents (λ r. ArePatterns r.options.filter r.customs)
+EndsReport limits o last contents (Err end) =
+    IsAnswer limits (Ok o) contents last end × (is_past_patterns end ≡ true → IsAsked limits (Ok o) contents (λ r. ArePatterns r.options.filter r.customs)) × (is_end end ≡ true)

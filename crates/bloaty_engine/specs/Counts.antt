@@ -1,0 +1,33 @@
+-- How many bytes of a file have a path of which a test holds.
+use Rattle.std.specs.Prelude.{ℕ, ◌+◌, ◌*◌, ◌^◌, Bool, ◌&&◌, List, length, map, Option, None, Some, option_map}
+use Rattle.std.specs.List.{sum_by}
+use Rattle.size_model.specs.declared.view.FileView.{FileView}
+use Rattle.size_model.specs.declared.view.SourceView.{SourceView}
+use Rattle.size_model.specs.Count.{count_from}
+use Rattle.size_model.specs.Loads.{is_mapped}
+use Rattle.size_model.specs.Sizes.{offset_path, passes, position_path}
+use Rattle.custom_rewrites.specs.Pattern.{is_found}
+
+-- the test of a filter: its pattern is found in a label
+abbrev pub filter_test : Option (List ℕ) → Option (List ℕ → Bool)
+filter_test filter = option_map is_found filter
+
+-- which labels of a pool a filter passes
+abbrev pub marks_by : Option (List ℕ) → List (List ℕ) → Option (List Bool)
+marks_by None pool = None
+marks_by (Some pattern) pool = Some (map (is_found pattern) pool)
+
+-- how many offsets of a file pass the filter and have such a path; with the test that a path begins with a prefix, this
+-- is the prefix's file size
+abbrev pub file_size_where : Option (List ℕ → Bool) → (List (List ℕ) → Bool) → FileView → ℕ
+file_size_where filter test f = count_from (λ o. passes filter (offset_path f o) && test (offset_path f o)) 0 f.len
+
+-- how many mapped positions do
+abbrev pub vm_size_where : Option (List ℕ → Bool) → (List (List ℕ) → Bool) → FileView → ℕ
+vm_size_where filter test f =
+    count_from (λ p. is_mapped f.loads p && (passes filter (position_path f p) && test (position_path f p))) 0 (2 ^ 96)
+
+-- how many steps a file takes at most: for each data source, by its claims and the file's loads
+abbrev pub step_bound : FileView → ℕ
+step_bound f =
+    sum_by (λ (s : SourceView). 4 * length s.claims * (2 * length f.loads + 1) + 2 * (2 * length f.loads + 1) + 4) f.sources

@@ -1,0 +1,53 @@
+-- What the steps of a run answer.
+use Rattle.std.specs.Prelude.{◌≡◌, ℕ, ◌+◌, ◌<◌, ◌≤◌, ⊤, Bool, List, length, take, Option, Some, Result, Ok, Err, Vec, IsOk}
+use Rattle.std.specs.List.{sum_by}
+use Rattle.std.specs.declared.alloc.Global.{Global}
+use Rattle.size_core.specs.declared.limits.Limits.{Limits}
+use Rattle.size_model.specs.declared.view.FileView.{FileView}
+use Rattle.size_model.specs.Loads.{mapped_count}
+use Rattle.config_text.specs.declared.config.CustomSource.{CustomSource}
+use Rattle.rollup.specs.Adding.{file_where, vm_where}
+use Rattle.rollup.specs.Totals.{Totals}
+use Rattle.bloaty_engine.specs.declared.outcome.Outcome.{Outcome}
+use Rattle.bloaty_engine.specs.declared.outcome.Outcome.TheVariants.{ReadFailed, TooLong, NoMemory}
+use Rattle.bloaty_engine.specs.Counts.{file_size_where, vm_size_where}
+use Rattle.bloaty_engine.specs.Sources.{Chosen}
+use Rattle.bloaty_engine.specs.Verdict.{counted_from, customs_in}
+
+-- a read of file i, of which so many bytes may be read, found these bytes: it gave them, or they are too long
+abbrev pub Finds : ℕ → ℕ → List ℕ → Result (Vec ℕ Global) Outcome → Type 0
+Finds i limit bytes (Ok v) = (v.items ≡ bytes) × (length bytes ≤ limit)
+Finds i limit bytes (Err (TooLong j)) = (j ≡ i) × (limit < length bytes)
+Finds i limit bytes (Err (ReadFailed j)) = j ≡ i
+Finds i limit bytes (Err NoMemory) = ⊤
+Finds i limit bytes (Err end) = ⊥
+
+-- what the configuration of this text comes to, or that it couldn't be read
+abbrev pub EndsConfig : Limits → Option (List ℕ) → List ℕ → Result (Vec CustomSource Global) Outcome → Type 0
+EndsConfig limits name text (Ok v) = customs_in limits name text ≡ Ok v.items
+EndsConfig limits name text (Err (ReadFailed i)) = (i ≡ 0) × ((n : List ℕ) × (name ≡ Some n))
+EndsConfig limits name text (Err NoMemory) = ⊤
+EndsConfig limits name text (Err end) = customs_in limits name text ≡ Err end
+
+-- a step that reads no file ends as it is decided, or for want of memory
+abbrev pub EndsAs : {X : Type 0} → Result (Unit {0}) Outcome → Result X Outcome → Type 0
+EndsAs (Ok u) decided = IsOk decided
+EndsAs (Err NoMemory) decided = ⊤
+EndsAs (Err (ReadFailed i)) decided = ⊥
+EndsAs (Err end) decided = decided ≡ Err end
+
+-- a total counts these files
+pub record HasCounted (filter : Option (List ℕ → Bool)) (count : ℕ) (files : List FileView) (t : Totals) : Type 0 where
+  pub depth : t.depth ≡ count
+  pub lengths : t.lengths ≡ sum_by (λ (f : FileView). f.len) files
+  pub mapped : t.mapped ≡ sum_by (λ (f : FileView). mapped_count f.loads) files
+  pub file : (test : List (List ℕ) → Bool) → file_where test t.rows ≡ sum_by (file_size_where filter test) files
+  pub vm : (test : List (List ℕ) → Bool) → vm_where test t.rows ≡ sum_by (vm_size_where filter test) files
+
+-- the files of these names with these bytes were counted, or the run ended at one of them, or at a read that failed where
+-- the files before it were counted
+abbrev pub EndsFiles : Limits → List Chosen → Option (List ℕ → Bool) → List (List ℕ) → (ℕ → List ℕ) → Result Totals Outcome → Type 0
+EndsFiles limits sources filter names files (Ok t) = (fs : List FileView) × (counted_from limits sources files 1 0 0 names ≡ Ok fs) × HasCounted filter (length sources) fs t
+EndsFiles limits sources filter names files (Err (ReadFailed i)) = (k : ℕ) × (i ≡ k + 1) × (k < length names) × IsOk (counted_from limits sources files 1 0 0 (take k names))
+EndsFiles limits sources filter names files (Err NoMemory) = ⊤
+EndsFiles limits sources filter names files (Err end) = counted_from limits sources files 1 0 0 names ≡ Err end

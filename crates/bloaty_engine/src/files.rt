@@ -1,0 +1,152 @@
+//! The files of a run, read and counted one after the other.
+
+ghost use Rattle.std.specs.Prelude.{◌≡◌, ◌+◌, ◌<◌, ◌≤◌, ◌++◌, ◌∷◌, [], ℕ, List, Ok, Some, length, codes, slice_get, IfSome, OnOk, IsErrOf};
+ghost use Rattle.outside.specs.Causes.{Rose};
+ghost use Rattle.outside.specs.Held.{IsHeld};
+ghost use Rattle.size_model.specs.declared.view.FileView.{FileView as FileViewSpec};
+ghost use Rattle.elf_synth.specs.Made.{made};
+ghost use Rattle.bloaty_engine.specs.Counts.{filter_test};
+ghost use Rattle.bloaty_engine.specs.Named.{AreHeld};
+ghost use Rattle.bloaty_engine.specs.Steps.{EndsAs, EndsFiles, Finds, HasCounted};
+ghost use Rattle.bloaty_engine.specs.Verdict.{counted_file, end_at, file_limit, total_limit};
+
+use crate::answer::ProfileAnswer;
+use crate::asked::Plan;
+use crate::outcome::Outcome;
+use crate::profile::profile_file;
+use elf_synth::synth;
+use outside::{FileAnswer, Files};
+use rollup::Rollup;
+use size_core::{BadFile, Limits, Names, Steps, Text};
+use std::alloc::Global;
+use std::marker::Brand;
+use std::sync::ledger::{Blank, Ledger};
+
+// The most bytes of a file.
+fn file_limit(limits: &Limits) -> u64
+    ensures { result ≡ file_limit limits.now }
+{
+    limits.file.min(u64::from(u32::MAX))
+}
+
+// The most bytes of all files.
+fn total_limit(limits: &Limits) -> u64
+    ensures { result ≡ total_limit limits.now }
+{
+    limits.total.min(1 << 62)
+}
+
+/// Reads file `number`, of which at most `limit` bytes are read.
+pub fn read_file<F: Files>(
+    alloc: Global,
+    files: &mut F,
+    name: &str,
+    number: usize,
+    limit: u64,
+) -> Result<Vec<u8>, Outcome>
+    ensures found { (bytes : List ℕ) × IsHeld (F.held files.old) name.now bytes × Finds number limit bytes result }
+    ensures failed { IsErrOf result (Outcome.ReadFailed number) → Rose (F.faults files.old) (F.faults files.new) × IfSome (F.last_failed files.new) (λ n. n ≡ name.now) }
+    ensures held { F.held files.new ≡ F.held files.old }
+    ensures later { F.faults files.old ≤ F.faults files.new }
+{
+    match files.read(alloc, name, limit) {
+        Ok(bytes) => Ok(bytes),
+        Err(FileAnswer::Failed) => Err(Outcome::ReadFailed(number)),
+        Err(FileAnswer::TooLong) => Err(Outcome::TooLong(number)),
+        Err(FileAnswer::NoMemory) => Err(Outcome::NoMemory),
+    }
+}
+
+// How a run ends at file `number`.
+fn end_at(number: usize, answer: ProfileAnswer) -> Outcome
+    ensures { result ≡ end_at number answer }
+{
+    match answer {
+        ProfileAnswer::Bad(BadFile { fault, offset }) => Outcome::Bad {
+            file: number,
+            fault,
+            offset,
+        },
+        ProfileAnswer::TooManyClaims => Outcome::TooManyClaims(number),
+        ProfileAnswer::MappedTooLarge => Outcome::MappedTooLarge,
+        ProfileAnswer::NoMemory => Outcome::NoMemory,
+    }
+}
+
+// Counts file `number`. The blank opens a counter of steps that nothing reads.
+fn count_file<L: Ledger>(
+    alloc: Global,
+    plan: &Plan,
+    name: &Text,
+    file: &[u8],
+    number: usize,
+    total: &mut Rollup,
+    limits: &Limits,
+    blank: Blank,
+) -> Result<(), Outcome>
+    requires name { blank.name ≡ L.name }
+    requires parts { blank.parts ≡ L.parts }
+    requires some { 0 < blank.parts }
+    requires depth { total.old.depth ≡ length plan.now.sources }
+    requires fits { length file.now ≤ file_limit limits.now }
+    requires lengths { total.old.lengths + length file.now ≤ total_limit limits.now }
+    ensures ended { EndsAs result (counted_file limits.now plan.now.sources number total.old.lengths total.old.mapped name.now file.now) }
+    ensures counted { OnOk result ((files : List FileViewSpec) (f : FileViewSpec)
+        → counted_file limits.now plan.now.sources number total.old.lengths total.old.mapped name.now file.now ≡ Ok f
+        → HasCounted (filter_test plan.now.filter) (length plan.now.sources) files total.old
+        → HasCounted (filter_test plan.now.filter) (length plan.now.sources) (files ++ f ∷ []) total.new) }
+    ensures depth { total.new.depth ≡ total.old.depth }
+    ensures lengths { OnOk result (total.new.lengths ≡ total.old.lengths + length file.now) }
+{
+    let mut steps = Steps::<L>::begin(blank);
+    match profile_file(alloc, plan, name.as_str(), file, total, limits, &mut steps) {
+        Ok(()) => Ok(()),
+        Err(answer) => Err(end_at(number, answer)),
+    }
+}
+
+/// Reads and counts the files of these names, each let go before the next is read.
+pub fn count_files<F: Files>(
+    alloc: Global,
+    names: &Names,
+    plan: &Plan,
+    files: &mut F,
+    limits: &Limits,
+) -> Result<Rollup, Outcome>
+    requires few { length plan.now.sources ≤ 8 }
+    ensures counted { (bytes : ℕ → List ℕ) × AreHeld (F.held files.old) names.now bytes × EndsFiles limits.now plan.now.sources (filter_test plan.now.filter) names.now bytes result }
+    ensures failed { (k : ℕ) → IsErrOf result (Outcome.ReadFailed (k + 1)) → Rose (F.faults files.old) (F.faults files.new) × IfSome (F.last_failed files.new) (λ n. slice_get names.now k ≡ Some n) }
+    ensures held { F.held files.new ≡ F.held files.old }
+    ensures later { F.faults files.old ≤ F.faults files.new }
+{
+    let mut total = Rollup::new(alloc, plan.depth());
+    let mut lengths = 0;
+    for k in 0..names.len() {
+        let name = names.get(k);
+        let limit = file_limit(limits).min(total_limit(limits) - lengths);
+        let file = read_file(alloc, files, name.as_str(), k + 1, limit)?;
+        let blank = Blank::new(1);
+        count_file::<Brand>(alloc, plan, name, &file, k + 1, &mut total, limits, blank)?;
+        lengths += file.len() as u64;
+    }
+    Ok(total)
+}
+
+/// Counts the made file of `n` functions.
+pub fn count_made(alloc: Global, n: u32, plan: &Plan, limits: &Limits) -> Result<Rollup, Outcome>
+    requires number { n ≤ 1_000_000 }
+    requires few { length plan.now.sources ≤ 8 }
+    ensures counted { EndsFiles limits.now plan.now.sources (filter_test plan.now.filter) (codes "synth" ∷ []) (λ i. made n) result }
+    ensures unread { (i : ℕ) → IsErrOf result (Outcome.ReadFailed i) → ⊥ }
+{
+    let mut total = Rollup::new(alloc, plan.depth());
+    let file = synth(alloc, n)?;
+    let limit = file_limit(limits).min(total_limit(limits));
+    if file.len() as u64 > limit {
+        return Err(Outcome::TooLong(1));
+    }
+    let name = Text::of(alloc, "synth")?;
+    let blank = Blank::new(1);
+    count_file::<Brand>(alloc, plan, &name, &file, 1, &mut total, limits, blank)?;
+    Ok(total)
+}

@@ -1,0 +1,263 @@
+//! The files of the worked runs.
+
+use crate::image::{
+    Class, EXECUTABLE, Function, Head, LOAD, NAMES, NULL, Section, Segment, TEXT, file, functions,
+    many_sections, plain_file, thread_local,
+};
+use std::alloc::{AllocError, Global};
+
+/// Names of symbols: `a` at 1, `b` at 3.
+pub const SYMBOL_NAMES: Section<'static> = Section {
+    name: b".strtab",
+    kind: 3,
+    bytes: b"\0a\0b\0",
+    ..NULL
+};
+
+/// A table of symbols, whose names are those of a section.
+pub fn symbol_table<'a>(bytes: &'a [u8], names: u32) -> Section<'a> {
+    Section {
+        name: b".symtab",
+        kind: 2,
+        bytes,
+        link: names,
+        ..NULL
+    }
+}
+
+/// An object, whose addresses aren't settled.
+pub const RELOCATABLE: Head = Head {
+    kind: 1,
+    ..EXECUTABLE
+};
+
+// Code of an object.
+const TEXT_A: Section<'static> = Section {
+    name: b".text.a",
+    addr: 0,
+    ..TEXT
+};
+
+const TEXT_B: Section<'static> = Section {
+    name: b".text.b",
+    addr: 0,
+    bytes: b"8 bytes.",
+    ..TEXT
+};
+
+// Addresses of data that has no bytes in the file.
+fn zeroed<'a>(name: &'a [u8], addr: u64, size: u64) -> Section<'a> {
+    Section {
+        name,
+        kind: 8,
+        flags: 3,
+        addr,
+        empty: size,
+        ..NULL
+    }
+}
+
+// Bytes of the file that have no addresses.
+fn part<'a>(name: &'a [u8], bytes: &'a [u8]) -> Section<'a> {
+    Section {
+        name,
+        kind: 1,
+        bytes,
+        ..NULL
+    }
+}
+
+/// The plain file with 2^40 addresses of zeros behind its code: 416 bytes.
+pub fn large_bss(alloc: Global) -> Result<Vec<u8>, AllocError> {
+    let load = Segment {
+        memsz: 136 + (1 << 40),
+        ..LOAD
+    };
+    let bss = zeroed(b".bss", 0x400088, 1 << 40);
+    file(alloc, EXECUTABLE, &[load], &[NULL, TEXT, NAMES, bss])
+}
+
+/// A file of 408 bytes, the first 192 of which stand at two places.
+pub fn loaded_twice(alloc: Global) -> Result<Vec<u8>, AllocError> {
+    let code = Segment {
+        filesz: 192,
+        memsz: 192,
+        ..LOAD
+    };
+    let data = Segment {
+        flags: 4,
+        vaddr: 0x600000,
+        ..code
+    };
+    let text = Section {
+        addr: 0x4000b0,
+        ..TEXT
+    };
+    file(alloc, EXECUTABLE, &[code, data], &[NULL, text, NAMES])
+}
+
+/// A file of 568 bytes with a function `a` of 8 bytes and then a function `b` of 12, both where `.text` begins.
+pub fn two_functions(alloc: Global) -> Result<Vec<u8>, AllocError> {
+    let a = Function {
+        name: 1,
+        value: 0x400078,
+        size: 8,
+        section: 1,
+    };
+    let b = Function {
+        name: 3,
+        size: 12,
+        ..a
+    };
+    let symbols = functions(alloc, Class::Bits64, &[a, b])?;
+    let table = symbol_table(&symbols, 3);
+    let sections = [NULL, TEXT, table, SYMBOL_NAMES, NAMES];
+    file(alloc, EXECUTABLE, &[LOAD], &sections)
+}
+
+/// An object of 440 bytes: 16 bytes of code, 8 bytes of code, and 32 bytes of zeros.
+pub fn object(alloc: Global) -> Result<Vec<u8>, AllocError> {
+    let bss = zeroed(b".bss", 0, 32);
+    file(alloc, RELOCATABLE, &[], &[NULL, TEXT_A, TEXT_B, bss, NAMES])
+}
+
+/// An object of 624 bytes whose two sections of code are one function each, `a` and `b`.
+pub fn object_functions(alloc: Global) -> Result<Vec<u8>, AllocError> {
+    let a = Function {
+        name: 1,
+        value: 0,
+        size: 16,
+        section: 1,
+    };
+    let b = Function {
+        name: 3,
+        size: 8,
+        section: 2,
+        ..a
+    };
+    let symbols = functions(alloc, Class::Bits64, &[a, b])?;
+    let table = symbol_table(&symbols, 4);
+    let sections = [NULL, TEXT_A, TEXT_B, table, SYMBOL_NAMES, NAMES];
+    file(alloc, RELOCATABLE, &[], &sections)
+}
+
+// The plain file with another size in memory.
+fn mapped(alloc: Global, memsz: u64) -> Result<Vec<u8>, AllocError> {
+    let load = Segment { memsz, ..LOAD };
+    file(alloc, EXECUTABLE, &[load], &[NULL, TEXT, NAMES])
+}
+
+// The plain file whose load ends so many bytes above the address 2^64 - 4096.
+fn at_the_top(alloc: Global, memsz: u64) -> Result<Vec<u8>, AllocError> {
+    let load = Segment {
+        vaddr: u64::MAX - 4095,
+        memsz,
+        ..LOAD
+    };
+    file(alloc, EXECUTABLE, &[load], &[NULL, TEXT, NAMES])
+}
+
+// The plain file with a table of symbols that names itself.
+fn own_names(alloc: Global) -> Result<Vec<u8>, AllocError> {
+    let table = symbol_table(&[0; 48], 2);
+    file(alloc, EXECUTABLE, &[LOAD], &[NULL, TEXT, table, NAMES])
+}
+
+// Five sections of 9, 8, 4, 2 and 2 bytes, the first of which is named as a row of others is.
+fn named_as_others(alloc: Global) -> Result<Vec<u8>, AllocError> {
+    let sections = [
+        NULL,
+        part(b"[3 Others]", b"nine byte"),
+        part(b"a", b"8 bytes."),
+        part(b"b", b"four"),
+        part(b"c", b"2b"),
+        part(b"d", b"2b"),
+        NAMES,
+    ];
+    file(alloc, EXECUTABLE, &[], &sections)
+}
+
+// Sections that are named as source files, one of which stands below two dots.
+fn source_names(alloc: Global) -> Result<Vec<u8>, AllocError> {
+    let sections = [
+        NULL,
+        part(b"../third_party/abc/x.c", b"nine byte"),
+        part(b"third_party/abc/y.c", b"four"),
+        part(b"src/third_party/abc", b"8 bytes."),
+        NAMES,
+    ];
+    file(alloc, EXECUTABLE, &[], &sections)
+}
+
+// Sections with a name of 60 bytes, one of 61, and one of two lines.
+fn long_names(alloc: Global) -> Result<Vec<u8>, AllocError> {
+    let sections = [
+        NULL,
+        part(&[b'a'; 61], b"8 bytes."),
+        part(&[b'b'; 60], b"four"),
+        part(b"a\nb", b"2b"),
+        NAMES,
+    ];
+    file(alloc, EXECUTABLE, &[], &sections)
+}
+
+// Zeros of sizes about the first two units.
+fn about_units(alloc: Global) -> Result<Vec<u8>, AllocError> {
+    let sections = [
+        NULL,
+        zeroed(b"a", 0, 1023),
+        zeroed(b"b", 0, 1024),
+        zeroed(b"c", 0, 1_048_575),
+        zeroed(b"d", 0, 1_048_576),
+        NAMES,
+    ];
+    file(alloc, RELOCATABLE, &[], &sections)
+}
+
+/// A file of a worked run.
+#[derive(Clone, Copy)]
+pub enum Input {
+    Plain,
+    /// The plain file with this size in memory.
+    Mapped(u64),
+    /// The plain file with this size in memory, from 4096 below the end of all addresses on.
+    AtTheTop(u64),
+    /// The plain file with so many bytes alone.
+    Cut(usize),
+    LargeBss,
+    ThreadLocal,
+    LoadedTwice,
+    ManySections,
+    TwoFunctions,
+    OwnNames,
+    NamedAsOthers,
+    SourceNames,
+    LongNames,
+    AboutUnits,
+    Object,
+    ObjectFunctions,
+    Text(&'static [u8]),
+}
+
+/// The bytes of a file.
+pub fn bytes_of(alloc: Global, input: Input) -> Result<Vec<u8>, AllocError> {
+    match input {
+        Input::Plain => plain_file(alloc),
+        Input::Mapped(memsz) => mapped(alloc, memsz),
+        Input::AtTheTop(memsz) => at_the_top(alloc, memsz),
+        Input::Cut(n) => plain_file(alloc)?.get(..n).unwrap_or(b"").to_vec(alloc),
+        Input::LargeBss => large_bss(alloc),
+        Input::ThreadLocal => thread_local(alloc),
+        Input::LoadedTwice => loaded_twice(alloc),
+        Input::ManySections => many_sections(alloc),
+        Input::TwoFunctions => two_functions(alloc),
+        Input::OwnNames => own_names(alloc),
+        Input::NamedAsOthers => named_as_others(alloc),
+        Input::SourceNames => source_names(alloc),
+        Input::LongNames => long_names(alloc),
+        Input::AboutUnits => about_units(alloc),
+        Input::Object => object(alloc),
+        Input::ObjectFunctions => object_functions(alloc),
+        Input::Text(text) => text.to_vec(alloc),
+    }
+}

@@ -1,0 +1,15 @@
+//! Worked runs of the whole tool, with the reports and lines that a person computed.
+#![tactic(auto)]
+
+#[cfg(test)]
+mod customs;
+#[cfg(test)]
+mod devices;
+#[cfg(test)]
+mod faults;
+#[cfg(test)]
+mod refusals;
+#[cfg(test)]
+mod reports;
+#[cfg(test)]
+mod runs;
