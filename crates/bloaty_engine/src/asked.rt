@@ -86,15 +86,15 @@ impl Plan {
         }
     }
 
-    // How many data sources are asked.
-    pub(crate) fn len(&self) -> usize
+    /// How many data sources are asked.
+    pub fn len(&self) -> usize
         ensures { result ≡ length self.now.sources }
     {
         self.choices.len()
     }
 
-    // How many labels a path has.
-    pub(crate) fn depth(&self) -> u32
+    /// How many labels a path has: the depth of the rollup that files are added to.
+    pub fn depth(&self) -> u32
         requires { length self.now.sources ≤ 8 }
         ensures { result ≡ length self.now.sources }
     {
