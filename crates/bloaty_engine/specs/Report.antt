@@ -1,10 +1,11 @@
 -- The report of files.
-use Rattle.std.specs.Prelude.{◌≡◌, ◌⊎◌, ℕ, ◌<◌, Bool, List, length, Option, All}
+use Rattle.std.specs.Prelude.{◌≡◌, ◌⊎◌, ℕ, ◌<◌, Bool, List, length, Option, None, All}
 use Rattle.std.specs.List.{sum_by}
 use Rattle.std.specs.List.Sorted.{IsStrictlySortedBy}
 use Rattle.size_core.specs.declared.choices.Format.{Format}
 use Rattle.size_core.specs.declared.choices.Format.TheVariants.{Text, Csv, Tsv}
 use Rattle.size_model.specs.declared.view.FileView.{FileView}
+use Rattle.size_model.specs.Loads.{mapped_count}
 use Rattle.size_model.specs.Sizes.{file_size, vm_size}
 use Rattle.rollup.specs.declared.table.RollupRow.{RollupRow}
 use Rattle.rollup.specs.Adding.{file_where, vm_where}
@@ -47,6 +48,15 @@ depth_of o = length o.sources
 -- the tree of a report over these rows
 abbrev pub report_tree : Options → List RollupRow → RowTree
 report_tree o rows = row_tree (row_options o) (record { depth = depth_of o; rows = rows; lengths = 0; mapped = 0 })
+
+-- the totals are the lengths of all files and the numbers of addresses that they map
+pub record HasWholeTotals (files : List FileView) (tree : RowTree) : Type 0 where
+  pub file : tree.file ≡ sum_by (λ (f : FileView). f.len) files
+  pub vm : tree.vm ≡ sum_by (λ (f : FileView). mapped_count f.loads) files
+
+abbrev pub TotalsAreWhole : Type 0
+TotalsAreWhole = (o : Options) (files : List FileView) (rows : List RollupRow)
+    → o.filter ≡ None → AreSizes (filter_test o.filter) (depth_of o) files rows → HasWholeTotals files (report_tree o rows)
 
 abbrev pub printed_as : Format → Options → RowTree → List ℕ
 printed_as Text o tree = report_text tree o.domain o.wide

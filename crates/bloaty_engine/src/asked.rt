@@ -5,7 +5,7 @@ ghost use Rattle.std.specs.Option.{option_copied};
 ghost use Rattle.bloaty_engine.specs.Choices.{IsChoice, chosen_in};
 
 use custom_rewrites::{LabelPattern, Rewrites};
-use size_core::{NoMemory, Source};
+use size_core::Source;
 use std::alloc::AllocFailed;
 use std::marker::Model;
 
@@ -20,16 +20,6 @@ pub enum PlanAnswer {
     PatternTooBig(usize),
     /// There was not enough memory.
     NoMemory,
-}
-
-impl From<NoMemory> for PlanAnswer {
-    ghost use Rattle.bloaty_engine.specs.declared.asked.PlanAnswer.TheVariants.{NoMemory as OutOfMemory};
-
-    ghost from_gives = { λ _ e. e ≡ OutOfMemory };
-
-    fn from(_: NoMemory) -> PlanAnswer {
-        PlanAnswer::NoMemory
-    }
 }
 
 impl<T: Drop> From<AllocFailed<T>> for PlanAnswer {

@@ -17,7 +17,7 @@ mod run;
 
 pub use answer::ProfileAnswer;
 pub use asked::{Plan, PlanAnswer};
-pub use laws::rows_count_paths;
+pub use laws::{rows_count_paths, totals_are_whole};
 pub use outcome::Outcome;
 pub use planning::plan;
 pub use profile::profile_file;
