@@ -47,14 +47,13 @@ fn an_output_that_fails_has_the_beginning_of_the_report(rt: HostRuntime) -> Resu
     let alloc = rt.alloc();
     let plain = bytes_of(alloc, Input::Plain)?;
     let files: [NamedFile<'_>; 1] = [("a.elf", &plain)];
-    let words = ["-d", "segments,sections", "a.elf"];
-    let whole = run_over(alloc, &words, &files, sound(alloc))?;
+    let whole = run_over(alloc, &COMMAND, &files, sound(alloc))?;
     assert_eq!(rt; whole.outcome, Outcome::Done);
-    for (take, failing, held) in [(100, 2, 100), (1, 1, 0), (1, 7, 6), (64, 3, 128)] {
+    for (take, failing, held) in [(100, 2, 100), (1, 1, 0), (1, 7, 6), (50, 3, 100)] {
         let mut devices = sound(alloc);
         devices.take = take;
         devices.failing_writes.push(failing)?;
-        let ran = run_over(alloc, &words, &files, devices)?;
+        let ran = run_over(alloc, &COMMAND, &files, devices)?;
         assert_eq!(rt; ran.outcome, Outcome::WriteFailed);
         assert_eq!(rt; ran.outcome.status(), 4);
         assert_eq!(rt; ran.out.len(), held);

@@ -1,6 +1,6 @@
 //! Words, files and configurations that end a run without a report, with the line that tells why.
 
-use crate::runs::{NamedFile, assert_end, assert_report, run, run_over, sound};
+use crate::runs::{COMMAND, NamedFile, assert_end, assert_report, run, run_over, sound};
 use bloaty_engine::{Outcome, UsageKind};
 use config_text::ConfigKind;
 use size_core::{Fault, Limits};
@@ -343,7 +343,7 @@ type Passed<'a> = (&'a [&'a str], Input, Limits, Outcome, &'a str);
 
 const FULL: Limits = Limits::FULL;
 
-const PASSED_LIMITS: [Passed<'static>; 9] = [
+const PASSED_LIMITS: [Passed<'static>; 7] = [
     (
         &["a.elf"],
         Input::Plain,
@@ -364,20 +364,6 @@ const PASSED_LIMITS: [Passed<'static>; 9] = [
         Limits { file: 546, ..FULL },
         Outcome::TooLong(1),
         "bloaty: synth: too long",
-    ),
-    (
-        &["a.elf"],
-        Input::Plain,
-        Limits { claims: 5, ..FULL },
-        Outcome::TooManyClaims(1),
-        "bloaty: a.elf: too many claims",
-    ),
-    (
-        &["a.elf"],
-        Input::Plain,
-        Limits { claims: 0, ..FULL },
-        Outcome::TooManyClaims(1),
-        "bloaty: a.elf: too many claims",
     ),
     // The claims of all sources together: four of segments and six of sections.
     (
@@ -424,6 +410,25 @@ fn passed_limits(rt: HostRuntime) -> Result<(), Fail> {
     Ok(())
 }
 
+// Six claims, by each smaller limit and by their number.
+#[test]
+fn each_limit_on_the_claims(rt: HostRuntime) -> Result<(), Fail> {
+    let alloc = rt.alloc();
+    let plain = bytes_of(alloc, Input::Plain)?;
+    for claims in 0..=6 {
+        let mut devices = sound(alloc);
+        devices.limits = Limits { claims, ..FULL };
+        let ran = run(alloc, &COMMAND, &plain, devices)?;
+        if claims < 6 {
+            let line = "bloaty: a.elf: too many claims";
+            assert_end(&rt, &ran, Outcome::TooManyClaims(1), 6, line);
+        } else {
+            assert_eq!(rt; ran.outcome, Outcome::Done);
+        }
+    }
+    Ok(())
+}
+
 #[test]
 fn limits_that_are_met(rt: HostRuntime) -> Result<(), Fail> {
     let alloc = rt.alloc();
@@ -445,8 +450,10 @@ fn limits_that_are_met(rt: HostRuntime) -> Result<(), Fail> {
         let ran = run(alloc, &words, &file, devices)?;
         assert_eq!(rt; ran.outcome, Outcome::Done);
     }
-    let file = bytes_of(alloc, Input::Mapped((1 << 63) - 1))?;
-    let ran = run(alloc, &["a.elf"], &file, sound(alloc))?;
-    assert_eq!(rt; ran.outcome, Outcome::Done);
+    for mapped in [1 << 62, (1 << 63) - 1] {
+        let file = bytes_of(alloc, Input::Mapped(mapped))?;
+        let ran = run(alloc, &["a.elf"], &file, sound(alloc))?;
+        assert_eq!(rt; ran.outcome, Outcome::Done);
+    }
     Ok(())
 }

@@ -403,7 +403,7 @@ const FILTERED: [Case<'static>; 3] = [
 ];
 
 // A file that is made in place of one that is read.
-const MADE: [Case<'static>; 2] = [
+const MADE: [Case<'static>; 3] = [
     Case {
         words: &["--synth", "1000", "--csv", "-n", "2", "-d", "symbols"],
         file: Input::Plain,
@@ -412,6 +412,17 @@ const MADE: [Case<'static>; 2] = [
             "[section .symtab],0,24024",
             "[1004 Others],16120,16473",
             "[section .strtab],0,9001",
+        ],
+    },
+    // So many claims, in falling order of address, that a body which moves pieces for each claim doesn't end.
+    Case {
+        words: &["--synth", "1000000", "--csv", "-n", "2", "-d", "symbols"],
+        file: Input::Plain,
+        report: &[
+            "symbols,vmsize,filesize",
+            "[section .symtab],0,24000024",
+            "[1000004 Others],16000120,16000473",
+            "[section .strtab],0,9000001",
         ],
     },
     Case {
