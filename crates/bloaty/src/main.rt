@@ -4,7 +4,7 @@
 use bloaty_engine::bloaty;
 use custom_rewrites::RegexPatterns;
 use outside::{HostFiles, HostSink};
-use size_core::Limits;
+use size_core::FULL;
 use std::io::ErrorKind;
 use std::process::ExitCode;
 use std::{env, io};
@@ -45,7 +45,7 @@ fn main(rt: HostRuntime) -> ExitCode {
                 &mut patterns,
                 &mut out,
                 &mut err,
-                &Limits::FULL,
+                &FULL,
             );
             ExitCode::from(outcome.status())
         }

@@ -5,6 +5,8 @@ use Rattle.std.specs.List.{list_any}
 use Rattle.size_core.specs.declared.claim.Load.{Load}
 use Rattle.size_model.specs.declared.view.FileView.{FileView}
 use Rattle.size_model.specs.declared.view.SourceView.{SourceView}
+use Rattle.data_sources.specs.declared.binary.Binary.{Binary}
+use Rattle.data_sources.specs.Groups.{bytes_of}
 use Rattle.data_sources.specs.Loads.{loads_of}
 use Rattle.data_sources.specs.Views.{view_of}
 use Rattle.size_model.specs.Cut.{label_in}
@@ -87,21 +89,21 @@ vm_count-is layout filter test pool maps views all =
     (λ p. is_mapped layout.loads p && (passes_filter (filter_test filter) (position_path (file_at layout views) p) && test (position_path (file_at layout views) p))) 0 (2 ^ 96)
     (λ p low high. and-same (is_mapped layout.loads p) _ _ (λ mapped. counts-is filter test pool _ _ (position-texts layout pool maps views p all mapped)))
 
--- the same by the file's bytes
+-- the same by the file that was opened
 view : ℕ → List Load → List SourceView → FileView
 view len loads views = record { len = len; loads = loads; sources = views }
 
-pub same-view : (layout : Layout) (file : List ℕ) (views : List SourceView) → layout.len ≡ length file → layout.loads ≡ loads_of file → file_at layout views ≡ view_of file views
+pub same-view : (layout : Layout) (binary : Binary) (views : List SourceView) → layout.len ≡ length (bytes_of binary) → layout.loads ≡ loads_of binary → file_at layout views ≡ view_of binary views
 unfolding view
-same-view layout file views len loads = ap (λ n. view n layout.loads views) len ∙ ap (λ ls. view (length file) ls views) loads
+same-view layout binary views len loads = ap (λ n. view n layout.loads views) len ∙ ap (λ ls. view (length (bytes_of binary)) ls views) loads
 
-pub file_count-of : (layout : Layout) (filter : Option (List ℕ)) (test : List (List ℕ) → Bool) (pool : List (List ℕ)) (maps : List Maps) (views : List SourceView) (file : List ℕ) → layout.len ≡ length file → layout.loads ≡ loads_of file
-    → AllSpell layout pool maps views → file_count test pool (marks_by filter pool) maps (length file) ≡ file_size_where (filter_test filter) test (view_of file views)
-file_count-of layout filter test pool maps views file len loads all =
-    subst (λ n. file_count test pool (marks_by filter pool) maps n ≡ file_size_where (filter_test filter) test (view_of file views)) len
-    (file_count-is layout filter test pool maps views all ∙ ap (file_size_where (filter_test filter) test) (same-view layout file views len loads))
+pub file_count-of : (layout : Layout) (filter : Option (List ℕ)) (test : List (List ℕ) → Bool) (pool : List (List ℕ)) (maps : List Maps) (views : List SourceView) (binary : Binary) (n : ℕ) → layout.len ≡ n → n ≡ length (bytes_of binary) → layout.loads ≡ loads_of binary
+    → AllSpell layout pool maps views → file_count test pool (marks_by filter pool) maps n ≡ file_size_where (filter_test filter) test (view_of binary views)
+file_count-of layout filter test pool maps views binary n is len loads all =
+    subst (λ n. file_count test pool (marks_by filter pool) maps n ≡ file_size_where (filter_test filter) test (view_of binary views)) is
+    (file_count-is layout filter test pool maps views all ∙ ap (file_size_where (filter_test filter) test) (same-view layout binary views (is ∙ len) loads))
 
-pub vm_count-of : (layout : Layout) (filter : Option (List ℕ)) (test : List (List ℕ) → Bool) (pool : List (List ℕ)) (maps : List Maps) (views : List SourceView) (file : List ℕ) → layout.len ≡ length file → layout.loads ≡ loads_of file
-    → AllSpell layout pool maps views → vm_count test pool (marks_by filter pool) maps layout.loads ≡ vm_size_where (filter_test filter) test (view_of file views)
-vm_count-of layout filter test pool maps views file len loads all =
-    vm_count-is layout filter test pool maps views all ∙ ap (vm_size_where (filter_test filter) test) (same-view layout file views len loads)
+pub vm_count-of : (layout : Layout) (filter : Option (List ℕ)) (test : List (List ℕ) → Bool) (pool : List (List ℕ)) (maps : List Maps) (views : List SourceView) (binary : Binary) → layout.len ≡ length (bytes_of binary) → layout.loads ≡ loads_of binary
+    → AllSpell layout pool maps views → vm_count test pool (marks_by filter pool) maps layout.loads ≡ vm_size_where (filter_test filter) test (view_of binary views)
+vm_count-of layout filter test pool maps views binary len loads all =
+    vm_count-is layout filter test pool maps views all ∙ ap (vm_size_where (filter_test filter) test) (same-view layout binary views len loads)

@@ -6,13 +6,17 @@ use Rattle.std.proofs.lemmas.Bool.Decides.{nat_tests}
 use Rattle.std.proofs.lemmas.List.{take-append-drop, take_all}
 use Rattle.std.proofs.lemmas.Option.{none-some, same_Some}
 use Rattle.std.proofs.lemmas.List.Sums.{sum_by-append, sum_by-cons}
+use Rattle.size_core.specs.declared.fault.BadFile.{BadFile}
 use Rattle.size_core.specs.declared.limits.Limits.{Limits}
 use Rattle.size_model.specs.declared.view.FileView.{FileView}
 use Rattle.size_model.specs.declared.view.SourceView.{SourceView}
 use Rattle.size_model.specs.Loads.{mapped_count}
 use Rattle.size_model.proofs.Firsts.{drop-get}
-use Rattle.data_sources.specs.Loads.{loads_of}
+use Rattle.data_sources.specs.declared.binary.Binary.{Binary}
+use Rattle.data_sources.specs.Groups.{bytes_of}
+use Rattle.data_sources.specs.Opened.{opened}
 use Rattle.data_sources.specs.Views.{view_of}
+use Rattle.data_sources.proofs.OpenedLemmas.{opened-bytes}
 use Rattle.outside.specs.Held.{Pairs, held_bytes, IsHeld}
 use Rattle.rollup.specs.Adding.{file_where, vm_where}
 use Rattle.rollup.specs.Totals.{Totals}
@@ -25,7 +29,7 @@ use Rattle.bloaty_engine.specs.Named.{AreHeld}
 use Rattle.bloaty_engine.specs.Sources.{Chosen}
 use Rattle.bloaty_engine.specs.Steps.{EndsAs, EndsFiles, Finds, HasCounted}
 use Rattle.bloaty_engine.specs.Verdict.{◌>>=◌, counted_file, counted_from, end_at, file_limit, if_viewed, total_limit}
-use Rattle.bloaty_engine.specs.Views.{Answers, file_views, view_within, viewed}
+use Rattle.bloaty_engine.specs.Views.{Answers, as_view, file_view, of_opened, view_within, viewed, views_of}
 
 -- One file.
 
@@ -67,20 +71,27 @@ pub viewed-ok : (i : ℕ) (decided : Result FileView ProfileAnswer) (f : FileVie
 viewed-ok i (Ok g) f e = cc
 viewed-ok i (Err a) f e = cc
 
--- the length and the loads of a view are those of the file
+-- the length of a view is that of the file
 view-choice : (b : Bool) (v f : FileView) → cond b (Err profile.MappedTooLarge) (Ok v) ≡ Ok f → f ≡ v
 view-choice true v f e = cc
 view-choice false v f e = cc
 
-views-choice : (mapped : ℕ) (file : List ℕ) (r : Result (List SourceView) ProfileAnswer) (f : FileView) → view_within mapped file r ≡ Ok f → (f.len ≡ length file) × (f.loads ≡ loads_of file)
-views-choice mapped file (Ok views) f e =
-    let same : f ≡ view_of file views = view-choice (nat_lt (2 ^ 63 - 1) (mapped + mapped_count (loads_of file))) (view_of file views) f e in
-    rw same (refl, refl)
-views-choice mapped file (Err a) f e = cc
+within-same : (mapped : ℕ) (r : Result FileView ProfileAnswer) (f : FileView) → view_within mapped r ≡ Ok f → r ≡ Ok f
+within-same mapped (Ok g) f e = ap Ok (sym (view-choice (nat_lt (2 ^ 63 - 1) (mapped + mapped_count g.loads)) g f e))
+within-same mapped (Err a) f e = cc
 
-pub view-parts : (mapped limit : ℕ) (name file : List ℕ) (sources : List Chosen) (f : FileView) → viewed mapped limit name file sources ≡ Ok f → (f.len ≡ length file) × (f.loads ≡ loads_of file)
+as-view-len : (binary : Binary) (r : Result (List SourceView) ProfileAnswer) (f : FileView) → as_view binary r ≡ Ok f → f.len ≡ length (bytes_of binary)
+as-view-len binary (Ok views) f e = let same : f ≡ view_of binary views = cc in ap (λ (g : FileView). g.len) same
+as-view-len binary (Err a) f e = cc
+
+opened-len : (limit : ℕ) (name file : List ℕ) (sources : List Chosen) (o : Result Binary BadFile) (f : FileView) → opened file ≡ o
+    → of_opened o (λ binary. as_view binary (views_of limit name binary sources)) ≡ Ok f → f.len ≡ length file
+opened-len limit name file sources (Ok binary) f is e = as-view-len binary (views_of limit name binary sources) f e ∙ ap length (opened-bytes file binary is)
+opened-len limit name file sources (Err bad) f is e = cc e
+
+pub view-len : (mapped limit : ℕ) (name file : List ℕ) (sources : List Chosen) (f : FileView) → viewed mapped limit name file sources ≡ Ok f → f.len ≡ length file
 unfolding viewed
-view-parts mapped limit name file sources f e = views-choice mapped file (file_views limit name file sources) f e
+view-len mapped limit name file sources f e = opened-len limit name file sources (opened file) f refl (within-same mapped (file_view limit name file sources) f e)
 
 -- a sum over one file more
 pub sum-more : (size : FileView → ℕ) (files : List FileView) (f : FileView) → sum_by size (files ++ f ∷ []) ≡ sum_by size files + size f

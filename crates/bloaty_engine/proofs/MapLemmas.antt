@@ -11,7 +11,8 @@ use Rattle.size_model.specs.declared.view.LabelledClaim.{LabelledClaim}
 use Rattle.size_model.specs.declared.view.SourceView.{SourceView}
 use Rattle.size_model.specs.Sizes.{relabelled}
 use Rattle.size_model.proofs.Firsts.{drop-get, drop-end}
-use Rattle.data_sources.specs.Made.{KeepsLabels}
+use Rattle.claim_sheet.specs.Made.{KeepsLabels}
+use Rattle.data_sources.specs.declared.binary.Binary.{Binary}
 use Rattle.data_sources.specs.Sources.{claims_of}
 use Rattle.custom_rewrites.specs.Rewriting.{rewritten}
 use Rattle.dual_map.specs.Layout.{IsOver, LabelsBelow, Layout, Maps}
@@ -35,9 +36,9 @@ with_views views (Ok others) = Ok (views ++ others)
 with_views views (Err answer) = Err answer
 
 -- the data sources before number i are mapped, and their claims leave so many
-pub record AreMappedTo (i left limit : ℕ) (layout : Layout) (sources : List Chosen) (name file : List ℕ) (pool : List (List ℕ)) (maps : List Maps) : Type 0 where
+pub record AreMappedTo (i left limit : ℕ) (layout : Layout) (sources : List Chosen) (name : List ℕ) (binary : Binary) (pool : List (List ℕ)) (maps : List Maps) : Type 0 where
   pub views : List SourceView
-  pub rest : views_of limit name file sources ≡ with_views views (views_of left name file (drop i sources))
+  pub rest : views_of limit name binary sources ≡ with_views views (views_of left name binary (drop i sources))
   pub spell : AllSpell layout pool maps views
   pub over : All (IsOver layout) maps
   pub below : All (LabelsBelow (length pool)) maps
@@ -48,10 +49,10 @@ with_none : (r : Result (List SourceView) ProfileAnswer) → r ≡ with_views []
 with_none (Ok views) = refl
 with_none (Err answer) = refl
 
-pub mapped-none : (limit : ℕ) (layout : Layout) (sources : List Chosen) (name file : List ℕ) (pool : List (List ℕ)) → AreMappedTo 0 limit limit layout sources name file pool []
-mapped-none limit layout sources name file pool = record {
+pub mapped-none : (limit : ℕ) (layout : Layout) (sources : List Chosen) (name : List ℕ) (binary : Binary) (pool : List (List ℕ)) → AreMappedTo 0 limit limit layout sources name binary pool []
+mapped-none limit layout sources name binary pool = record {
   views = [];
-  rest = with_none (views_of limit name file sources);
+  rest = with_none (views_of limit name binary sources);
   spell = tt;
   over = λ k d lt. absurd (omega arith);
   below = λ k d lt. absurd (omega arith);
@@ -78,9 +79,9 @@ after-many : (left : ℕ) (chosen : Chosen) (others : ℕ → Result (List Sourc
     → views_after left chosen others (Ok made) ≡ Err TooManyClaims
 after-many left chosen others made many = ap (λ b. cond b (Err TooManyClaims) (before_views (source_view chosen made) (others (left - length made)))) (over-limit left (length made) many)
 
-views-at : (left i : ℕ) (name file : List ℕ) (sources : List Chosen) (chosen : Chosen) → slice_get sources i ≡ Some chosen
-    → views_of left name file (drop i sources) ≡ views_after left chosen (λ l. views_of l name file (drop (suc i) sources)) (claims_of chosen.base name file)
-views-at left i name file sources chosen at = ap (views_of left name file) (drop-get sources i chosen at)
+views-at : (left i : ℕ) (name : List ℕ) (binary : Binary) (sources : List Chosen) (chosen : Chosen) → slice_get sources i ≡ Some chosen
+    → views_of left name binary (drop i sources) ≡ views_after left chosen (λ l. views_of l name binary (drop (suc i) sources)) (claims_of chosen.base name binary)
+views-at left i name binary sources chosen at = ap (views_of left name binary) (drop-get sources i chosen at)
 
 LabelsBelow-more : (m n : ℕ) (p : Maps) → m ≤ n → LabelsBelow m p → LabelsBelow n p
 LabelsBelow-more m n p le below = record {
@@ -105,20 +106,20 @@ count-more maps m =
     sum_by-append size maps (m ∷ []) ∙ ap (λ n. sum_by size maps + n) (sum_by-cons size m [] ∙ omega arith)
 
 -- one data source more
-pub mapped-more : (i left limit : ℕ) (layout : Layout) (sources : List Chosen) (name file : List ℕ) (old new : List (List ℕ)) (maps : List Maps) (chosen : Chosen) (m : Mapped)
-    → AreMappedTo i left limit layout sources name file old maps → slice_get sources i ≡ Some chosen → KeepsLabels old new → IsMapped left layout chosen name file new m
-    → AreMappedTo (i + 1) (left - m.claims) limit layout sources name file new (maps ++ m.maps ∷ [])
-mapped-more i left limit layout sources name file old new maps chosen m before at kept is =
+pub mapped-more : (i left limit : ℕ) (layout : Layout) (sources : List Chosen) (name : List ℕ) (binary : Binary) (old new : List (List ℕ)) (maps : List Maps) (chosen : Chosen) (m : Mapped)
+    → AreMappedTo i left limit layout sources name binary old maps → slice_get sources i ≡ Some chosen → KeepsLabels old new → IsMapped left layout chosen name binary new m
+    → AreMappedTo (i + 1) (left - m.claims) limit layout sources name binary new (maps ++ m.maps ∷ [])
+mapped-more i left limit layout sources name binary old new maps chosen m before at kept is =
     let next : suc i ≡ i + 1 = omega arith in
     let le : length old ≤ length new = kept-length old new kept in
     record {
       views = before.views ++ source_view chosen is.made ∷ [];
       rest =
           before.rest
-          ∙ (ap (with_views before.views) (views-at left i name file sources chosen at
-          ∙ (ap (views_after left chosen (λ l. views_of l name file (drop (suc i) sources))) is.are
-          ∙ after-few left chosen (λ l. views_of l name file (drop (suc i) sources)) is.made is.few))
-          ∙ (with_more before.views (source_view chosen is.made) (views_of (left - length is.made) name file (drop (suc i) sources))
+          ∙ (ap (with_views before.views) (views-at left i name binary sources chosen at
+          ∙ (ap (views_after left chosen (λ l. views_of l name binary (drop (suc i) sources))) is.are
+          ∙ after-few left chosen (λ l. views_of l name binary (drop (suc i) sources)) is.made is.few))
+          ∙ (with_more before.views (source_view chosen is.made) (views_of (left - length is.made) name binary (drop (suc i) sources))
           ∙ ap (λ p. with_views (before.views ++ source_view chosen is.made ∷ []) p) (rw (is.count, next) refl)));
       spell = AllSpell-more layout new maps before.views m.maps (source_view chosen is.made) (AllSpell-kept layout old new maps before.views kept before.spell) is.spells;
       over = All-push (IsOver layout) maps m.maps before.over is.over;
@@ -128,11 +129,11 @@ mapped-more i left limit layout sources name file old new maps chosen m before a
     }
 
 -- all data sources
-pub mapped-all : (i left limit : ℕ) (layout : Layout) (sources : List Chosen) (name file : List ℕ) (pool : List (List ℕ)) (maps : List Maps) → length sources ≤ i → i ≤ length sources
-    → AreMappedTo i left limit layout sources name file pool maps → AreMapped limit layout sources name file pool maps
-mapped-all i left limit layout sources name file pool maps above within to = record {
+pub mapped-all : (i left limit : ℕ) (layout : Layout) (sources : List Chosen) (name : List ℕ) (binary : Binary) (pool : List (List ℕ)) (maps : List Maps) → length sources ≤ i → i ≤ length sources
+    → AreMappedTo i left limit layout sources name binary pool maps → AreMapped limit layout sources name binary pool maps
+mapped-all i left limit layout sources name binary pool maps above within to = record {
   views = to.views;
-  are = to.rest ∙ (ap (λ s. with_views to.views (views_of left name file s)) (drop-end sources i above) ∙ ap Ok (append-nil to.views));
+  are = to.rest ∙ (ap (λ s. with_views to.views (views_of left name binary s)) (drop-end sources i above) ∙ ap Ok (append-nil to.views));
   spell = to.spell;
   over = to.over;
   below = to.below;
@@ -141,17 +142,17 @@ mapped-all i left limit layout sources name file pool maps above within to = rec
 }
 
 -- a data source with a fault, and one with too many claims
-pub mapped-bad : (i left limit : ℕ) (layout : Layout) (sources : List Chosen) (name file : List ℕ) (pool : List (List ℕ)) (maps : List Maps) (chosen : Chosen) (bad : BadFile)
-    → AreMappedTo i left limit layout sources name file pool maps → slice_get sources i ≡ Some chosen → claims_of chosen.base name file ≡ Err bad → views_of limit name file sources ≡ Err (Bad bad)
-mapped-bad i left limit layout sources name file pool maps chosen bad to at e =
-    to.rest ∙ ap (with_views to.views) (views-at left i name file sources chosen at ∙ ap (views_after left chosen (λ l. views_of l name file (drop (suc i) sources))) e)
+pub mapped-bad : (i left limit : ℕ) (layout : Layout) (sources : List Chosen) (name : List ℕ) (binary : Binary) (pool : List (List ℕ)) (maps : List Maps) (chosen : Chosen) (bad : BadFile)
+    → AreMappedTo i left limit layout sources name binary pool maps → slice_get sources i ≡ Some chosen → claims_of chosen.base name binary ≡ Err bad → views_of limit name binary sources ≡ Err (Bad bad)
+mapped-bad i left limit layout sources name binary pool maps chosen bad to at e =
+    to.rest ∙ ap (with_views to.views) (views-at left i name binary sources chosen at ∙ ap (views_after left chosen (λ l. views_of l name binary (drop (suc i) sources))) e)
 
 many-made : (left : ℕ) (chosen : Chosen) (others : ℕ → Result (List SourceView) ProfileAnswer) (claims : Result (List LabelledClaim) BadFile) → IsOkAnd claims (λ made. left < length made)
     → views_after left chosen others claims ≡ Err TooManyClaims
 many-made left chosen others (Ok made) many = after-many left chosen others made many
 many-made left chosen others (Err bad) many = absurd many
 
-pub mapped-many : (i left limit : ℕ) (layout : Layout) (sources : List Chosen) (name file : List ℕ) (pool : List (List ℕ)) (maps : List Maps) (chosen : Chosen)
-    → AreMappedTo i left limit layout sources name file pool maps → slice_get sources i ≡ Some chosen → IsOkAnd (claims_of chosen.base name file) (λ made. left < length made) → views_of limit name file sources ≡ Err TooManyClaims
-mapped-many i left limit layout sources name file pool maps chosen to at many =
-    to.rest ∙ ap (with_views to.views) (views-at left i name file sources chosen at ∙ many-made left chosen (λ l. views_of l name file (drop (suc i) sources)) (claims_of chosen.base name file) many)
+pub mapped-many : (i left limit : ℕ) (layout : Layout) (sources : List Chosen) (name : List ℕ) (binary : Binary) (pool : List (List ℕ)) (maps : List Maps) (chosen : Chosen)
+    → AreMappedTo i left limit layout sources name binary pool maps → slice_get sources i ≡ Some chosen → IsOkAnd (claims_of chosen.base name binary) (λ made. left < length made) → views_of limit name binary sources ≡ Err TooManyClaims
+mapped-many i left limit layout sources name binary pool maps chosen to at many =
+    to.rest ∙ ap (with_views to.views) (views-at left i name binary sources chosen at ∙ many-made left chosen (λ l. views_of l name binary (drop (suc i) sources)) (claims_of chosen.base name binary) many)

@@ -8,7 +8,7 @@ use Rattle.size_core.specs.declared.claim.Claim.{Claim}
 use Rattle.size_model.specs.declared.view.LabelledClaim.{LabelledClaim}
 use Rattle.size_model.specs.Numbered.{text_of, labelled, numbered_view}
 use Rattle.size_model.specs.Sizes.{relabelled, with_rewriting}
-use Rattle.data_sources.specs.Made.{AreNumbered, KeepsLabels, texts}
+use Rattle.claim_sheet.specs.Made.{AreNumbered, KeepsLabels, texts}
 use Rattle.bloaty_engine.specs.Numbering.{AreTexts, IsRenumbering, renumbered}
 
 -- a number keeps its text

@@ -181,6 +181,10 @@ pub never-big : (limits : Limits) (sources : List Chosen) (filter : Option (List
 unfolding IsFileEnd
 never-big limits sources filter names files i e = counted-error limits sources files 1 0 0 names (PatternTooBig i) e
 
+-- want of memory is no failed read
+pub memory-read : (o : Options) (i : ℕ) → NoMemory ≡ ReadFailed i → o.synth ≡ None
+memory-read o i e = cc
+
 -- a count that rose later rose
 pub rose-later : (a b n : ℕ) → a ≤ b → Rose b n → Rose a n
 rose-later a b n le r = grind arith
@@ -290,24 +294,24 @@ module _ (held : Option Pairs) (limits : Limits) (o : Options) (last text : List
       unfolding counted-read
       not-end end e = counted-error limits p.sources files 1 0 0 (file_names o) end e
 
-      pub ends-files : (end : Outcome) → EndsFiles limits p.sources (filter_test p.filter) (file_names o) files (Err end) → RunsTo held limits o last (Err end)
+      pub ends-files : (end : Outcome) → ((i : ℕ) → end ≡ ReadFailed i → o.synth ≡ None) → EndsFiles limits p.sources (filter_test p.filter) (file_names o) files (Err end) → RunsTo held limits o last (Err end)
       unfolding IsFileEnd counted-read contents-of read request-of
-      ends-files (ReadFailed i) e =
+      ends-files (ReadFailed i) unmade e =
           let i-is : i ≡ suc e.0 = omega (arith, e.1) in
-          let reached : IsReached limits (Ok o) read (suc e.0) = (request-of o customs p.sources, asked-read, (e.2, e.3)) in
+          let reached : IsReached limits (Ok o) read (suc e.0) = (request-of o customs p.sources, asked-read, (unmade i refl, e.2, e.3)) in
           (read, read-are, (rw i-is reached, (λ q. patterns-read), refl))
-      ends-files NoMemory e = (read, read-are, (tt, (λ q. cc), refl))
-      ends-files (TooLong i) e = (read, read-are, (verdict-end (TooLong i) e, (λ q. patterns-read), refl))
-      ends-files (Bad i fault offset) e = (read, read-are, (verdict-end (Bad i fault offset) e, (λ q. patterns-read), refl))
-      ends-files (TooManyClaims i) e = (read, read-are, (verdict-end (TooManyClaims i) e, (λ q. patterns-read), refl))
-      ends-files MappedTooLarge e = (read, read-are, (verdict-end MappedTooLarge e, (λ q. patterns-read), refl))
-      ends-files Done e = absurd (not-end Done e)
-      ends-files (Usage kind) e = absurd (not-end (Usage kind) e)
-      ends-files (Config kind offset) e = absurd (not-end (Config kind offset) e)
-      ends-files (UnknownSource i) e = absurd (not-end (UnknownSource i) e)
-      ends-files (PatternSyntax i) e = absurd (not-end (PatternSyntax i) e)
-      ends-files (PatternTooBig i) e = absurd (not-end (PatternTooBig i) e)
-      ends-files WriteFailed e = absurd (not-end WriteFailed e)
+      ends-files NoMemory unmade e = (read, read-are, (tt, (λ q. cc), refl))
+      ends-files (TooLong i) unmade e = (read, read-are, (verdict-end (TooLong i) e, (λ q. patterns-read), refl))
+      ends-files (Bad i fault offset) unmade e = (read, read-are, (verdict-end (Bad i fault offset) e, (λ q. patterns-read), refl))
+      ends-files (TooManyClaims i) unmade e = (read, read-are, (verdict-end (TooManyClaims i) e, (λ q. patterns-read), refl))
+      ends-files MappedTooLarge unmade e = (read, read-are, (verdict-end MappedTooLarge e, (λ q. patterns-read), refl))
+      ends-files Done unmade e = absurd (not-end Done e)
+      ends-files (Usage kind) unmade e = absurd (not-end (Usage kind) e)
+      ends-files (Config kind offset) unmade e = absurd (not-end (Config kind offset) e)
+      ends-files (UnknownSource i) unmade e = absurd (not-end (UnknownSource i) e)
+      ends-files (PatternSyntax i) unmade e = absurd (not-end (PatternSyntax i) e)
+      ends-files (PatternTooBig i) unmade e = absurd (not-end (PatternTooBig i) e)
+      ends-files WriteFailed unmade e = absurd (not-end WriteFailed e)
 
       -- the report of the files that were counted
       pub ends-report : (t : Totals) (out : Vec ℕ Global) → EndsFiles limits p.sources (filter_test p.filter) (file_names o) files (Ok t) → IsTotals t.depth t.rows t.lengths t.mapped → length p.sources ≡ length o.sources

@@ -14,7 +14,7 @@ use Rattle.size_model.specs.Labels.{address_label, address_labelling, first_labe
 use Rattle.size_model.specs.Loads.{address_of, is_mapped, space_of}
 use Rattle.size_model.specs.Numbered.{labelled, numbered_view, text_of}
 use Rattle.size_model.specs.Sizes.{label_of_address, label_of_offset}
-use Rattle.data_sources.specs.Made.{AreNumbered, KeepsLabels}
+use Rattle.claim_sheet.specs.Made.{AreNumbered, KeepsLabels}
 use Rattle.dual_map.specs.Layout.{Layout, Maps}
 use Rattle.bloaty_engine.specs.Spelling.{AllSpell, HasText, Spells, file_at}
 use Rattle.bloaty_engine.proofs.NumberLemmas.{kept-get}

@@ -1,5 +1,5 @@
 -- What a run answers and writes, by the options of its words and the bytes of its files.
-use Rattle.std.specs.Prelude.{⊤, ◌≡◌, ℕ, zero, suc, ◌<◌, Bool, true, false, List, length, Option, Some, Result, Ok, Err, Vec, IsOk}
+use Rattle.std.specs.Prelude.{⊤, ◌≡◌, ℕ, zero, suc, ◌<◌, Bool, true, false, not, List, length, Option, None, Some, Result, Ok, Err, Vec, IsOk}
 use Rattle.std.specs.declared.alloc.Global.{Global}
 use Rattle.size_core.specs.declared.limits.Limits.{Limits}
 use Rattle.outside.specs.Grown.{Grew, GrewByPart}
@@ -9,7 +9,7 @@ use Rattle.size_options.specs.declared.chosen.Options.{Options}
 use Rattle.size_options.specs.declared.answer.UsageKind.{UsageKind}
 use Rattle.size_options.specs.declared.answer.UsageKind.TheVariants as usage
 use Rattle.bloaty_engine.specs.declared.outcome.Outcome.{Outcome}
-use Rattle.bloaty_engine.specs.declared.outcome.Outcome.TheVariants.{Done, Usage, ReadFailed, TooLong, PatternSyntax, PatternTooBig, Bad, TooManyClaims, MappedTooLarge, WriteFailed, NoMemory}
+use Rattle.bloaty_engine.specs.declared.outcome.Outcome.TheVariants.{Done, Usage, ReadFailed, TooLong, Config, UnknownSource, PatternSyntax, PatternTooBig, Bad, TooManyClaims, MappedTooLarge, WriteFailed, NoMemory}
 use Rattle.bloaty_engine.specs.Named.{AreContents, Contents, file_names}
 use Rattle.bloaty_engine.specs.Patterns.{ArePatterns, StopsAt}
 use Rattle.bloaty_engine.specs.Report.{IsReport}
@@ -20,10 +20,11 @@ abbrev pub IsAsked : Limits → Result Options UsageKind → Contents → (Reque
 IsAsked limits given contents P = (r : Request) × (asked limits given contents ≡ Ok r) × P r
 
 -- Where a read of file i may fail: the configuration is read once the words are taken, and a file once the files before
--- it are counted.
+-- it are counted. A made file isn't read.
 abbrev pub IsReached : Limits → Result Options UsageKind → Contents → ℕ → Type 0
 IsReached limits given contents zero = (o : Options) × (given ≡ Ok o) × ((name : List ℕ) × (o.config ≡ Some name))
-IsReached limits given contents (suc k) = IsAsked limits given contents (λ r. (k < length (file_names r.options)) × IsOk (counted_files limits r contents k))
+IsReached limits given contents (suc k) =
+    IsAsked limits given contents (λ r. (r.options.synth ≡ None) × (k < length (file_names r.options)) × IsOk (counted_files limits r contents k))
 
 -- An answer is the verdict, or it interrupts the run at a place that no fault of the verdict stands before. `last` is
 -- the last pattern that was refused for its size.
@@ -40,13 +41,56 @@ IsAnswer limits given contents last answer = verdict limits given contents ≡ E
 -- the patterns stand before the files: an answer that comes after them
 abbrev pub is_past_patterns : Outcome → Bool
 is_past_patterns Done = true
+is_past_patterns (Usage kind) = false
+is_past_patterns (ReadFailed zero) = false
 is_past_patterns (ReadFailed (suc k)) = true
+is_past_patterns (TooLong zero) = false
 is_past_patterns (TooLong (suc k)) = true
+is_past_patterns (Config kind offset) = false
+is_past_patterns (UnknownSource i) = false
+is_past_patterns (PatternSyntax i) = false
+is_past_patterns (PatternTooBig i) = false
 is_past_patterns (Bad i fault offset) = true
 is_past_patterns (TooManyClaims i) = true
 is_past_patterns MappedTooLarge = true
 is_past_patterns WriteFailed = true
-is_past_patterns answer = false
+is_past_patterns NoMemory = false
+
+-- the answers that say that a device failed, or that a pattern was refused for its size
+abbrev pub is_failed_read : Outcome → Bool
+is_failed_read Done = false
+is_failed_read (Usage kind) = false
+is_failed_read (ReadFailed i) = true
+is_failed_read (TooLong i) = false
+is_failed_read (Config kind offset) = false
+is_failed_read (UnknownSource i) = false
+is_failed_read (PatternSyntax i) = false
+is_failed_read (PatternTooBig i) = false
+is_failed_read (Bad i fault offset) = false
+is_failed_read (TooManyClaims i) = false
+is_failed_read MappedTooLarge = false
+is_failed_read WriteFailed = false
+is_failed_read NoMemory = false
+
+abbrev pub is_refused_pattern : Outcome → Bool
+is_refused_pattern Done = false
+is_refused_pattern (Usage kind) = false
+is_refused_pattern (ReadFailed i) = false
+is_refused_pattern (TooLong i) = false
+is_refused_pattern (Config kind offset) = false
+is_refused_pattern (UnknownSource i) = false
+is_refused_pattern (PatternSyntax i) = false
+is_refused_pattern (PatternTooBig i) = true
+is_refused_pattern (Bad i fault offset) = false
+is_refused_pattern (TooManyClaims i) = false
+is_refused_pattern MappedTooLarge = false
+is_refused_pattern WriteFailed = false
+is_refused_pattern NoMemory = false
+
+-- a step doesn't end by an answer of which the test holds
+abbrev pub ends_without : {X : Type 0} → (Outcome → Bool) → Result X Outcome → Bool
+ends_without test (Ok x) = true
+ends_without test (Err end) = not (test end)
 
 -- what was written: the report whole, or a proper prefix of it, or nothing
 abbrev pub HasReport : Limits → Result Options UsageKind → Contents → (List ℕ → Type 0) → Type 0
@@ -74,9 +118,18 @@ IsFinished answer = ⊥
 -- Up to its report a run gives the report's text, or it ends so.
 abbrev pub is_end : Outcome → Bool
 is_end Done = false
-is_end WriteFailed = false
 is_end (Usage kind) = false
-is_end answer = true
+is_end (ReadFailed i) = true
+is_end (TooLong i) = true
+is_end (Config kind offset) = true
+is_end (UnknownSource i) = true
+is_end (PatternSyntax i) = true
+is_end (PatternTooBig i) = true
+is_end (Bad i fault offset) = true
+is_end (TooManyClaims i) = true
+is_end MappedTooLarge = true
+is_end WriteFailed = false
+is_end NoMemory = true
 
 abbrev pub EndsReport : Limits → Options → List ℕ → Contents → Result (Vec ℕ Global) Outcome → Type 0
 EndsReport limits o last contents (Ok text) =

@@ -3,7 +3,8 @@ use Rattle.std.specs.Prelude.{◌≡◌, ℕ, ◌<◌, ◌≤◌, ⊤, List, [],
 use Rattle.size_core.specs.declared.claim.Claim.{Claim}
 use Rattle.size_model.specs.declared.view.LabelledClaim.{LabelledClaim}
 use Rattle.size_model.specs.Numbered.{numbered_view}
-use Rattle.data_sources.specs.Made.{AreNumbered}
+use Rattle.claim_sheet.specs.Made.{AreNumbered}
+use Rattle.data_sources.specs.declared.binary.Binary.{Binary}
 use Rattle.data_sources.specs.Sources.{claims_of}
 use Rattle.bloaty_engine.specs.declared.claims.Numbered.{Numbered}
 use Rattle.bloaty_engine.specs.Sources.{Chosen}
@@ -27,9 +28,9 @@ pub record IsRenumbering (rewritten : List ℕ → List ℕ) (labels pool : List
 
 -- this is what a data source says of the file of this name: it has no fault, its claims are within the limit, and each
 -- label has a number of the pool
-pub record Says (limit : ℕ) (chosen : Chosen) (name file : List ℕ) (pool : List (List ℕ)) (n : Numbered) : Type 0 where
+pub record Says (limit : ℕ) (chosen : Chosen) (name : List ℕ) (binary : Binary) (pool : List (List ℕ)) (n : Numbered) : Type 0 where
   pub made : List LabelledClaim
-  pub are : claims_of chosen.base name file ≡ Ok made
+  pub are : claims_of chosen.base name binary ≡ Ok made
   pub few : length made ≤ limit
   pub count : length n.claims.items ≡ length made
   pub numbered : AreNumbered pool n.claims.items

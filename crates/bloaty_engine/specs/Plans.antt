@@ -1,5 +1,5 @@
 -- What a run asks of each file, as contracts see it, and why there is none.
-use Rattle.std.specs.Prelude.{◌≡◌, ℕ, ◌+◌, ◌<◌, List, Option, Some, Result, Ok, Err, IsOk}
+use Rattle.std.specs.Prelude.{◌≡◌, ℕ, ◌+◌, ◌<◌, Bool, true, false, List, Option, Some, Result, Ok, Err, IsOk}
 use Rattle.config_text.specs.declared.config.CustomSource.{CustomSource}
 use Rattle.config_text.specs.declared.config.Rewrite.{Rewrite}
 use Rattle.custom_rewrites.specs.Pattern.{IsNoPattern}
@@ -39,6 +39,14 @@ KeepsLast old new (Err (UnknownSource i)) = new ≡ old
 KeepsLast old new (Err (PatternSyntax i)) = new ≡ old
 KeepsLast old new (Err (PatternTooBig i)) = Unit {0}
 KeepsLast old new (Err NoMemory) = new ≡ old
+
+-- the answer isn't that a pattern was refused for its size
+abbrev pub answers_without_refusal : {X : Type 0} → Result X PlanAnswer → Bool
+answers_without_refusal (Ok x) = true
+answers_without_refusal (Err (UnknownSource i)) = true
+answers_without_refusal (Err (PatternSyntax i)) = true
+answers_without_refusal (Err (PatternTooBig i)) = false
+answers_without_refusal (Err NoMemory) = true
 
 -- an answer about the names has its cause
 abbrev pub HasNameCause : List CustomSource → List (List ℕ) → PlanAnswer → Type 0

@@ -6,6 +6,7 @@ use Rattle.size_model.specs.declared.view.SourceView.{SourceView}
 use Rattle.size_model.specs.Cut.{label_in}
 use Rattle.size_model.specs.Loads.{address_of, is_mapped, space_of}
 use Rattle.size_model.specs.Sizes.{label_of_address, label_of_offset}
+use Rattle.data_sources.specs.declared.binary.Binary.{Binary}
 use Rattle.data_sources.specs.Sources.{claims_of}
 use Rattle.dual_map.specs.Layout.{IsOver, LabelsBelow, Layout, Maps}
 use Rattle.rollup.specs.Adding.{piece_count}
@@ -39,9 +40,9 @@ abbrev pub piece_bound : ℕ → ℕ → ℕ
 piece_bound loads claims = 4 * claims * (2 * loads + 1) + 2 * (2 * loads + 1) + 4
 
 -- these are the maps of what a data source says of the file of this name
-pub record IsMapped (limit : ℕ) (layout : Layout) (chosen : Chosen) (name file : List ℕ) (pool : List (List ℕ)) (m : Mapped) : Type 0 where
+pub record IsMapped (limit : ℕ) (layout : Layout) (chosen : Chosen) (name : List ℕ) (binary : Binary) (pool : List (List ℕ)) (m : Mapped) : Type 0 where
   pub made : List LabelledClaim
-  pub are : claims_of chosen.base name file ≡ Ok made
+  pub are : claims_of chosen.base name binary ≡ Ok made
   pub few : length made ≤ limit
   pub count : m.claims ≡ length made
   pub spells : Spells layout pool m.maps (source_view chosen made)
@@ -50,9 +51,9 @@ pub record IsMapped (limit : ℕ) (layout : Layout) (chosen : Chosen) (name file
   pub pieces : length m.maps.file + length m.maps.vm ≤ piece_bound (length layout.loads) (length made)
 
 -- these are the maps of what data sources say of it
-pub record AreMapped (limit : ℕ) (layout : Layout) (sources : List Chosen) (name file : List ℕ) (pool : List (List ℕ)) (maps : List Maps) : Type 0 where
+pub record AreMapped (limit : ℕ) (layout : Layout) (sources : List Chosen) (name : List ℕ) (binary : Binary) (pool : List (List ℕ)) (maps : List Maps) : Type 0 where
   pub views : List SourceView
-  pub are : views_of limit name file sources ≡ Ok views
+  pub are : views_of limit name binary sources ≡ Ok views
   pub spell : AllSpell layout pool maps views
   pub over : All (IsOver layout) maps
   pub below : All (LabelsBelow (length pool)) maps

@@ -8,17 +8,22 @@ use custom_rewrites::{LabelPattern, Rewrites};
 use size_core::Source;
 use std::alloc::AllocFailed;
 use std::marker::Model;
+use thiserror::Error;
 
 /// Why there is no plan of a run.
-#[derive(Clone, Copy, Debug, PartialEq, Eq, Hash)]
+#[derive(Clone, Copy, Debug, PartialEq, Eq, Hash, Error)]
 pub enum PlanAnswer {
     /// A name of `-d` means no data source; the names are numbered from 1.
+    #[error("unknown source {0}")]
     UnknownSource(usize),
     /// A pattern is no regular expression, or nests too deep. The filter is pattern 0, rewrites have the numbers from 1 on.
+    #[error("pattern {0}: bad syntax")]
     PatternSyntax(usize),
     /// A pattern was refused for its size.
+    #[error("pattern {0}: too big")]
     PatternTooBig(usize),
     /// There was not enough memory.
+    #[error("out of memory")]
     NoMemory,
 }
 

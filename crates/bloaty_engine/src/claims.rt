@@ -2,8 +2,7 @@
 
 ghost use Rattle.std.specs.Prelude.{◌≡◌, ◌<◌, ℕ, All, IfOk, IsErrOf, IsOkAnd, IfSome, [], length, map, slice_get, Some, Err};
 ghost use Rattle.size_core.specs.declared.fault.BadFile.{BadFile as BadFileSpec};
-ghost use Rattle.data_sources.specs.Made.{KeepsLabels};
-ghost use Rattle.data_sources.specs.Opened.{bytes_of};
+ghost use Rattle.claim_sheet.specs.Made.{KeepsLabels};
 ghost use Rattle.data_sources.specs.Sources.{claims_of};
 ghost use Rattle.custom_rewrites.specs.Rewriting.{rewritten};
 ghost use Rattle.bloaty_engine.specs.Numbering.{IsRenumbering, Says, renumbered};
@@ -73,9 +72,9 @@ fn built_in(
     pool: &mut LabelPool,
     limit: u64,
 ) -> Result<Numbered, ClaimAnswer>
-    ensures says { IfOk result (Says limit (record { base = source; rewrites = [] }) name.now (bytes_of binary.now) pool.new) }
-    ensures many { IsErrOf result ClaimAnswer.TooManyClaims → IsOkAnd (claims_of source name.now (bytes_of binary.now)) (λ made. limit < length made) }
-    ensures bad { (bad : BadFileSpec) → IsErrOf result (ClaimAnswer.Bad bad) → claims_of source name.now (bytes_of binary.now) ≡ Err bad }
+    ensures says { IfOk result (Says limit (record { base = source; rewrites = [] }) name.now binary.now pool.new) }
+    ensures many { IsErrOf result ClaimAnswer.TooManyClaims → IsOkAnd (claims_of source name.now binary.now) (λ made. limit < length made) }
+    ensures bad { (bad : BadFileSpec) → IsErrOf result (ClaimAnswer.Bad bad) → claims_of source name.now binary.now ≡ Err bad }
     ensures kept { KeepsLabels pool.old pool.new }
 {
     let unmapped = pool.intern(b"[Unmapped]")?;
@@ -93,9 +92,9 @@ fn custom(
     pool: &mut LabelPool,
     limit: u64,
 ) -> Result<Numbered, ClaimAnswer>
-    ensures says { IfOk result (Says limit (record { base = base; rewrites = rewrites.now }) name.now (bytes_of binary.now) pool.new) }
-    ensures many { IsErrOf result ClaimAnswer.TooManyClaims → IsOkAnd (claims_of base name.now (bytes_of binary.now)) (λ made. limit < length made) }
-    ensures bad { (bad : BadFileSpec) → IsErrOf result (ClaimAnswer.Bad bad) → claims_of base name.now (bytes_of binary.now) ≡ Err bad }
+    ensures says { IfOk result (Says limit (record { base = base; rewrites = rewrites.now }) name.now binary.now pool.new) }
+    ensures many { IsErrOf result ClaimAnswer.TooManyClaims → IsOkAnd (claims_of base name.now binary.now) (λ made. limit < length made) }
+    ensures bad { (bad : BadFileSpec) → IsErrOf result (ClaimAnswer.Bad bad) → claims_of base name.now binary.now ≡ Err bad }
     ensures kept { KeepsLabels pool.old pool.new }
 {
     let mut labels = LabelPool::new(alloc);
@@ -117,9 +116,9 @@ pub fn claims_by_number(
     limit: u64,
 ) -> Result<Numbered, ClaimAnswer>
     requires { i < length plan.now.sources }
-    ensures says { IfOk result (λ n. IfSome (slice_get plan.now.sources i) (λ chosen. Says limit chosen name.now (bytes_of binary.now) pool.new n)) }
-    ensures many { IsErrOf result ClaimAnswer.TooManyClaims → IfSome (slice_get plan.now.sources i) (λ chosen. IsOkAnd (claims_of chosen.base name.now (bytes_of binary.now)) (λ made. limit < length made)) }
-    ensures bad { (bad : BadFileSpec) → IsErrOf result (ClaimAnswer.Bad bad) → IfSome (slice_get plan.now.sources i) (λ chosen. claims_of chosen.base name.now (bytes_of binary.now) ≡ Err bad) }
+    ensures says { IfOk result (λ n. IfSome (slice_get plan.now.sources i) (λ chosen. Says limit chosen name.now binary.now pool.new n)) }
+    ensures many { IsErrOf result ClaimAnswer.TooManyClaims → IfSome (slice_get plan.now.sources i) (λ chosen. IsOkAnd (claims_of chosen.base name.now binary.now) (λ made. limit < length made)) }
+    ensures bad { (bad : BadFileSpec) → IsErrOf result (ClaimAnswer.Bad bad) → IfSome (slice_get plan.now.sources i) (λ chosen. claims_of chosen.base name.now binary.now ≡ Err bad) }
     ensures kept { KeepsLabels pool.old pool.new }
 {
     let base = plan.base(i);

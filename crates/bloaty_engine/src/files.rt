@@ -1,10 +1,11 @@
 //! The files of a run, read and counted one after the other.
 
-ghost use Rattle.std.specs.Prelude.{◌≡◌, ◌+◌, ◌<◌, ◌≤◌, ◌++◌, ◌∷◌, [], ℕ, List, Ok, Some, length, codes, slice_get, IfSome, OnOk, IsErrOf};
+ghost use Rattle.std.specs.Prelude.{◌≡◌, ◌+◌, ◌<◌, ◌≤◌, ◌++◌, ◌∷◌, [], ℕ, List, Ok, Some, length, codes, slice_get, IfSome, OnOk, IsErrOf, true};
 ghost use Rattle.outside.specs.Causes.{Rose};
 ghost use Rattle.outside.specs.Held.{IsHeld};
 ghost use Rattle.size_model.specs.declared.view.FileView.{FileView as FileViewSpec};
 ghost use Rattle.elf_synth.specs.Made.{made};
+ghost use Rattle.bloaty_engine.specs.Answers.{ends_without, is_failed_read};
 ghost use Rattle.bloaty_engine.specs.Counts.{filter_test};
 ghost use Rattle.bloaty_engine.specs.Named.{AreHeld};
 ghost use Rattle.bloaty_engine.specs.Steps.{EndsAs, EndsFiles, Finds, HasCounted};
@@ -48,6 +49,7 @@ pub fn read_file<F: Files>(
     ensures failed { IsErrOf result (Outcome.ReadFailed number) → Rose (F.faults files.old) (F.faults files.new) × IfSome (F.last_failed files.new) (λ n. n ≡ name.now) }
     ensures held { F.held files.new ≡ F.held files.old }
     ensures later { F.faults files.old ≤ F.faults files.new }
+    ensures uncounted { ends_without is_failed_read result ≡ true → F.faults files.new ≡ F.faults files.old }
 {
     match files.read(alloc, name, limit) {
         Ok(bytes) => Ok(bytes),
@@ -118,6 +120,7 @@ pub fn count_files<F: Files>(
     ensures failed { (k : ℕ) → IsErrOf result (Outcome.ReadFailed (k + 1)) → Rose (F.faults files.old) (F.faults files.new) × IfSome (F.last_failed files.new) (λ n. slice_get names.now k ≡ Some n) }
     ensures held { F.held files.new ≡ F.held files.old }
     ensures later { F.faults files.old ≤ F.faults files.new }
+    ensures uncounted { ends_without is_failed_read result ≡ true → F.faults files.new ≡ F.faults files.old }
 {
     let mut total = Rollup::new(alloc, plan.depth());
     let mut lengths = 0;

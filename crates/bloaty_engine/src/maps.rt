@@ -2,8 +2,7 @@
 
 ghost use Rattle.std.specs.Prelude.{◌≡◌, ◌<◌, ◌++◌, ◌∷◌, [], ℕ, IfOk, OnOk, IsErrOf, IsOkAnd, IfSome, length, slice_get, Err};
 ghost use Rattle.size_core.specs.declared.fault.BadFile.{BadFile as BadFileSpec};
-ghost use Rattle.data_sources.specs.Made.{KeepsLabels};
-ghost use Rattle.data_sources.specs.Opened.{bytes_of};
+ghost use Rattle.claim_sheet.specs.Made.{KeepsLabels};
 ghost use Rattle.data_sources.specs.Sources.{claims_of};
 ghost use Rattle.bloaty_engine.specs.Reasons.{of_claims};
 ghost use Rattle.bloaty_engine.specs.Spelling.{AreMapped, IsMapped};
@@ -37,9 +36,9 @@ fn map_source(
 ) -> Result<Mapped, ClaimAnswer>
     requires source { i < length plan.now.sources }
     requires len { base.now.len ≡ file_len }
-    ensures mapped { IfOk result (λ m. IfSome (slice_get plan.now.sources i) (λ chosen. IsMapped limit base.now chosen name.now (bytes_of binary.now) pool.new m)) }
-    ensures many { IsErrOf result ClaimAnswer.TooManyClaims → IfSome (slice_get plan.now.sources i) (λ chosen. IsOkAnd (claims_of chosen.base name.now (bytes_of binary.now)) (λ made. limit < length made)) }
-    ensures bad { (bad : BadFileSpec) → IsErrOf result (ClaimAnswer.Bad bad) → IfSome (slice_get plan.now.sources i) (λ chosen. claims_of chosen.base name.now (bytes_of binary.now) ≡ Err bad) }
+    ensures mapped { IfOk result (λ m. IfSome (slice_get plan.now.sources i) (λ chosen. IsMapped limit base.now chosen name.now binary.now pool.new m)) }
+    ensures many { IsErrOf result ClaimAnswer.TooManyClaims → IfSome (slice_get plan.now.sources i) (λ chosen. IsOkAnd (claims_of chosen.base name.now binary.now) (λ made. limit < length made)) }
+    ensures bad { (bad : BadFileSpec) → IsErrOf result (ClaimAnswer.Bad bad) → IfSome (slice_get plan.now.sources i) (λ chosen. claims_of chosen.base name.now binary.now ≡ Err bad) }
     ensures kept { KeepsLabels pool.old pool.new }
 {
     let said = claims_by_number(alloc, plan, i, binary, name, pool, limit)?;
@@ -70,9 +69,9 @@ pub fn maps_of(
     limit: u64,
 ) -> Result<Vec<DualMap>, ClaimAnswer>
     requires len { base.now.len ≡ file_len }
-    ensures mapped { IfOk result (λ maps. AreMapped limit base.now plan.now.sources name.now (bytes_of binary.now) pool.new maps.items) }
-    ensures many { IsErrOf result ClaimAnswer.TooManyClaims → views_of limit name.now (bytes_of binary.now) plan.now.sources ≡ Err (of_claims ClaimAnswer.TooManyClaims) }
-    ensures bad { (bad : BadFileSpec) → IsErrOf result (ClaimAnswer.Bad bad) → views_of limit name.now (bytes_of binary.now) plan.now.sources ≡ Err (of_claims (ClaimAnswer.Bad bad)) }
+    ensures mapped { IfOk result (λ maps. AreMapped limit base.now plan.now.sources name.now binary.now pool.new maps.items) }
+    ensures many { IsErrOf result ClaimAnswer.TooManyClaims → views_of limit name.now binary.now plan.now.sources ≡ Err (of_claims ClaimAnswer.TooManyClaims) }
+    ensures bad { (bad : BadFileSpec) → IsErrOf result (ClaimAnswer.Bad bad) → views_of limit name.now binary.now plan.now.sources ≡ Err (of_claims (ClaimAnswer.Bad bad)) }
 {
     let mut maps = Vec::new(alloc);
     let mut left = limit;

@@ -1,11 +1,11 @@
 //! The plan of a run, from its options and its configuration.
 
-ghost use Rattle.std.specs.Prelude.{◌≡◌, ◌<◌, ◌≤◌, ◌+◌, ◌^◌, None, Some, Ok, All, length, map, slice_get, IfSome, IfOk, IfErr, option_map};
+ghost use Rattle.std.specs.Prelude.{◌≡◌, ◌<◌, ◌≤◌, ◌+◌, ◌^◌, None, Some, Ok, All, length, map, slice_get, IfSome, IfOk, IfErr, true, option_map};
 ghost use Rattle.std.specs.Option.{option_copied};
 ghost use Rattle.custom_rewrites.specs.Pattern.{IsPattern};
 ghost use Rattle.bloaty_engine.specs.Choices.{IsChoice, as_chosen, chosen_in, rewrite_lists};
 ghost use Rattle.bloaty_engine.specs.Patterns.{AreRead, rewrites_of};
-ghost use Rattle.bloaty_engine.specs.Plans.{HasCause, HasFilterCause, HasNameCause, HasRewriteCause, IsPlan, KeepsLast};
+ghost use Rattle.bloaty_engine.specs.Plans.{HasCause, HasFilterCause, HasNameCause, HasRewriteCause, IsPlan, KeepsLast, answers_without_refusal};
 ghost use Rattle.bloaty_engine.specs.Sources.{chosen_named, chosen_sources, custom_named};
 
 use crate::asked::{Choice, Plan, PlanAnswer};
@@ -78,6 +78,7 @@ fn filter_of<P: Patterns>(
     ensures cause { IfErr result (HasFilterCause (option_copied filter.entry) (P.refused patterns.old) (P.refused patterns.new) (P.last_refused patterns.new)) }
     ensures kept { KeepsLast (P.last_refused patterns.old) (P.last_refused patterns.new) result }
     ensures rises { P.refused patterns.old ≤ P.refused patterns.new }
+    ensures uncounted { answers_without_refusal result ≡ true → P.refused patterns.new ≡ P.refused patterns.old }
 {
     let Some(text) = filter else {
         return Ok(None);
@@ -103,6 +104,7 @@ fn rewrites_from<P: Patterns>(
     ensures cause { IfErr result (HasRewriteCause first source.now.rewrites (P.refused patterns.old) (P.refused patterns.new) (P.last_refused patterns.new)) }
     ensures kept { KeepsLast (P.last_refused patterns.old) (P.last_refused patterns.new) result }
     ensures rises { P.refused patterns.old ≤ P.refused patterns.new }
+    ensures uncounted { answers_without_refusal result ≡ true → P.refused patterns.new ≡ P.refused patterns.old }
 {
     match Rewrites::build(alloc, source, patterns) {
         Ok(made) => Ok(made),
@@ -123,6 +125,7 @@ fn rewrites_of<P: Patterns>(
     ensures cause { IfErr result (HasRewriteCause 1 (rewrites_of custom.now) (P.refused patterns.old) (P.refused patterns.new) (P.last_refused patterns.new)) }
     ensures kept { KeepsLast (P.last_refused patterns.old) (P.last_refused patterns.new) result }
     ensures rises { P.refused patterns.old ≤ P.refused patterns.new }
+    ensures uncounted { answers_without_refusal result ≡ true → P.refused patterns.new ≡ P.refused patterns.old }
 {
     let mut all = Vec::new(alloc);
     let mut first = 1usize;
@@ -154,6 +157,7 @@ pub fn plan<P: Patterns>(
     ensures cause { IfErr result (HasCause options.now.sources options.now.filter custom.now (P.refused patterns.old) (P.refused patterns.new) (P.last_refused patterns.new)) }
     ensures kept { KeepsLast (P.last_refused patterns.old) (P.last_refused patterns.new) result }
     ensures rises { P.refused patterns.old ≤ P.refused patterns.new }
+    ensures uncounted { answers_without_refusal result ≡ true → P.refused patterns.new ≡ P.refused patterns.old }
 {
     let choices = choices_of(alloc, &options.sources, custom)?;
     let filter = filter_of(alloc, options.filter.as_ref(), patterns)?;

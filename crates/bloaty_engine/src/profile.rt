@@ -1,55 +1,24 @@
 //! The sizes of one file.
 
-ghost use Rattle.std.specs.Prelude.{◌≡◌, ◌+◌, ◌-◌, ◌≤◌, ◌<◌, ◌^◌, ℕ, Bool, ◌++◌, ◌⊎◌, List, All, length, map, Ok, Err, IfOk, IfSome, OnOk, OnErr, IsErrOf};
-ghost use Rattle.std.specs.Option.{option_to_list};
+ghost use Rattle.std.specs.Prelude.{◌≡◌, ◌+◌, ◌-◌, ◌≤◌, ◌<◌, ◌^◌, ℕ, Bool, ◌⊎◌, List, All, length, map, Ok, Err, IfOk, OnOk, OnErr, IsErrOf};
 ghost use Rattle.size_model.specs.declared.view.FileView.{FileView as FileViewSpec};
-ghost use Rattle.size_model.specs.declared.view.SourceView.{SourceView as SourceViewSpec};
-ghost use Rattle.size_model.specs.Loads.{IsLoad, mapped_count};
-ghost use Rattle.data_sources.specs.Loads.{loads_of};
-ghost use Rattle.data_sources.specs.Opened.{bytes_of};
-ghost use Rattle.data_sources.specs.Views.{view_of};
+ghost use Rattle.size_model.specs.Loads.{mapped_count};
 ghost use Rattle.dual_map.specs.Layout.{IsOver, LabelsBelow};
 ghost use Rattle.rollup.specs.Adding.{file_count, file_where, piece_count, vm_count, vm_where};
 ghost use Rattle.custom_rewrites.specs.Pattern.{is_found};
 ghost use Rattle.bloaty_engine.specs.Counts.{file_size_where, filter_test, marks_by, step_bound, vm_size_where};
-ghost use Rattle.bloaty_engine.specs.Views.{Answers, file_views, viewed};
+ghost use Rattle.bloaty_engine.specs.Views.{Answers, file_view, viewed};
 
 use crate::answer::ProfileAnswer;
 use crate::asked::Plan;
 use crate::maps::maps_of;
 use custom_rewrites::LabelPattern;
-use data_sources::{Binary, load_at, load_slots, open_binary};
+use data_sources::{loads_of, open_binary};
 use dual_map::{Base, DualMap};
 use rollup::Rollup;
-use size_core::{LabelPool, Limits, Load, NoMemory, Steps};
+use size_core::{LabelPool, Limits, NoMemory, Steps};
 use std::alloc::Global;
 use std::sync::ledger::Ledger;
-
-// Adds a load, where there is one.
-fn push_load(loads: &mut Vec<Load>, load: Option<Load>) -> Result<(), NoMemory>
-    requires fits { IfSome load IsLoad }
-    requires all { All IsLoad loads.old.items }
-    ensures pushed { OnOk result (loads.new.items ≡ loads.old.items ++ option_to_list load) }
-    ensures all { OnOk result (All IsLoad loads.new.items) }
-{
-    if let Some(load) = load {
-        loads.push(load)?;
-    }
-    Ok(())
-}
-
-// The loads of a file, in order.
-#[tactic(auto, using(size_core::proofs::Gathered::gather_next, size_core::proofs::Gathered::gather_end), unfolding(data_sources::specs::Loads::loads_of))]
-fn loads_of(alloc: Global, binary: &Binary<'_>) -> Result<Vec<Load>, NoMemory>
-    ensures are { IfOk result (λ loads. loads.items ≡ loads_of (bytes_of binary.now)) }
-    ensures fit { IfOk result (λ loads. All IsLoad loads.items) }
-{
-    let mut loads = Vec::new(alloc);
-    for i in 0..load_slots(binary) {
-        push_load(&mut loads, load_at(binary, i))?;
-    }
-    Ok(loads)
-}
 
 // Which labels a pattern is found in; each label is asked once.
 fn marks_of(alloc: Global, pattern: &LabelPattern, pool: &LabelPool) -> Result<Vec<bool>, NoMemory>
@@ -136,12 +105,15 @@ pub fn profile_file<L: Ledger>(
     // What was added, filtered or not.
     ensures depth { total.new.depth ≡ total.old.depth }
     ensures lengths { OnOk result (total.new.lengths ≡ total.old.lengths + length file.now) }
-    ensures mapped { OnOk result (total.new.mapped ≡ total.old.mapped + mapped_count (loads_of file.now)) }
+    ensures mapped { OnOk result ((f : FileViewSpec)
+        → viewed total.old.mapped limits.now.claims name.now file.now plan.now.sources ≡ Ok f
+        → total.new.mapped ≡ total.old.mapped + mapped_count f.loads) }
 
-    // No more pieces are read than the claims and the loads make.
-    ensures cost { (views : List SourceViewSpec)
-        → file_views limits.now.claims name.now file.now plan.now.sources ≡ Ok views
-        → steps.new ≤ steps.old + step_bound (view_of file.now views) }
+    // No more pieces are read than the claims and the loads make, and none where the file or its claims have a fault.
+    ensures cost { (f : FileViewSpec)
+        → file_view limits.now.claims name.now file.now plan.now.sources ≡ Ok f
+        → steps.new ≤ steps.old + step_bound f }
+    ensures free { (fault : ProfileAnswer) → file_view limits.now.claims name.now file.now plan.now.sources ≡ Err fault → steps.new ≡ steps.old }
 {
     let binary = open_binary(file)?;
     let loads = loads_of(alloc, &binary)?;

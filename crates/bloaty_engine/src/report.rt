@@ -1,11 +1,11 @@
 //! The report of a run, up to its text.
 
-ghost use Rattle.std.specs.Prelude.{◌≡◌, ◌+◌, ◌<◌, ◌≤◌, ◌++◌, ℕ, List, Some, length, IfOk, IfSome, OnOk, IsErrOf};
+ghost use Rattle.std.specs.Prelude.{◌≡◌, ◌+◌, ◌<◌, ◌≤◌, ◌++◌, ℕ, List, None, Some, length, IfOk, IfSome, OnOk, IsErrOf, true};
 ghost use Rattle.outside.specs.Causes.{Rose};
 ghost use Rattle.report_rows.specs.Rows.{row_tree};
 ghost use Rattle.report_rows.specs.Trees.{IsTree};
 ghost use Rattle.size_options.specs.Answers.{HasInput, KeepsLimits};
-ghost use Rattle.bloaty_engine.specs.Answers.{EndsReport};
+ghost use Rattle.bloaty_engine.specs.Answers.{EndsReport, ends_without, is_failed_read, is_refused_pattern};
 ghost use Rattle.bloaty_engine.specs.Counts.{filter_test};
 ghost use Rattle.bloaty_engine.specs.Named.{AreContents, AreFiles, Contents, file_names, name_at};
 ghost use Rattle.bloaty_engine.specs.Report.{printed, row_options};
@@ -36,8 +36,10 @@ fn total_of<F: Files>(
     requires input { HasInput options.now.synth options.now.files }
     ensures counted { (bytes : ℕ → List ℕ) × AreFiles (F.held files.old) options.now.synth options.now.files bytes × EndsFiles limits.now plan.now.sources (filter_test plan.now.filter) (file_names options.now) bytes result }
     ensures failed { (k : ℕ) → IsErrOf result (Outcome.ReadFailed (k + 1)) → Rose (F.faults files.old) (F.faults files.new) × IfSome (F.last_failed files.new) (λ n. name_at options.now (k + 1) ≡ Some n) }
+    ensures unmade { (i : ℕ) → IsErrOf result (Outcome.ReadFailed i) → options.now.synth ≡ None }
     ensures held { F.held files.new ≡ F.held files.old }
     ensures later { F.faults files.old ≤ F.faults files.new }
+    ensures uncounted { ends_without is_failed_read result ≡ true → F.faults files.new ≡ F.faults files.old }
 {
     match options.synth {
         Some(n) => count_made(alloc, n, plan, limits),
@@ -92,6 +94,8 @@ pub fn report<F: Files, P: Patterns>(
     ensures run { (contents : Contents) × AreContents (F.held files.old) options.now contents × EndsReport limits.now options.now (P.last_refused patterns.new) contents result }
     ensures failed { (i : ℕ) → IsErrOf result (Outcome.ReadFailed i) → Rose (F.faults files.old) (F.faults files.new) × IfSome (F.last_failed files.new) (λ n. name_at options.now i ≡ Some n) }
     ensures refused { (i : ℕ) → IsErrOf result (Outcome.PatternTooBig i) → P.refused patterns.old < P.refused patterns.new }
+    ensures read { ends_without is_failed_read result ≡ true → F.faults files.new ≡ F.faults files.old }
+    ensures made { ends_without is_refused_pattern result ≡ true → P.refused patterns.new ≡ P.refused patterns.old }
 {
     let customs = customs_of(alloc, options, files, limits)?;
     let plan = plan_of(alloc, options, &customs, patterns)?;

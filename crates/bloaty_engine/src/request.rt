@@ -1,7 +1,8 @@
 //! What a run asks: its options, its configuration, and its plan.
 
-ghost use Rattle.std.specs.Prelude.{◌≡◌, ◌<◌, ◌≤◌, ℕ, List, Some, IfOk, IfErr, IfSome, IsErrOf};
+ghost use Rattle.std.specs.Prelude.{◌≡◌, ◌<◌, ◌≤◌, ℕ, List, Some, IfOk, IfErr, IfSome, IsErrOf, true};
 ghost use Rattle.outside.specs.Causes.{Rose};
+ghost use Rattle.bloaty_engine.specs.Answers.{ends_without, is_failed_read, is_refused_pattern};
 ghost use Rattle.bloaty_engine.specs.Named.{IsText};
 ghost use Rattle.bloaty_engine.specs.Plans.{EndsPlan, IsPlan};
 ghost use Rattle.bloaty_engine.specs.Steps.{EndsConfig};
@@ -36,6 +37,7 @@ pub fn customs_of<F: Files>(
     ensures failed { IsErrOf result (Outcome.ReadFailed 0) → Rose (F.faults files.old) (F.faults files.new) × IfSome (F.last_failed files.new) (λ n. options.now.config ≡ Some n) }
     ensures held { F.held files.new ≡ F.held files.old }
     ensures later { F.faults files.old ≤ F.faults files.new }
+    ensures uncounted { ends_without is_failed_read result ≡ true → F.faults files.new ≡ F.faults files.old }
 {
     let Some(name) = &options.config else {
         return Ok(Vec::new(alloc));
@@ -59,6 +61,7 @@ pub fn plan_of<P: Patterns>(
     ensures ends { IfErr result (EndsPlan options.now.sources options.now.filter customs.now (P.last_refused patterns.new)) }
     ensures refused { (i : ℕ) → IsErrOf result (Outcome.PatternTooBig i) → P.refused patterns.old < P.refused patterns.new }
     ensures rises { P.refused patterns.old ≤ P.refused patterns.new }
+    ensures uncounted { ends_without is_refused_pattern result ≡ true → P.refused patterns.new ≡ P.refused patterns.old }
 {
     match plan(alloc, options, customs, patterns) {
         Ok(plan) => Ok(plan),

@@ -1,13 +1,13 @@
 //! The whole run.
 
-ghost use Rattle.std.specs.Prelude.{◌≡◌, ◌⊎◌, ◌<◌, ◌++◌, ℕ, Ok, Some, codes, false, true, IfSome, IsOk};
+ghost use Rattle.std.specs.Prelude.{◌≡◌, ◌≢◌, ◌⊎◌, ◌<◌, ◌++◌, ℕ, Ok, Some, codes, false, true, IfSome, IsOk};
 ghost use Rattle.outside.specs.Causes.{Rose};
 ghost use Rattle.outside.specs.Grown.{Grew, GrewByPart};
 ghost use Rattle.size_options.specs.Answers.{KeepsLimits, are_taken};
 ghost use Rattle.size_options.specs.Asked.{asked as options_of};
 ghost use Rattle.size_options.specs.declared.answer.UsageKind.{UsageKind as UsageKindSpec};
 ghost use Rattle.size_options.specs.Words.{seen_words};
-ghost use Rattle.bloaty_engine.specs.Answers.{IsFinished, IsRun};
+ghost use Rattle.bloaty_engine.specs.Answers.{IsFinished, IsRun, is_failed_read, is_refused_pattern};
 ghost use Rattle.bloaty_engine.specs.Verdict.{verdict};
 ghost use Rattle.bloaty_engine.specs.Line.{line_of, usage_text};
 ghost use Rattle.bloaty_engine.specs.Named.{Contents, file_name, name_at};
@@ -26,6 +26,7 @@ fn write<O: Sink>(out: &mut O, report: &[u8]) -> Outcome
     ensures done { (result ≡ Outcome.Done) → Grew (O.written out.old) (O.written out.new) report.now }
     ensures failed { (result ≡ Outcome.WriteFailed) → GrewByPart (O.written out.old) (O.written out.new) report.now }
     ensures cause { (result ≡ Outcome.WriteFailed) → Rose (O.faults out.old) (O.faults out.new) }
+    ensures uncounted { (result ≡ Outcome.Done) → O.faults out.new ≡ O.faults out.old }
     ensures other { (result ≡ Outcome.Done) ⊎ (result ≡ Outcome.WriteFailed) }
 {
     match write_whole(out, report) {
@@ -48,6 +49,9 @@ fn answer<F: Files, P: Patterns, O: Sink>(
     ensures failed { (i : ℕ) → (result ≡ Outcome.ReadFailed i) → Rose (F.faults files.old) (F.faults files.new) × IfSome (F.last_failed files.new) (λ n. name_at options.now i ≡ Some n) }
     ensures refused { (i : ℕ) → (result ≡ Outcome.PatternTooBig i) → P.refused patterns.old < P.refused patterns.new }
     ensures write_failed { (result ≡ Outcome.WriteFailed) → Rose (O.faults out.old) (O.faults out.new) }
+    ensures read { is_failed_read result ≡ false → F.faults files.new ≡ F.faults files.old }
+    ensures made { is_refused_pattern result ≡ false → P.refused patterns.new ≡ P.refused patterns.old }
+    ensures wrote { (result ≢ Outcome.WriteFailed) → O.faults out.new ≡ O.faults out.old }
     ensures taken { (kind : UsageKindSpec) → (result ≡ Outcome.Usage kind) → ⊥ }
 {
     match report(alloc, options, files, patterns, limits) {
@@ -87,6 +91,11 @@ pub fn bloaty<F: Files, P: Patterns, O: Sink, E: Sink>(
     ensures failed { (i : ℕ) → (result ≡ Outcome.ReadFailed i) → Rose (F.faults files.old) (F.faults files.new) × IfSome (F.last_failed files.new) (λ n. n ≡ file_name (options_of (seen_words words.now)) i) }
     ensures refused { (i : ℕ) → (result ≡ Outcome.PatternTooBig i) → P.refused patterns.old < P.refused patterns.new }
     ensures write_failed { (result ≡ Outcome.WriteFailed) → Rose (O.faults out.old) (O.faults out.new) }
+
+    // Any other answer leaves the count of the device that it is told by: no failure is passed over.
+    ensures read { is_failed_read result ≡ false → F.faults files.new ≡ F.faults files.old }
+    ensures made { is_refused_pattern result ≡ false → P.refused patterns.new ≡ P.refused patterns.old }
+    ensures wrote { (result ≢ Outcome.WriteFailed) → O.faults out.new ≡ O.faults out.old }
 
     // The line of the outcome.
     ensures told { ¬ Rose (E.faults err.old) (E.faults err.new) → Grew (E.written err.old) (E.written err.new) (line_of (options_of (seen_words words.now)) result) }

@@ -5,6 +5,7 @@ ghost use Rattle.std.specs.Prelude.{◌≡◌};
 
 use size_core::{Bytes, List, Source, Text};
 use std::alloc::{AllocError, AllocFailed};
+use thiserror::Error;
 
 /// A data source of the configuration's own: the claims of its base, with each label rewritten.
 #[derive(Debug, Drop)]
@@ -55,11 +56,13 @@ pub enum ConfigKind {
 }
 
 /// Why there is no configuration.
-#[derive(Clone, Copy, Debug, PartialEq, Eq, Hash)]
+#[derive(Clone, Copy, Debug, PartialEq, Eq, Hash, Error)]
 pub enum ConfigAnswer {
     /// The first fault of the text, and its offset in bytes.
+    #[error("offset {1}: {0:?}")]
     Bad(ConfigKind, u64),
     /// There was not enough memory.
+    #[error("out of memory")]
     NoMemory,
 }
 

@@ -1,5 +1,5 @@
 -- Labels rewritten, and why rewrites aren't made.
-use Rattle.std.specs.Prelude.{◌≡◌, ◌<◌, ℕ, List, [], ◌∷◌, Some, take, unwrap_or, slice_get, All}
+use Rattle.std.specs.Prelude.{◌≡◌, ◌<◌, ℕ, Bool, true, false, Result, Ok, Err, List, [], ◌∷◌, Some, take, unwrap_or, slice_get, All}
 use Rattle.config_text.specs.declared.config.Rewrite.{Rewrite}
 use Rattle.custom_rewrites.specs.Pattern.{IsPattern, IsNoPattern}
 use Rattle.custom_rewrites.specs.Expand.{replaced}
@@ -24,6 +24,13 @@ HasCause rewrites before after old new (PatternSyntax place) = StopsAt rewrites 
 HasCause rewrites before after old new (PatternTooBig place) =
     StopsAt rewrites place (λ pattern. new ≡ pattern) × (before < after)
 HasCause rewrites before after old new NoMemory = new ≡ old
+
+-- the answer isn't that a pattern was refused for its size
+abbrev pub without_refusal : {X : Type 0} → Result X RewriteAnswer → Bool
+without_refusal (Ok x) = true
+without_refusal (Err (PatternSyntax place)) = true
+without_refusal (Err (PatternTooBig place)) = false
+without_refusal (Err NoMemory) = true
 
 -- the same of one pattern
 abbrev pub HasOneCause : List ℕ → ℕ → ℕ → ℕ → List ℕ → List ℕ → RewriteAnswer → Type 0

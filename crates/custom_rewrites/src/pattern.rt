@@ -10,15 +10,19 @@ use regex::bytes::Regex;
 use size_core::NoMemory;
 use std::alloc::Global;
 use std::marker::Model;
+use thiserror::Error;
 
 /// Why a pattern isn't made.
-#[derive(Clone, Copy, Debug, PartialEq, Eq, Hash)]
+#[derive(Clone, Copy, Debug, PartialEq, Eq, Hash, Error)]
 pub enum PatternAnswer {
     /// It is no regular expression, or nests too deep.
+    #[error("bad syntax")]
     Syntax,
     /// It was refused for its size.
+    #[error("too big")]
     TooBig,
     /// There was not enough memory.
+    #[error("out of memory")]
     NoMemory,
 }
 
@@ -97,5 +101,6 @@ pub trait Patterns {
         ensures too_big { result ≡ Err PatternAnswer.TooBig →
             (refused self.old < refused self.new) × (last_refused self.new ≡ pattern.now) }
         ensures kept { result ≢ Err PatternAnswer.TooBig → last_refused self.new ≡ last_refused self.old }
+        ensures uncounted { result ≢ Err PatternAnswer.TooBig → refused self.new ≡ refused self.old }
         ensures rises { refused self.old ≤ refused self.new };
 }

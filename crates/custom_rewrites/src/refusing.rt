@@ -1,8 +1,8 @@
 //! Patterns of the crate `regex`.
 
-ghost use Rattle.std.specs.Prelude.{◌≡◌, ◌≢◌, ◌<◌, ◌≤◌, ◌+◌, ◌⊎◌, [], Err, IfOk, Contains};
+ghost use Rattle.std.specs.Prelude.{◌≡◌, ◌≢◌, ◌<◌, ◌≤◌, ◌⊎◌, ◌↔◌, [], Err, IfOk, IsTrue};
 ghost use Rattle.custom_rewrites.specs.Pattern.{IsPattern, IsNoPattern};
-ghost use Rattle.custom_rewrites.specs.Refusals.{with_refused, with_call};
+ghost use Rattle.custom_rewrites.specs.Refusals.{IsListed, with_refused, with_call};
 
 use crate::pattern::{LabelPattern, PatternAnswer, Patterns};
 use size_core::Text;
@@ -44,6 +44,18 @@ impl RegexPatterns {
         }
     }
 
+    /// Counts a call, and answers whether it is to be refused.
+    fn count_call(&mut self) -> bool
+        ensures after { self.new ≡ with_call self.old }
+        ensures listed { IsTrue result ↔ IsListed self.old }
+    {
+        let Some(calls) = self.calls.checked_add(1) else {
+            return false;
+        };
+        self.calls = calls;
+        self.refusing.contains(&calls)
+    }
+
     /// Counts a refusal and keeps its pattern.
     fn refuse(&mut self, alloc: Global, pattern: &str) -> PatternAnswer
         ensures too_big { result ≡ PatternAnswer.TooBig → self.new ≡ with_refused self.old pattern.now }
@@ -75,22 +87,18 @@ impl Patterns for RegexPatterns {
         ensures too_big { result ≡ Err PatternAnswer.TooBig →
             (self.old.refused < self.new.refused) × (self.new.last ≡ pattern.now) }
         ensures kept { result ≢ Err PatternAnswer.TooBig → self.new.last ≡ self.old.last }
+        ensures uncounted { result ≢ Err PatternAnswer.TooBig → self.new.refused ≡ self.old.refused }
         ensures rises { self.old.refused ≤ self.new.refused }
 
-        // A call whose number is in the list is refused, and counts once.
-        ensures listed { Contains self.old.refusing (self.old.calls + 1) →
+        // A call whose number is in the list is refused. Each call counts once, until the count stands at the
+        // end of its type, past which no call is in the list.
+        ensures listed { IsListed self.old →
             (result ≡ Err PatternAnswer.TooBig) ⊎ (result ≡ Err PatternAnswer.NoMemory) }
-        ensures list { self.new.refusing ≡ self.old.refusing }
-        ensures uncounted { result ≢ Err PatternAnswer.TooBig → result ≢ Err PatternAnswer.NoMemory →
-            self.new ≡ with_call self.old }
+        ensures called { result ≢ Err PatternAnswer.TooBig → self.new ≡ with_call self.old }
         ensures counted { result ≡ Err PatternAnswer.TooBig →
             self.new ≡ with_refused (with_call self.old) pattern.now }
     {
-        let Some(calls) = self.calls.checked_add(1) else {
-            return Err(PatternAnswer::NoMemory);
-        };
-        self.calls = calls;
-        if self.refusing.contains(&calls) {
+        if self.count_call() {
             return Err(self.refuse(alloc, pattern));
         }
         match LabelPattern::of(alloc, pattern) {

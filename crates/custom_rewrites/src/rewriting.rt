@@ -1,23 +1,27 @@
 //! The rewrites of a custom data source.
 
-ghost use Rattle.std.specs.Prelude.{◌≡◌, ◌≤◌, ◌++◌, All, IfOk, IfErr, OnOk, OnErr};
+ghost use Rattle.std.specs.Prelude.{true, ◌≡◌, ◌≤◌, ◌++◌, All, IfOk, IfErr, OnOk, OnErr};
 ghost use Rattle.custom_rewrites.specs.Pattern.{IsPattern};
-ghost use Rattle.custom_rewrites.specs.Rewriting.{rewritten, HasCause, HasOneCause};
+ghost use Rattle.custom_rewrites.specs.Rewriting.{rewritten, without_refusal, HasCause, HasOneCause};
 
 use crate::pattern::{LabelPattern, PatternAnswer, Patterns};
 use config_text::{CustomSource, Rewrite};
 use size_core::{Bytes, NoMemory};
 use std::alloc::Global;
 use std::marker::Model;
+use thiserror::Error;
 
 /// Why the rewrites of a source aren't made; the number is the rewrite's place in the source, from 0.
-#[derive(Clone, Copy, Debug, PartialEq, Eq, Hash)]
+#[derive(Clone, Copy, Debug, PartialEq, Eq, Hash, Error)]
 pub enum RewriteAnswer {
     /// Its pattern is no regular expression, or nests too deep.
+    #[error("rewrite {0}: bad syntax")]
     PatternSyntax(usize),
     /// Its pattern was refused for its size.
+    #[error("rewrite {0}: too big")]
     PatternTooBig(usize),
     /// There was not enough memory.
+    #[error("out of memory")]
     NoMemory,
 }
 
@@ -53,6 +57,7 @@ fn build_one<P: Patterns>(
 ) -> Result<Made, RewriteAnswer>
     ensures ok { IfOk result (λ m. (record { pattern = m.pattern; replacement = m.replacement } ≡ rewrite.now)
         × IsPattern rewrite.now.pattern × (P.last_refused patterns.new ≡ P.last_refused patterns.old)) }
+    ensures uncounted { without_refusal result ≡ true → P.refused patterns.new ≡ P.refused patterns.old }
     ensures answer { IfErr result (HasOneCause rewrite.now.pattern place (P.refused patterns.old)
         (P.refused patterns.new) (P.last_refused patterns.old) (P.last_refused patterns.new)) }
     ensures rises { P.refused patterns.old ≤ P.refused patterns.new }
@@ -81,6 +86,7 @@ impl Rewrites {
         ensures ok { IfOk result (λ r. (r ≡ source.now.rewrites)
             × All (λ q. IsPattern q.pattern) source.now.rewrites
             × (P.last_refused patterns.new ≡ P.last_refused patterns.old)) }
+        ensures uncounted { without_refusal result ≡ true → P.refused patterns.new ≡ P.refused patterns.old }
         ensures answer { IfErr result (HasCause source.now.rewrites (P.refused patterns.old)
             (P.refused patterns.new) (P.last_refused patterns.old) (P.last_refused patterns.new)) }
         ensures rises { P.refused patterns.old ≤ P.refused patterns.new }

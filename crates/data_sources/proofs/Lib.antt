@@ -1,3 +1,2 @@
-pub mod MadeLemmas
-pub mod ReadLemmas
-pub mod TableLemmas
+pub mod LoadLemmas
+pub mod OpenedLemmas

@@ -1,10 +1,6 @@
 -- What the first bytes of a file say of its format.
-use Rattle.std.specs.Prelude.{ℕ, ◌||◌, Bool, not, nat_eq, List, [], ◌∷◌, ◌++◌, codes, Result, Ok}
+use Rattle.std.specs.Prelude.{ℕ, ◌||◌, Bool, nat_eq, List, [], ◌∷◌, codes}
 use Rattle.std.specs.List.{starts_with}
-use Rattle.size_core.specs.declared.fault.BadFile.{BadFile}
-use Rattle.size_core.specs.declared.fault.Fault.TheVariants.{UnknownFormat, Archive, Universal}
-use Rattle.size_core.specs.Checks.{◌>>◌, Check, demand, first_of}
-use Rattle.elf_file.specs.ElfChecks.{elf_checks}
 
 abbrev pub begins_with : List ℕ → List ℕ → Bool
 begins_with file magic = starts_with nat_eq file magic
@@ -17,24 +13,16 @@ is_archive file = begins_with file (codes "!<arch>\n") || begins_with file (code
 abbrev pub is_universal : List ℕ → Bool
 is_universal file = begins_with file (0xca ∷ 0xfe ∷ 0xba ∷ 0xbe ∷ []) || begins_with file (0xca ∷ 0xfe ∷ 0xba ∷ 0xbf ∷ [])
 
+-- a thin Mach-O file, of 32 bits and of 64, with its least byte first and last (mach-o/loader.h: mach_header, magic)
+abbrev pub is_macho : List ℕ → Bool
+is_macho file =
+    begins_with file (0xce ∷ 0xfa ∷ 0xed ∷ 0xfe ∷ []) || begins_with file (0xcf ∷ 0xfa ∷ 0xed ∷ 0xfe ∷ [])
+    || begins_with file (0xfe ∷ 0xed ∷ 0xfa ∷ 0xce ∷ []) || begins_with file (0xfe ∷ 0xed ∷ 0xfa ∷ 0xcf ∷ [])
+
+-- a WebAssembly module (WebAssembly core 2.0, 5.5.16 Modules)
+abbrev pub is_wasm : List ℕ → Bool
+is_wasm file = begins_with file (0x00 ∷ 0x61 ∷ 0x73 ∷ 0x6d ∷ [])
+
 -- EI_MAG0 to EI_MAG3 (ELF gABI, ELF Identification)
 abbrev pub is_elf : List ℕ → Bool
 is_elf file = begins_with file (0x7f ∷ 0x45 ∷ 0x4c ∷ 0x46 ∷ [])
-
--- the format is one that is read
-unfoldable pub kind_checks : List ℕ → List Check
-kind_checks file =
-    demand (not (is_archive file)) Archive 0
-    ∷ demand (not (is_universal file)) Universal 0
-    ∷ demand (is_elf file) UnknownFormat 0
-    ∷ []
-
--- the first fault of a file: its first bytes, and then what its format checks
-abbrev pub format_fault : List ℕ → Check
-format_fault file = first_of (kind_checks file ++ elf_checks file)
-
--- the file, where it has no such fault
-abbrev pub opened : List ℕ → Result (List ℕ) BadFile
-opened file = do
-  format_fault file
-  Ok file

@@ -1,9 +1,7 @@
-pub mod Claims
+pub mod Answers
+pub mod Groups
 pub mod Kind
 pub mod Loads
-pub mod Made
 pub mod Opened
-pub mod Read
 pub mod Sources
-pub mod SymbolClaims
 pub mod Views

@@ -1,8 +1,10 @@
 //! Why there are no claims.
 
 ghost use Rattle.std.specs.Prelude.{◌≡◌};
-ghost use Rattle.data_sources.specs.declared.answer.ClaimAnswer.TheVariants.{Bad, NoMemory as OutOfMemory};
+ghost use Rattle.data_sources.specs.declared.answer.ClaimAnswer.TheVariants.{NoMemory as OutOfMemory, TooManyClaims};
+ghost use Rattle.data_sources.specs.Answers.{answer_of};
 
+use claim_sheet::{Stop, TooMany};
 use size_core::{BadFile, NoMemory};
 use thiserror::Error;
 
@@ -28,10 +30,21 @@ impl From<NoMemory> for ClaimAnswer {
     }
 }
 
-impl From<BadFile> for ClaimAnswer {
-    ghost from_gives = { λ bad e. e ≡ Bad bad };
+impl From<TooMany> for ClaimAnswer {
+    ghost from_gives = { λ _ e. e ≡ TooManyClaims };
 
-    fn from(bad: BadFile) -> ClaimAnswer {
-        ClaimAnswer::Bad(bad)
+    fn from(_: TooMany) -> ClaimAnswer {
+        ClaimAnswer::TooManyClaims
+    }
+}
+
+impl From<Stop> for ClaimAnswer {
+    ghost from_gives = { λ stop e. e ≡ answer_of stop };
+
+    fn from(stop: Stop) -> ClaimAnswer {
+        match stop {
+            Stop::Bad(bad) => ClaimAnswer::Bad(bad),
+            Stop::NoMemory => ClaimAnswer::NoMemory,
+        }
     }
 }

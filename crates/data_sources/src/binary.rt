@@ -1,17 +1,34 @@
 //! A file whose format is known.
 
-ghost use Rattle.std.specs.Prelude.{◌≡◌, ◌^◌, ◌<◌, ◌||◌, nat_eq, length};
-ghost use Rattle.size_core.specs.Checks.{Gives, first_of};
-ghost use Rattle.data_sources.specs.Kind.{begins_with, is_archive, is_elf, is_universal, kind_checks, opened};
-ghost use Rattle.data_sources.specs.Opened.{bytes_of};
+ghost use Rattle.std.specs.Prelude.{◌≡◌, ◌^◌, ◌<◌, ◌||◌, nat_eq, length, IfOk};
+ghost use Rattle.data_sources.specs.Groups.{bytes_of, groups_of};
+ghost use Rattle.data_sources.specs.Kind.{begins_with, is_archive, is_elf, is_macho, is_universal, is_wasm};
+ghost use Rattle.data_sources.specs.Opened.{opened};
 
 use elf_file::ElfFile;
+use macho_file::MachoFile;
 use size_core::{BadFile, Fault};
+use wasm_file::WasmFile;
 
 /// A file whose format is known, and whose tables met their checks.
 #[derive(Drop)]
 pub enum Binary<'a> {
     Elf(ElfFile<'a>),
+    Macho(MachoFile<'a>),
+    Wasm(WasmFile<'a>),
+}
+
+impl<'a> Binary<'a> {
+    /// The whole file.
+    pub fn bytes(&self) -> &'a [u8]
+        ensures { result.now ≡ bytes_of self.now }
+    {
+        match self {
+            Binary::Elf(file) => file.bytes(),
+            Binary::Macho(file) => file.bytes(),
+            Binary::Wasm(file) => file.bytes(),
+        }
+    }
 }
 
 fn is_archive(file: &[u8]) -> bool
@@ -32,30 +49,41 @@ fn is_elf(file: &[u8]) -> bool
     file.starts_with(b"\x7fELF")
 }
 
-// The format is one that is read.
-#[tactic(auto, unfolding(crate::specs::Kind::kind_checks))]
-fn kind(file: &[u8]) -> Result<(), BadFile>
-    ensures { result ≡ first_of (kind_checks file.now) }
+fn is_macho(file: &[u8]) -> bool
+    ensures { result ≡ is_macho file.now }
+{
+    file.starts_with(&[0xce, 0xfa, 0xed, 0xfe])
+        || file.starts_with(&[0xcf, 0xfa, 0xed, 0xfe])
+        || file.starts_with(&[0xfe, 0xed, 0xfa, 0xce])
+        || file.starts_with(&[0xfe, 0xed, 0xfa, 0xcf])
+}
+
+fn is_wasm(file: &[u8]) -> bool
+    ensures { result ≡ is_wasm file.now }
+{
+    file.starts_with(b"\0asm")
+}
+
+/// Opens a file by its first bytes. Archive, Universal and UnknownFormat stand at offset 0; other faults are
+/// those of the format.
+#[tactic(auto, unfolding(crate::specs::Opened::opened))]
+pub fn open_binary<'a>(file: &'a [u8]) -> Result<Binary<'a>, BadFile>
+    requires { length file.now < 2 ^ 32 }
+    ensures opened { result ≡ opened file.now }
+    ensures bytes { IfOk result (λ binary. bytes_of binary ≡ file.now) }
 {
     let fault = if is_archive(file) {
         Fault::Archive
     } else if is_universal(file) {
         Fault::Universal
     } else if is_elf(file) {
-        return Ok(());
+        return Ok(Binary::Elf(ElfFile::parse(file)?));
+    } else if is_macho(file) {
+        return Ok(Binary::Macho(MachoFile::parse(file)?));
+    } else if is_wasm(file) {
+        return Ok(Binary::Wasm(WasmFile::parse(file)?));
     } else {
         Fault::UnknownFormat
     };
     Err(BadFile { fault, offset: 0 })
-}
-
-/// Opens a file by its first bytes. Archive, Universal and UnknownFormat stand at offset 0; other faults are
-/// those of the format.
-#[tactic(auto, using(size_core::proofs::FirstFault::first_of_append))]
-pub fn open_binary<'a>(file: &'a [u8]) -> Result<Binary<'a>, BadFile>
-    requires { length file.now < 2 ^ 32 }
-    ensures { Gives bytes_of result (opened file.now) }
-{
-    kind(file)?;
-    Ok(Binary::Elf(ElfFile::parse(file)?))
 }

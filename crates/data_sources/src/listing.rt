@@ -1,144 +1,116 @@
 //! The claims of a data source.
 
-ghost use Rattle.std.specs.Prelude.{◌≡◌, ◌+◌, ◌<◌, ◌≤◌, [], length, Ok, Err, IfOk, OnOk, IsErrOf, IsOkAnd};
-ghost use Rattle.size_core.specs.declared.fault.BadFile.{BadFile as BadFileSpec};
-ghost use Rattle.data_sources.specs.Claims.{behind, segments_claims};
-ghost use Rattle.data_sources.specs.Sources.{claims_of, symbols_source};
-ghost use Rattle.data_sources.specs.SymbolClaims.{symbols_claims};
-ghost use Rattle.data_sources.specs.Made.{AreNumbered, KeepsLabels, Makes, texts};
-ghost use Rattle.data_sources.specs.Opened.{bytes_of};
+ghost use Rattle.std.specs.Prelude.{◌≡◌, ◌<◌, ◌≤◌, length, Ok, Err, IfOk, OnOk, IsErrOf, IsOkAnd};
+ghost use Rattle.size_core.specs.declared.fault.BadFile.{BadFile};
+ghost use Rattle.claim_sheet.specs.Made.{AreNumbered, AreUsed, KeepsLabels, texts};
+ghost use Rattle.claim_sheet.specs.Sheets.{adding, adding_read};
+ghost use Rattle.data_sources.specs.Groups.{groups_of};
+ghost use Rattle.data_sources.specs.Sources.{behind, claims_of, records_of, segments_claims, with_tail};
 
 use crate::answer::ClaimAnswer;
 use crate::binary::Binary;
-use crate::headers::claim_headers;
-use crate::labels::Wrap;
-use crate::sections::claim_sections;
-use crate::segments::{claim_loads, claim_whole};
-use crate::symbols::{check_all_symbols, claim_all_symbols};
-use elf_file::ElfFile;
-use size_core::{BadFile, Claim, Fault, LabelPool, Source};
+use crate::groups::{
+    add_headers, add_lines, add_link_edit, add_loads, add_sections, add_segments, add_symbols,
+    add_units,
+};
+use crate::whole::add_whole;
+use claim_sheet::{ClaimSheet, Stop, Wrap};
+use size_core::{Claim, LabelPool, NoMemory, Source};
 use std::alloc::Global;
 
-// Makes the claims of the loads, and then of the headers.
-#[tactic(auto, unfolding(crate::specs::Claims::segments_claims))]
-fn claim_segments(
+// Adds the claims that `segments` shows, and then of the headers.
+#[tactic(auto, using(claim_sheet::proofs::SheetLemmas::adding_more), unfolding(crate::specs::Sources::segments_claims))]
+fn add_segments_and_headers(
     alloc: Global,
     binary: &Binary<'_>,
-    pool: &mut LabelPool,
-    claims: &mut Vec<Claim>,
-    limit: u64,
-) -> Result<(), ClaimAnswer>
-    requires numbered { AreNumbered pool.old claims.old.items }
-    requires few { length claims.old.items ≤ limit }
-    ensures made { OnOk result (Makes limit pool.old pool.new claims.old.items claims.new.items (segments_claims (bytes_of binary.now))) }
-    ensures kept { KeepsLabels pool.old pool.new }
-    ensures many { IsErrOf result ClaimAnswer.TooManyClaims → limit < length claims.old.items + length (segments_claims (bytes_of binary.now)) }
-    ensures sound { (bad : BadFileSpec) → IsErrOf result (ClaimAnswer.Bad bad) → ⊥ }
+    sheet: &mut ClaimSheet,
+) -> Result<(), NoMemory>
+    ensures made { OnOk result (sheet.new ≡ adding sheet.old (segments_claims (groups_of binary.now))) }
+    ensures kept { sheet.new.pool ≡ sheet.old.pool }
 {
-    let Binary::Elf(file) = binary;
-    claim_loads(alloc, Wrap::Plain, binary, pool, claims, limit)?;
-    claim_headers(file, pool, claims, limit)
+    add_segments(alloc, binary, sheet)?;
+    add_headers(binary, sheet)
 }
 
-// Makes the claims of the sections, of the headers, and of the loads in brackets.
-#[tactic(auto, unfolding(crate::specs::Claims::behind))]
-fn claim_behind(
+// Adds the claims of the sections, of the parts for the link editor and the headers, and of the loads in brackets.
+#[tactic(auto, using(claim_sheet::proofs::SheetLemmas::adding_more), unfolding(crate::specs::Sources::behind))]
+fn add_behind(
     alloc: Global,
+    binary: &Binary<'_>,
     wrap: Wrap,
-    binary: &Binary<'_>,
-    pool: &mut LabelPool,
-    claims: &mut Vec<Claim>,
-    limit: u64,
-) -> Result<(), ClaimAnswer>
-    requires numbered { AreNumbered pool.old claims.old.items }
-    requires few { length claims.old.items ≤ limit }
-    ensures made { OnOk result (Makes limit pool.old pool.new claims.old.items claims.new.items (behind wrap (bytes_of binary.now))) }
-    ensures kept { KeepsLabels pool.old pool.new }
-    ensures many { IsErrOf result ClaimAnswer.TooManyClaims → limit < length claims.old.items + length (behind wrap (bytes_of binary.now)) }
-    ensures sound { (bad : BadFileSpec) → IsErrOf result (ClaimAnswer.Bad bad) → ⊥ }
+    sheet: &mut ClaimSheet,
+) -> Result<(), NoMemory>
+    ensures made { OnOk result (sheet.new ≡ adding sheet.old (behind wrap (groups_of binary.now))) }
+    ensures kept { sheet.new.pool ≡ sheet.old.pool }
 {
-    let Binary::Elf(file) = binary;
-    claim_sections(alloc, wrap, file, pool, claims, limit)?;
-    claim_headers(file, pool, claims, limit)?;
-    claim_loads(alloc, Wrap::Brackets, binary, pool, claims, limit)
+    add_sections(alloc, binary, wrap, sheet)?;
+    add_link_edit(binary, sheet)?;
+    add_headers(binary, sheet)?;
+    add_loads(alloc, binary, Wrap::Brackets, sheet)
 }
 
-// Makes the claims of all symbols. Where there are too many of them, the rest is looked through for a fault.
-fn claim_or_check(
-    file: &ElfFile<'_>,
-    pool: &mut LabelPool,
-    claims: &mut Vec<Claim>,
-    limit: u64,
-) -> Result<(), ClaimAnswer>
-    requires numbered { AreNumbered pool.old claims.old.items }
-    requires few { length claims.old.items ≤ limit }
-    ensures made { OnOk result (IsOkAnd (symbols_claims file.now) (Makes limit pool.old pool.new claims.old.items claims.new.items)) }
-    ensures kept { KeepsLabels pool.old pool.new }
-    ensures many { IsErrOf result ClaimAnswer.TooManyClaims → IsOkAnd (symbols_claims file.now) (λ made. limit < length claims.old.items + length made) }
-    ensures bad { (bad : BadFileSpec) → IsErrOf result (ClaimAnswer.Bad bad) → symbols_claims file.now ≡ Err bad }
+// Adds the claims of the records that a data source shows before all else, or tells their first fault.
+fn add_records(
+    alloc: Global,
+    binary: &Binary<'_>,
+    source: Source,
+    sheet: &mut ClaimSheet,
+) -> Result<(), Stop>
+    ensures made { OnOk result (adding_read sheet.old (records_of source (groups_of binary.now)) ≡ Ok sheet.new) }
+    ensures bad { (bad : BadFile) → IsErrOf result (Stop.Bad bad) → records_of source (groups_of binary.now) ≡ Err bad }
+    ensures kept { sheet.new.pool ≡ sheet.old.pool }
 {
-    match claim_all_symbols(file, pool, claims, limit) {
-        Err(ClaimAnswer::TooManyClaims) => {
-            check_all_symbols(file)?;
-            Err(ClaimAnswer::TooManyClaims)
-        }
-        answer => answer,
+    match source {
+        Source::CompileUnits => add_units(alloc, binary, sheet),
+        Source::Inlines => add_lines(alloc, binary, sheet),
+        _ => add_symbols(alloc, binary, sheet),
     }
 }
 
-// Makes the claims of the symbols, and behind them those of the sections, the headers and the loads.
-#[tactic(auto, unfolding(crate::specs::Sources::symbols_source, crate::specs::Read::joined))]
-fn claim_symbols(
+// Adds the claims of the records, and behind them those of the sections, the headers and the loads.
+#[tactic(auto, using(claim_sheet::proofs::LoopLemmas::joined_front, claim_sheet::proofs::LoopLemmas::joined_claims), unfolding(crate::specs::Sources::with_tail))]
+fn add_with_tail(
     alloc: Global,
     binary: &Binary<'_>,
-    pool: &mut LabelPool,
-    claims: &mut Vec<Claim>,
-    limit: u64,
-) -> Result<(), ClaimAnswer>
-    requires numbered { AreNumbered pool.old claims.old.items }
-    requires few { length claims.old.items ≤ limit }
-    ensures made { OnOk result (IsOkAnd (symbols_source (bytes_of binary.now)) (Makes limit pool.old pool.new claims.old.items claims.new.items)) }
-    ensures kept { KeepsLabels pool.old pool.new }
-    ensures many { IsErrOf result ClaimAnswer.TooManyClaims → IsOkAnd (symbols_source (bytes_of binary.now)) (λ made. limit < length claims.old.items + length made) }
-    ensures bad { (bad : BadFileSpec) → IsErrOf result (ClaimAnswer.Bad bad) → symbols_source (bytes_of binary.now) ≡ Err bad }
+    source: Source,
+    sheet: &mut ClaimSheet,
+) -> Result<(), Stop>
+    ensures made { OnOk result (adding_read sheet.old (with_tail (records_of source (groups_of binary.now)) (groups_of binary.now)) ≡ Ok sheet.new) }
+    ensures bad { (bad : BadFile) → IsErrOf result (Stop.Bad bad) → with_tail (records_of source (groups_of binary.now)) (groups_of binary.now) ≡ Err bad }
+    ensures kept { sheet.new.pool ≡ sheet.old.pool }
 {
-    let Binary::Elf(file) = binary;
-    claim_or_check(file, pool, claims, limit)?;
-    claim_behind(alloc, Wrap::Section, binary, pool, claims, limit)
+    add_records(alloc, binary, source, sheet)?;
+    add_behind(alloc, binary, Wrap::Section, sheet)?;
+    Ok(())
 }
 
-// Makes the claims of a data source, or tells its first fault.
-fn claim_source(
+// Adds the claims of a data source, or tells its first fault.
+fn add_source(
     alloc: Global,
     binary: &Binary<'_>,
     source: Source,
     name: &[u8],
-    pool: &mut LabelPool,
-    claims: &mut Vec<Claim>,
-    limit: u64,
-) -> Result<(), ClaimAnswer>
-    requires numbered { AreNumbered pool.old claims.old.items }
-    requires empty { claims.old.items ≡ [] }
-    ensures made { OnOk result (IsOkAnd (claims_of source name.now (bytes_of binary.now)) (Makes limit pool.old pool.new claims.old.items claims.new.items)) }
-    ensures kept { KeepsLabels pool.old pool.new }
-    ensures many { IsErrOf result ClaimAnswer.TooManyClaims → IsOkAnd (claims_of source name.now (bytes_of binary.now)) (λ made. limit < length made) }
-    ensures bad { (bad : BadFileSpec) → IsErrOf result (ClaimAnswer.Bad bad) → claims_of source name.now (bytes_of binary.now) ≡ Err bad }
+    sheet: &mut ClaimSheet,
+) -> Result<(), Stop>
+    ensures made { OnOk result (adding_read sheet.old (claims_of source name.now binary.now) ≡ Ok sheet.new) }
+    ensures bad { (bad : BadFile) → IsErrOf result (Stop.Bad bad) → claims_of source name.now binary.now ≡ Err bad }
+    ensures kept { sheet.new.pool ≡ sheet.old.pool }
 {
     match source {
-        Source::Segments => claim_segments(alloc, binary, pool, claims, limit),
-        Source::Sections => claim_behind(alloc, Wrap::Plain, binary, pool, claims, limit),
-        Source::InputFiles => claim_whole(name, binary, pool, claims, limit),
-        Source::Symbols | Source::RawSymbols => claim_symbols(alloc, binary, pool, claims, limit),
-        Source::CompileUnits | Source::Inlines => Err(ClaimAnswer::Bad(BadFile {
-            fault: Fault::SourceNotForFile,
-            offset: 0,
-        })),
+        Source::Segments => add_segments_and_headers(alloc, binary, sheet)?,
+        Source::Sections => add_behind(alloc, binary, Wrap::Plain, sheet)?,
+        Source::InputFiles => add_whole(alloc, binary, name, sheet)?,
+        Source::Symbols | Source::RawSymbols | Source::CompileUnits | Source::Inlines => {
+            add_with_tail(alloc, binary, source, sheet)?
+        }
     }
+    Ok(())
 }
 
 /// The claims of a data source on a file, in order, their labels by number; `name` is that of the file. Bad is
 /// the source's first fault, and TooManyClaims comes where there is none and there are more than `limit`.
-/// Whatever the answer, the labels that the pool held keep their numbers.
+/// Whatever the answer, the labels that the pool held keep their numbers; each label that is new in it is that of a
+/// claim.
 pub fn claims(
     alloc: Global,
     binary: &Binary<'_>,
@@ -147,14 +119,17 @@ pub fn claims(
     pool: &mut LabelPool,
     limit: u64,
 ) -> Result<Vec<Claim>, ClaimAnswer>
-    ensures claims { IfOk result (λ v. claims_of source name.now (bytes_of binary.now) ≡ Ok (texts pool.new v.items)) }
+    ensures claims { IfOk result (λ v. claims_of source name.now binary.now ≡ Ok (texts pool.new v.items)) }
     ensures numbered { IfOk result (λ v. AreNumbered pool.new v.items) }
+    ensures used { IfOk result (λ v. AreUsed (length pool.old) pool.new v.items) }
     ensures few { IfOk result (λ v. length v.items ≤ limit) }
-    ensures many { IsErrOf result ClaimAnswer.TooManyClaims → IsOkAnd (claims_of source name.now (bytes_of binary.now)) (λ made. limit < length made) }
-    ensures bad { (bad : BadFileSpec) → IsErrOf result (ClaimAnswer.Bad bad) → claims_of source name.now (bytes_of binary.now) ≡ Err bad }
+    ensures many { IsErrOf result ClaimAnswer.TooManyClaims → IsOkAnd (claims_of source name.now binary.now) (λ made. limit < length made) }
+    ensures bad { (bad : BadFile) → IsErrOf result (ClaimAnswer.Bad bad) → claims_of source name.now binary.now ≡ Err bad }
     ensures kept { KeepsLabels pool.old pool.new }
 {
-    let mut claims = Vec::new(alloc);
-    claim_source(alloc, binary, source, name, pool, &mut claims, limit)?;
-    Ok(claims)
+    let mut sheet = ClaimSheet::begin(alloc, pool, limit);
+    let answer = add_source(alloc, binary, source, name, &mut sheet);
+    let made = sheet.finish(pool);
+    answer?;
+    Ok(made?)
 }

@@ -1,105 +1,78 @@
 //! The loads of a file.
 
-ghost use Rattle.std.specs.Prelude.{◌≡◌, ◌<◌, IfSome};
+ghost use Rattle.std.specs.Prelude.{◌≡◌, ◌<◌, ◌++◌, All, IfOk, IfSome, OnOk};
+ghost use Rattle.std.specs.Option.{option_to_list};
+ghost use Rattle.size_core.specs.Gather.{gather};
 ghost use Rattle.size_model.specs.Loads.{IsLoad};
-ghost use Rattle.elf_file.specs.Tables.{section_count, segment_count, is_null};
-ghost use Rattle.data_sources.specs.Loads.{has_addresses, has_flag, is_relocatable, section_load, segment_load, slot_count, slot_load};
-ghost use Rattle.data_sources.specs.Opened.{bytes_of};
+ghost use Rattle.elf_claims.specs.Loads.{slot_count, slot_load};
+ghost use Rattle.data_sources.specs.Groups.{groups_of};
+ghost use Rattle.data_sources.specs.Loads.{load_in, loads_of, slots_of};
 
 use crate::binary::Binary;
-use crate::constants::{ET_REL, SHF_TLS};
-use elf_file::{ElfFile, PT_LOAD, SHF_ALLOC, SHT_NOBITS, SHT_NULL};
-use size_core::Load;
+use elf_file::ElfFile;
+use size_core::{Load, NoMemory};
+use std::alloc::Global;
 
-/// Whether the file is an ELF file of type ET_REL, in which each section with addresses is a space of its own.
-#[tactic(auto, unfolding(elf_file::specs::Tables::header_of))]
-pub fn is_relocatable(file: &ElfFile<'_>) -> bool
-    ensures { result ≡ is_relocatable file.now }
-{
-    file.header().kind == ET_REL
-}
-
-/// Whether a section stands at addresses.
-#[tactic(auto, unfolding(crate::specs::Loads::has_addresses))]
-pub fn has_addresses(file: &ElfFile<'_>, i: u32) -> bool
-    requires { i < section_count file.now }
-    ensures { result ≡ has_addresses file.now i }
-{
-    let section = file.section(i);
-    let is_null = i == 0 || section.kind == SHT_NULL;
-    let is_empty_tls = section.kind == SHT_NOBITS && section.flags & SHF_TLS != 0;
-    !is_null && section.flags & SHF_ALLOC != 0 && !is_empty_tls
-}
-
-#[tactic(auto, unfolding(crate::specs::Loads::section_load))]
-fn section_load(file: &ElfFile<'_>, i: u32) -> Option<Load>
-    requires { i < section_count file.now }
-    ensures load { result ≡ section_load file.now i }
-    ensures fits { IfSome result IsLoad }
-{
-    if !has_addresses(file, i) {
-        return None;
-    }
-    let section = file.section(i);
-    let filesz = if section.kind == SHT_NOBITS {
-        0
-    } else {
-        section.size
-    };
-    Some(Load {
-        space: i,
-        vaddr: 0,
-        memsz: section.size,
-        offset: section.offset,
-        filesz,
-    })
-}
-
-#[tactic(auto, unfolding(crate::specs::Loads::segment_load))]
-fn segment_load(file: &ElfFile<'_>, i: u32) -> Option<Load>
-    requires { i < segment_count file.now }
-    ensures load { result ≡ segment_load file.now i }
-    ensures fits { IfSome result IsLoad }
-{
-    let segment = file.segment(i);
-    if segment.kind != PT_LOAD {
-        return None;
-    }
-    Some(Load {
-        space: 0,
-        vaddr: segment.vaddr,
-        memsz: segment.memsz,
-        offset: segment.offset,
-        filesz: segment.filesz,
-    })
-}
-
-/// How many slots there are in which a load may stand: the program headers of an ELF file, or the sections of
-/// a relocatable one.
-#[tactic(auto, unfolding(crate::specs::Loads::slot_count, elf_file::specs::Tables::header_of))]
+/// How many slots there are in which a load may stand: the program headers of an ELF file, or the sections of a
+/// relocatable one, and the segments of a Mach-O file. A WebAssembly module has none.
 pub fn load_slots(binary: &Binary<'_>) -> u32
-    ensures { result ≡ slot_count (bytes_of binary.now) }
+    ensures { result ≡ slots_of binary.now }
 {
-    let Binary::Elf(file) = binary;
-    let header = file.header();
-    if header.kind == ET_REL {
-        header.sections
-    } else {
-        header.segments
+    match binary {
+        Binary::Elf(file) => elf_claims::load_slots(file),
+        Binary::Macho(file) => macho_claims::load_slots(file),
+        Binary::Wasm(_) => 0,
     }
 }
 
 /// The load in a slot, or None where none stands there.
-#[tactic(auto, unfolding(crate::specs::Loads::slot_count, crate::specs::Loads::slot_load))]
 pub fn load_at(binary: &Binary<'_>, i: u32) -> Option<Load>
-    requires { i < slot_count (bytes_of binary.now) }
-    ensures load { result ≡ slot_load (bytes_of binary.now) i }
+    requires { i < slots_of binary.now }
+    ensures load { result ≡ load_in binary.now i }
     ensures fits { IfSome result IsLoad }
 {
-    let Binary::Elf(file) = binary;
-    if is_relocatable(file) {
-        section_load(file, i)
-    } else {
-        segment_load(file, i)
+    match binary {
+        Binary::Elf(file) => elf_claims::load_at(file, i),
+        Binary::Macho(file) => macho_claims::load_at(file, i),
+        Binary::Wasm(_) => None,
+    }
+}
+
+// Adds a load, where there is one.
+fn push_load(loads: &mut Vec<Load>, load: Option<Load>) -> Result<(), NoMemory>
+    requires fits { IfSome load IsLoad }
+    requires all { All IsLoad loads.old.items }
+    ensures pushed { OnOk result (loads.new.items ≡ loads.old.items ++ option_to_list load) }
+    ensures all { OnOk result (All IsLoad loads.new.items) }
+{
+    if let Some(load) = load {
+        loads.push(load)?;
+    }
+    Ok(())
+}
+
+// The loads of an ELF file, in the order of the slots.
+#[tactic(auto, using(size_core::proofs::Gathered::gather_next, size_core::proofs::Gathered::gather_end))]
+fn elf_loads(alloc: Global, file: &ElfFile<'_>) -> Result<Vec<Load>, NoMemory>
+    ensures are { IfOk result (λ v. v.items ≡ gather (λ i. option_to_list (slot_load file.now i)) 0 (slot_count file.now)) }
+    ensures fit { IfOk result (λ v. All IsLoad v.items) }
+{
+    let mut loads = Vec::new(alloc);
+    for i in 0..elf_claims::load_slots(file) {
+        push_load(&mut loads, elf_claims::load_at(file, i))?;
+    }
+    Ok(loads)
+}
+
+/// All loads, in the order of the slots. A file's tables are walked once.
+#[tactic(auto, unfolding(crate::specs::Loads::loads_of, macho_claims::specs::Loads::loads_of, size_core::specs::Gather::gather))]
+pub fn loads_of(alloc: Global, binary: &Binary<'_>) -> Result<Vec<Load>, NoMemory>
+    ensures are { IfOk result (λ v. v.items ≡ loads_of binary.now) }
+    ensures fit { IfOk result (λ v. All IsLoad v.items) }
+{
+    match binary {
+        Binary::Elf(file) => elf_loads(alloc, file),
+        Binary::Macho(file) => macho_claims::loads_of(alloc, file),
+        Binary::Wasm(_) => Ok(Vec::new(alloc)),
     }
 }

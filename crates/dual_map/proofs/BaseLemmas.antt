@@ -12,8 +12,9 @@ use Rattle.size_model.specs.Labels.{first_label, offset_label, address_label, of
 use Rattle.size_model.specs.Claims.{covers_offset, covers_address}
 use Rattle.size_model.specs.Loads.{is_mapped, space_of, address_of, mapped_count, IsLoad}
 use Rattle.range_map.specs.Ranges.{EndsBy, IsRange}
-use Rattle.range_map.proofs.Counts.{size_of, count-same, count-tidy, count_le}
-use Rattle.range_map.proofs.Pieces.{IsCut-unique, StartsFrom}
+use Rattle.size_model.proofs.Counts.{count-same}
+use Rattle.range_map.proofs.Counts.{size_of, count-tidy, count_le}
+use Rattle.size_model.proofs.Cuts.{IsCut-unique, StartsFrom}
 use Rattle.range_map.proofs.Places.{length-laid}
 use Rattle.range_map.proofs.Segments.{EndsBy-laid}
 use Rattle.dual_map.specs.declared.way.Stretch.{Stretch}

@@ -7,7 +7,7 @@ use Rattle.std.specs.List.{All, list_any}
 use Rattle.std.specs.List.Sorted.{IsPartitionPoint}
 use Rattle.size_model.specs.declared.piece.Piece.{Piece}
 use Rattle.size_model.specs.Cut.{has, label_in}
-use Rattle.range_map.proofs.Pieces.{has_cases, label_past_head, label_before_head}
+use Rattle.size_model.proofs.Cuts.{has_cases, label_past_head, label_before_head}
 use Rattle.dual_map.specs.declared.way.Stretch.{Stretch}
 use Rattle.dual_map.specs.Way.{has_target, no_stretch, Carries}
 use Rattle.dual_map.specs.Index.{source_end, clipped, kept, carried, IsIndex}

@@ -21,7 +21,7 @@ header_checks file =
 -- there are, and the table lies in the file
 unfoldable pub section_table_checks : List ℕ → List Check
 section_table_checks file =
-    demand (shoff file == 0 || shentsize file == section_len (encoding_of file)) BadHeader (shentsize_place file)
+    demand (shoff file == 0 || shentsize file == section_len (encoding_of file)) BadHeader (shentsize_place (encoding_of file))
     ∷ demand (shoff file == 0 || not (shnum file == 0) || nat_le (section_place file 1) (length file)) TablePastEnd (shoff file)
     ∷ demand (shoff file == 0 || nat_le (section_place file (section_count file)) (length file)) TablePastEnd (shoff file)
     ∷ []
@@ -29,14 +29,14 @@ section_table_checks file =
 -- where there are segments, e_phentsize is right, and their table lies in the file
 unfoldable pub segment_table_checks : List ℕ → List Check
 segment_table_checks file =
-    demand (segment_count file == 0 || phentsize file == segment_len (encoding_of file)) BadHeader (phentsize_place file)
+    demand (segment_count file == 0 || phentsize file == segment_len (encoding_of file)) BadHeader (phentsize_place (encoding_of file))
     ∷ demand (segment_count file == 0 || nat_le (segment_place file (segment_count file)) (length file)) TablePastEnd (phoff file)
     ∷ []
 
 -- the section that holds the names is there
 unfoldable pub name_table_checks : List ℕ → List Check
 name_table_checks file =
-    demand (name_index file == 0 || nat_lt (name_index file) (section_count file)) BadIndex (shstrndx_place file)
+    demand (name_index file == 0 || nat_lt (name_index file) (section_count file)) BadIndex (shstrndx_place (encoding_of file))
     ∷ []
 
 -- the bytes of section i lie in the file, and its addresses below 2^64

@@ -61,11 +61,11 @@ abbrev pub shstrndx : List ℕ → ℕ
 shstrndx file = half file 0 50 62
 
 -- where the fields stand that may have a value that isn't read
-abbrev pub phentsize_place : List ℕ → ℕ
-phentsize_place file = pick (encoding_of file) 42 54
+abbrev pub phentsize_place : Encoding → ℕ
+phentsize_place e = pick e 42 54
 
-abbrev pub shentsize_place : List ℕ → ℕ
-shentsize_place file = pick (encoding_of file) 46 58
+abbrev pub shentsize_place : Encoding → ℕ
+shentsize_place e = pick e 46 58
 
-abbrev pub shstrndx_place : List ℕ → ℕ
-shstrndx_place file = pick (encoding_of file) 50 62
+abbrev pub shstrndx_place : Encoding → ℕ
+shstrndx_place e = pick e 50 62

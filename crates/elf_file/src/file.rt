@@ -73,20 +73,6 @@ impl<'a> ElfFile<'a> {
         })
     }
 
-    /// The same file.
-    pub fn fork(&self) -> ElfFile<'a>
-        ensures { result ≡ self.now }
-    {
-        ElfFile {
-            file: self.file,
-            encoding: self.encoding,
-            sections: self.sections,
-            segments: self.segments,
-            name_index: self.name_index,
-            names: self.names,
-        }
-    }
-
     /// The file's class and byte order.
     pub fn encoding(&self) -> Encoding
         ensures { result ≡ encoding_of self.now }
@@ -119,8 +105,8 @@ impl<'a> ElfFile<'a> {
             order: encoding.order,
             kind: encoding.half(self.file, 0, 16, 16),
             machine: encoding.half(self.file, 0, 18, 18),
-            phoff: encoding.word(self.file, 0, 28, 32),
-            shoff: encoding.word(self.file, 0, 32, 40),
+            phoff: encoding.phoff(self.file),
+            shoff: encoding.shoff(self.file),
             segments: self.segments,
             sections: self.sections,
         }

@@ -6,13 +6,18 @@ mod constants;
 mod fields;
 mod file;
 mod header;
+mod layout;
 mod names;
 mod section;
 mod sections;
 mod segment;
 mod segments;
 
-pub use constants::{PT_LOAD, SHF_ALLOC, SHT_NOBITS, SHT_NULL};
+pub use constants::{
+    EM_ARM, ET_REL, PF_R, PF_W, PF_X, PN_XNUM, PT_LOAD, SHF_ALLOC, SHF_COMPRESSED, SHF_EXECINSTR,
+    SHF_TLS, SHF_WRITE, SHN_LORESERVE, SHN_XINDEX, SHT_NOBITS, SHT_NULL, header_numbers,
+    section_numbers, segment_numbers,
+};
 pub use fields::Encoding;
 pub use file::ElfFile;
 pub use header::ElfHeader;

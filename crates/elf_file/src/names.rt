@@ -22,7 +22,7 @@ fn name_index(file: &[u8], encoding: Encoding, sections: u32) -> u32
     if sections == 0 {
         return 0;
     }
-    let index = encoding.half(file, 0, 50, 62);
+    let index = encoding.shstrndx(file);
     if index == SHN_XINDEX {
         section_of_table(file, encoding, sections, 0).link
     } else {
@@ -41,7 +41,7 @@ pub fn name_table(file: &[u8], encoding: Encoding, sections: u32) -> Result<u32,
     if index != 0 && index >= sections {
         return Err(BadFile {
             fault: Fault::BadIndex,
-            offset: encoding.pick(50, 62),
+            offset: encoding.shstrndx_place(),
         });
     }
     Ok(index)

@@ -43,7 +43,7 @@ pub fn encoding(file: &[u8]) -> Result<Encoding, BadFile>
         }),
     };
     let encoding = Encoding { wide, order };
-    if (file.len() as u64) < encoding.pick(52, 64) {
+    if (file.len() as u64) < encoding.header_len() {
         return Err(truncated);
     }
     Ok(encoding)
@@ -56,15 +56,15 @@ pub fn section_table(file: &[u8], encoding: Encoding) -> Result<u32, BadFile>
     ensures value { result ≡ checked (section_table_checks file.now) (section_count file.now) }
     ensures known { IfOk result (λ n. HasSections file.now encoding n) }
 {
-    let table = encoding.word(file, 0, 32, 40);
+    let table = encoding.shoff(file);
     if table == 0 {
         return Ok(0);
     }
-    let len = encoding.pick(40, 64);
-    if encoding.half(file, 0, 46, 58) as u64 != len {
+    let len = encoding.section_len();
+    if u64::from(encoding.shentsize(file)) != len {
         return Err(BadFile {
             fault: Fault::BadHeader,
-            offset: encoding.pick(46, 58),
+            offset: encoding.shentsize_place(),
         });
     }
     let past_end = BadFile {
@@ -76,7 +76,7 @@ pub fn section_table(file: &[u8], encoding: Encoding) -> Result<u32, BadFile>
         return Err(past_end);
     }
     let room = size - table;
-    let mut count = encoding.half(file, 0, 48, 60) as u64;
+    let mut count = u64::from(encoding.shnum(file));
     if count == 0 {
         if room < len {
             return Err(past_end);
@@ -95,7 +95,7 @@ pub fn section_place(file: &[u8], encoding: Encoding, i: u32) -> u64
     requires within { HasSection file.now i }
     ensures { result ≡ section_place file.now i }
 {
-    encoding.word(file, 0, 32, 40) + i as u64 * encoding.pick(40, 64)
+    encoding.shoff(file) + i as u64 * encoding.section_len()
 }
 
 /// The numbers of a section whose header lies in the file.

@@ -17,7 +17,7 @@ fn segment_count(file: &[u8], encoding: Encoding, sections: u32) -> u32
     requires { HasSections file.now encoding sections }
     ensures { result ≡ segment_count file.now }
 {
-    let count = encoding.half(file, 0, 44, 56);
+    let count = encoding.phnum(file);
     if count == PN_XNUM && sections > 0 {
         section_of_table(file, encoding, sections, 0).info
     } else {
@@ -36,14 +36,14 @@ pub fn segment_table(file: &[u8], encoding: Encoding, sections: u32) -> Result<u
     if count == 0 {
         return Ok(0);
     }
-    let len = encoding.pick(32, 56);
-    if encoding.half(file, 0, 42, 54) as u64 != len {
+    let len = encoding.segment_len();
+    if u64::from(encoding.phentsize(file)) != len {
         return Err(BadFile {
             fault: Fault::BadHeader,
-            offset: encoding.pick(42, 54),
+            offset: encoding.phentsize_place(),
         });
     }
-    let table = encoding.word(file, 0, 28, 32);
+    let table = encoding.phoff(file);
     let size = file.len() as u64;
     if table > size || (size - table) / len < count as u64 {
         return Err(BadFile {
@@ -62,7 +62,7 @@ pub fn segment_of_table(file: &[u8], encoding: Encoding, segments: u32, i: u32) 
     ensures value { result ≡ segment_at file.now i }
     ensures within { HasSegment file.now i }
 {
-    let place = encoding.word(file, 0, 28, 32) + i as u64 * encoding.pick(32, 56);
+    let place = encoding.phoff(file) + i as u64 * encoding.segment_len();
     Segment {
         place,
         kind: encoding.four(file, place, 0, 0),

@@ -1,6 +1,6 @@
 ghost use Rattle.std.specs.Prelude.{◌≡◌, ◌+◌, ◌≤◌, ◌<◌, ◌^◌, length};
 
-use crate::{ElfFile, SHF_ALLOC};
+use crate::ElfFile;
 use byte_cursor::Order;
 use size_core::{BadFile, Fault};
 use std::test::Fail;
@@ -43,6 +43,8 @@ fn first_faults(rt: HostRuntime) {
     // A load's address, physical address, size in the file and size in memory: up to 2^64, and a byte more.
     let last_page = b"\0\xf0\xff\xff\xff\xff\xff\xff\0\0\0\0\0\0\0\0\0\0\0\0\0\0\0\0\0\x10";
     let past_it = b"\0\xf0\xff\xff\xff\xff\xff\xff\0\0\0\0\0\0\0\0\0\0\0\0\0\0\0\0\x01\x10";
+    // A section's type, flags, address and offset: none, and a byte further than it fits.
+    let past_end = b"\0\0\0\0\0\0\0\0\0\0\0\0\0\0\0\0\0\0\0\0\x51\x01";
     // What is written over which bytes, how many of all are kept, and the fault with its offset.
     for (at, bytes, len, want) in [
         (0, b"".as_slice(), 352, None),
@@ -63,8 +65,12 @@ fn first_faults(rt: HostRuntime) {
         (32, all_ones, 352, Some((Fault::TablePastEnd, u64::MAX))),
         (62, b"\x03", 352, Some((Fault::BadIndex, 62))),
         (62, b"\0", 352, None),
+        // The number of segments stands in section 0.
+        (56, b"\xff\xff", 352, None),
         (248, b"\x50\x01", 352, None),
         (248, b"\x51\x01", 352, Some((Fault::SectionPastEnd, 224))),
+        // A header of no section may say anything.
+        (228, past_end, 352, None),
         (240, all_ones, 352, Some((Fault::RangeOverflow, 224))),
         (224, b"\x10", 352, None),
         (224, b"\x11", 352, Some((Fault::NameOutside, 224))),
@@ -93,7 +99,7 @@ fn tables_of_a_plain_file(rt: HostRuntime) {
     let text = elf.section(1);
     assert!(rt; text.name == b".text".as_slice());
     assert_eq!(rt; (text.place, text.kind), (224, 1));
-    assert_eq!(rt; text.flags, SHF_ALLOC | 4);
+    assert_eq!(rt; text.flags, 6);
     assert_eq!(rt; (text.addr, text.offset, text.size), (0x400078, 120, 16));
     assert!(rt; elf.section(0).name.is_empty());
     assert_eq!(rt; elf.section_bytes(2).len(), 17);
@@ -104,7 +110,7 @@ fn tables_of_a_plain_file(rt: HostRuntime) {
     assert_eq!(rt; (load.filesz, load.memsz), (136, 136));
     assert_eq!(rt; elf.find(b".shstrtab"), Some(2));
     assert_eq!(rt; elf.find(b""), None);
-    assert_eq!(rt; elf.fork().bytes().len(), 352);
+    assert_eq!(rt; elf.bytes().len(), 352);
 }
 
 #[test]

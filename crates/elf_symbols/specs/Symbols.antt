@@ -8,9 +8,10 @@ use Rattle.size_core.specs.Checks.{◌>>=◌, ◌>>◌, demand, bad}
 use Rattle.size_core.specs.Gather.{first_from}
 use Rattle.byte_cursor.specs.Numbers.{num, text}
 use Rattle.elf_file.specs.declared.fields.Encoding.{Encoding}
+use Rattle.elf_file.specs.declared.constants.TheConstants.{SHN_XINDEX}
 use Rattle.elf_file.specs.Layout.{encoding_of, pick, half, four, word}
 use Rattle.elf_file.specs.Tables.{section_at, section_count, section_bytes}
-use Rattle.elf_symbols.specs.declared.constants.TheConstants.{SHT_SYMTAB, SHT_DYNSYM, SHT_SYMTAB_SHNDX, SHN_XINDEX}
+use Rattle.elf_symbols.specs.declared.constants.TheConstants.{SHT_SYMTAB, SHT_DYNSYM, SHT_SYMTAB_SHNDX}
 
 -- section i is a table of symbols
 pub record IsSymbolTable (file : List ℕ) (i : ℕ) : Type 0 where

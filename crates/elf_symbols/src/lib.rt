@@ -5,7 +5,10 @@ mod constants;
 mod symbol;
 mod table;
 
-pub use constants::{SHT_DYNSYM, SHT_SYMTAB, SHT_SYMTAB_SHNDX};
+pub use constants::{
+    SHT_DYNSYM, SHT_SYMTAB, SHT_SYMTAB_SHNDX, STT_FUNC, STT_GNU_IFUNC, STT_NOTYPE, STT_OBJECT,
+    symbol_numbers, table_numbers,
+};
 pub use symbol::Symbol;
 pub use table::SymbolTable;
 

@@ -3,12 +3,11 @@
 ghost use Rattle.std.specs.Prelude.{◌≡◌, ◌+◌, ◌*◌, ◌≤◌, ◌<◌, ◌^◌, length};
 ghost use Rattle.size_core.specs.Checks.{Gives};
 ghost use Rattle.elf_file.specs.Layout.{encoding_of};
-ghost use Rattle.elf_symbols.specs.Symbols.{name_at, section_number_at, symbol_len};
+ghost use Rattle.elf_symbols.specs.Symbols.{name_at, section_number_at, shndx_at, symbol_len};
 ghost use Rattle.elf_symbols.specs.TableFacts.{HasSymbol};
 
-use crate::constants::SHN_XINDEX;
 use byte_cursor::{text_at, u32_at};
-use elf_file::Encoding;
+use elf_file::{Encoding, SHN_XINDEX};
 use size_core::{BadFile, Fault};
 
 /// A symbol (ELF gABI, Symbol Table).
@@ -62,6 +61,15 @@ pub fn name_at<'a>(
     }
 }
 
+/// `st_shndx` of the symbol at a place.
+pub fn shndx_at(file: &[u8], encoding: Encoding, place: u64) -> u16
+    requires encoding { encoding ≡ encoding_of file.now }
+    requires within { HasSymbol file.now place }
+    ensures { result ≡ shndx_at file.now place }
+{
+    encoding.half(file, place, 14, 6)
+}
+
 /// The section of symbol `k`, which stands at a place.
 #[tactic(auto, unfolding(crate::specs::Symbols::section_number_at))]
 pub fn section_number_at(
@@ -75,7 +83,7 @@ pub fn section_number_at(
     requires within { HasSymbol file.now place }
     ensures { result ≡ section_number_at file.now numbers.now place k }
 {
-    let shndx = encoding.half(file, place, 14, 6);
+    let shndx = shndx_at(file, encoding, place);
     if shndx != SHN_XINDEX {
         return Ok(shndx as u32);
     }

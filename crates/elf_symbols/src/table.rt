@@ -8,7 +8,7 @@ ghost use Rattle.elf_symbols.specs.Symbols.{IsSymbolTable, has_numbers_of, numbe
 ghost use Rattle.elf_symbols.specs.Shown.{shown};
 
 use crate::constants::SHT_SYMTAB_SHNDX;
-use crate::symbol::{Symbol, name_at, section_number_at, symbol_len};
+use crate::symbol::{Symbol, name_at, section_number_at, shndx_at, symbol_len};
 use elf_file::{ElfFile, Encoding};
 use size_core::{BadFile, Fault};
 use std::marker::Model;
@@ -121,7 +121,7 @@ impl<'a> SymbolTable<'a> {
             value: encoding.word(self.file, place, 4, 8),
             size: encoding.word(self.file, place, 8, 16),
             kind: info % 16,
-            shndx: encoding.half(self.file, place, 14, 6),
+            shndx: shndx_at(self.file, encoding, place),
             section,
         })
     }

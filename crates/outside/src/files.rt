@@ -57,6 +57,7 @@ pub trait Files {
         ensures bytes { IfOk result (λ v. IsHeld (held self.old) name.now v.items) }
 
         ensures failed { IsErrOf result FileAnswer.Failed → Rose (faults self.old) (faults self.new) }
+        ensures uncounted { ¬ IsErrOf result FileAnswer.Failed → faults self.new ≡ faults self.old }
         ensures told { IsErrOf result FileAnswer.Failed → IfSome (last_failed self.new) (λ n. n ≡ name.now) }
         ensures untold { ¬ IsErrOf result FileAnswer.Failed → last_failed self.new ≡ last_failed self.old }
 

@@ -50,10 +50,10 @@ impl<W: Write + Drop> Sink for HostSink<W> {
         ensures some { IfOk result (λ n. 0 < n) }
         ensures bound { IfOk result (λ n. n ≤ length piece.now) }
         ensures later { self.old.1 ≤ self.new.1 }
+        ensures uncounted { OnOk result (self.new.1 ≡ self.old.1) }
         ensures failed { OnErr result (Rose self.old.1 self.new.1) }
 
         ensures counted { OnErr result (self.new.1 ≡ raised self.old.1) }
-        ensures not_counted { OnOk result (self.new.1 ≡ self.old.1) }
         ensures honest { IfOk result (λ n. Appends (W.contents self.old.0) (W.contents self.new.0) (take n piece.now)) }
     {
         match self.writer.write(piece) {
@@ -117,10 +117,10 @@ impl<'r, R: rt::Files> Files for HostFiles<'r, R> {
         ensures within { IfOk result (λ v. length v.items ≤ limit) }
         ensures untold { IfOk result (λ v. IsHeld None name.now v.items) }
         ensures failed { IsErrOf result FileAnswer.Failed → Rose self.old.faults self.new.faults }
+        ensures uncounted { ¬ IsErrOf result FileAnswer.Failed → self.new.faults ≡ self.old.faults }
         ensures too_long { IsErrOf result FileAnswer.TooLong → RoseBy (limit + 1) self.old.taken self.new.taken }
 
         ensures counted { IsErrOf result FileAnswer.Failed → self.new.faults ≡ raised self.old.faults }
-        ensures not_counted { ¬ IsErrOf result FileAnswer.Failed → self.new.faults ≡ self.old.faults }
         ensures taken { IfOk result (λ v. self.new.taken ≡ raised_by (length v.items) self.old.taken) }
         ensures at_most { self.new.taken ≤ self.old.taken + (limit + 1) }
     {

@@ -1,6 +1,6 @@
 //! Files and a sink in memory, which fail at the calls that a list names.
 
-ghost use Rattle.std.specs.Prelude.{◌≡◌, ◌≢◌, ◌≤◌, ◌<◌, IfOk, OnErr, IsErrOf, Some, [], length, take};
+ghost use Rattle.std.specs.Prelude.{◌≡◌, ◌≢◌, ◌≤◌, ◌<◌, IfOk, OnOk, OnErr, IsErrOf, Some, [], length, take};
 ghost use Rattle.outside.specs.Causes.{Rose};
 ghost use Rattle.outside.specs.Grown.{Grew};
 ghost use Rattle.outside.specs.Held.{held_bytes};
@@ -81,6 +81,7 @@ impl Sink for MemSink {
         ensures bytes { IfOk result (λ n. Grew (Some self.old.written) (Some self.new.written) (take n piece.now)) }
         ensures kept { OnErr result (Some self.new.written ≡ Some self.old.written) }
         ensures later { self.old.faults ≤ self.new.faults }
+        ensures uncounted { OnOk result (self.new.faults ≡ self.old.faults) }
         ensures failed { OnErr result (Rose self.old.faults self.new.faults) }
 
         ensures answer { result ≡ write_answer self.old (length piece.now) }
@@ -190,6 +191,7 @@ impl Files for MemFiles {
         ensures within { IfOk result (λ v. length v.items ≤ limit) }
         ensures bytes { IfOk result (λ v. v.items ≡ held_bytes self.old.pairs name.now) }
         ensures failed { IsErrOf result FileAnswer.Failed → Rose self.old.faults self.new.faults }
+        ensures uncounted { ¬ IsErrOf result FileAnswer.Failed → self.new.faults ≡ self.old.faults }
         ensures told { IsErrOf result FileAnswer.Failed → self.new.last_failed ≡ name.now }
         ensures untold { ¬ IsErrOf result FileAnswer.Failed → Some self.new.last_failed ≡ Some self.old.last_failed }
         ensures too_long { IsErrOf result FileAnswer.TooLong → limit < length (held_bytes self.old.pairs name.now) }

@@ -29,6 +29,7 @@ pub trait Sink {
 
         ensures kept { OnErr result (written self.new ≡ written self.old) }
         ensures later { faults self.old ≤ faults self.new }
+        ensures uncounted { OnOk result (faults self.new ≡ faults self.old) }
         ensures failed { OnErr result (Rose (faults self.old) (faults self.new)) };
 }
 
@@ -37,6 +38,7 @@ pub fn write_whole<S: Sink>(sink: &mut S, bytes: &[u8]) -> Result<(), Failed>
     ensures whole { OnOk result (Grew (S.written sink.old) (S.written sink.new) bytes.now) }
     ensures part { OnErr result (GrewByPart (S.written sink.old) (S.written sink.new) bytes.now) }
     ensures later { S.faults sink.old ≤ S.faults sink.new }
+    ensures uncounted { OnOk result (S.faults sink.new ≡ S.faults sink.old) }
     ensures failed { OnErr result (Rose (S.faults sink.old) (S.faults sink.new)) }
 {
     let mut done = 0;
@@ -51,6 +53,7 @@ pub fn write_pieces<S: Sink>(sink: &mut S, pieces: &[&[u8]]) -> Result<(), Faile
     ensures whole { OnOk result (Grew (S.written sink.old) (S.written sink.new) (joined pieces.now)) }
     ensures part { OnErr result (GrewByPart (S.written sink.old) (S.written sink.new) (joined pieces.now)) }
     ensures later { S.faults sink.old ≤ S.faults sink.new }
+    ensures uncounted { OnOk result (S.faults sink.new ≡ S.faults sink.old) }
     ensures failed { OnErr result (Rose (S.faults sink.old) (S.faults sink.new)) }
 {
     for piece in pieces {

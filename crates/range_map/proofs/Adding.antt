@@ -5,7 +5,8 @@ use Rattle.size_model.specs.declared.piece.Piece.{Piece}
 use Rattle.size_model.specs.Cut.{end_of, label_in, IsTidy, IsLaid}
 use Rattle.range_map.specs.Ranges.{EndsBy, IsMap}
 use Rattle.range_map.specs.Emit.{Fills}
-use Rattle.range_map.proofs.Pieces.{either, has_cases, label_at_head, label_past_head, label_before_head, label_in-append, label_past, label_before, StartsFrom, StartsFrom-Precedes, EndsBy-weaker}
+use Rattle.size_model.proofs.Cuts.{has_cases, label_at_head, label_past_head, label_before_head, label_before, StartsFrom, StartsFrom-Precedes}
+use Rattle.range_map.proofs.Pieces.{either, label_in-append, label_past, EndsBy-weaker}
 
 either-none : (o : Option ℕ) → either o None ≡ o
 either-none None = refl

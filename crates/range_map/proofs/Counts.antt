@@ -7,42 +7,14 @@ use Rattle.size_model.specs.declared.piece.Piece.{Piece}
 use Rattle.size_model.specs.Count.{count_from}
 use Rattle.size_model.specs.Cut.{end_of, label_in, is_place, place_count, IsTidy}
 use Rattle.range_map.specs.Ranges.{EndsBy, KeepsPlaces}
-use Rattle.range_map.proofs.Pieces.{StartsFrom, StartsFrom-Precedes, label_at_head, label_past_head, label_before}
-use Rattle.range_map.proofs.Places.{place_cases}
+use Rattle.size_model.proofs.Counts.{count-zero, count-suc, count-same, count-append, count-none}
+use Rattle.size_model.proofs.Cuts.{label_at_head, label_past_head, StartsFrom, StartsFrom-Precedes, label_before}
+use Rattle.size_model.proofs.Places.{place_cases}
 
 -- the sizes of the pieces whose label passes
 abbrev pub size_of : (Option ℕ → Bool) → List Piece → ℕ
 size_of test [] = 0
 size_of test (p ∷ ps) = cond (test (Some p.label)) p.len 0 + size_of test ps
-
-count-zero : (f : ℕ → Bool) (a : ℕ) → count_from f a 0 ≡ 0
-unfolding count_from
-count-zero f a = refl
-
-count-suc : (f : ℕ → Bool) (a n : ℕ) → count_from f a (suc n) ≡ cond (f a) 1 0 + count_from f (a + 1) n
-unfolding count_from
-count-suc f a n = refl
-
--- tests that agree count alike
-pub count-same : (f g : ℕ → Bool) (a n : ℕ) → ((x : ℕ) → a ≤ x → x < a + n → f x ≡ g x) → count_from f a n ≡ count_from g a n
-count-same f g a zero h = count-zero f a ∙ sym (count-zero g a)
-count-same f g a (suc n) h =
-    count-suc f a n ∙ (ap (λ b. cond b 1 0 + count_from f (a + 1) n) (h a (omega arith) (omega arith)) ∙ (ap (λ k. cond (g a) 1 0 + k) (count-same f g (a + 1) n (λ x b c. h x (omega arith) (omega arith))) ∙ sym (count-suc g a n)))
-
-pub count-append : (f : ℕ → Bool) (a m n : ℕ) → count_from f a (m + n) ≡ count_from f a m + count_from f (a + m) n
-count-append f a zero n =
-    let e : 0 + n ≡ n = omega arith in
-    let k : a + 0 ≡ a = omega arith in
-    rw (e, k, count-zero) (let r : count_from f a n ≡ 0 + count_from f a n = omega arith in r)
-count-append f a (suc m) n =
-    let e : suc m + n ≡ suc (m + n) = omega arith in
-    let k : a + suc m ≡ a + 1 + m = omega arith in
-    rw (e, k) (omega (arith, count-suc f a (m + n), count-suc f a m, count-append f (a + 1) m n))
-
-pub count-none : (f : ℕ → Bool) (a n : ℕ) → ((x : ℕ) → a ≤ x → x < a + n → f x ≡ false) → count_from f a n ≡ 0
-count-none f a zero h = count-zero f a
-count-none f a (suc n) h =
-    count-suc f a n ∙ (ap (λ b. cond b 1 0 + count_from f (a + 1) n) (h a (omega arith) (omega arith)) ∙ omega (arith, count-none f (a + 1) n (λ x b c. h x (omega arith) (omega arith))))
 
 pub count-const : (f : ℕ → Bool) (b : Bool) (a n : ℕ) → ((x : ℕ) → a ≤ x → x < a + n → f x ≡ b) → count_from f a n ≡ cond b n 0
 count-const f false a n h = count-none f a n h

@@ -3,7 +3,7 @@ use Rattle.std.proofs.Common.{◌≡◌, List, [], ◌∷◌, ◌++◌, refl, sy
 use Rattle.size_model.specs.declared.piece.Piece.{Piece}
 use Rattle.size_model.specs.Cut.{label_in, IsLaid}
 use Rattle.range_map.specs.Ranges.{IsAddedTo}
-use Rattle.range_map.proofs.Pieces.{IsCut-unique}
+use Rattle.size_model.proofs.Cuts.{IsCut-unique}
 use Rattle.range_map.proofs.Adding.{laid_more}
 
 laid_all : (done old rs new : List Piece) → IsLaid done old → IsAddedTo old rs new → IsLaid (done ++ rs) new

@@ -6,7 +6,7 @@ use Rattle.std.specs.Bool.{then_some}
 use Rattle.std.specs.List.Sorted.{IsNonDecreasingBy, IsPartitionPoint}
 use Rattle.size_model.specs.declared.piece.Piece.{Piece}
 use Rattle.size_model.specs.Cut.{end_of, has, label_in, IsTidy}
-use Rattle.range_map.proofs.Pieces.{has_left, has_right, label_at_head, label_past_head}
+use Rattle.size_model.proofs.Cuts.{has_left, has_right, label_at_head, label_past_head}
 use Rattle.range_map.proofs.Opening.{label_in-none}
 use Rattle.range_map.specs.Sweep.{at, no_piece}
 

@@ -13,7 +13,7 @@ use Rattle.std.specs.List.{All, Contains}
 use Rattle.std.specs.List.Sorted.{IsPermutation}
 use Rattle.std.specs.Option.{IfSome, IsSome}
 use Rattle.std.specs.Ordering.{nat_cmp, is_lt}
-use Rattle.range_map.proofs.Pieces.{has_in, has_left, has_right, has_cases}
+use Rattle.size_model.proofs.Cuts.{has_in, has_left, has_right, has_cases}
 
 -- the label of the first range that has the place
 pub label_in-first : (claims : List Piece) (k x : ℕ) → k < length claims → has (at claims k) x ≡ true → ((j : ℕ) → j < k → has (at claims j) x ≡ false) → label_in claims x ≡ Some (at claims k).label

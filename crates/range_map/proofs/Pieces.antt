@@ -1,38 +1,17 @@
 -- Lemmas on labelled ranges and tidy lists.
-use Rattle.std.proofs.Common.{◌≡◌, ◌-◌, ◌<◌, ◌≤◌, ℕ, true, false, cond, List, [], ◌∷◌, ◌++◌, Option, None, Some, length, get_or, set, slice_get, refl, sym, ap, ◌∙◌, inl, inr, ◌⊎◌, suc, zero, arith}
-use Rattle.std.proofs.lemmas.Bool.{cases_lt}
-use Rattle.std.proofs.lemmas.Option.{none-some, same_Some, slice_get_within, get_or_from_slice_get}
+use Rattle.std.proofs.Common.{◌≡◌, ◌-◌, ◌<◌, ◌≤◌, ℕ, true, false, cond, List, [], ◌∷◌, ◌++◌, Option, None, Some, length, get_or, set, slice_get, refl, sym, ap, ◌∙◌, suc, zero, arith}
+use Rattle.std.proofs.lemmas.Option.{slice_get_within, get_or_from_slice_get}
 use Rattle.std.proofs.lemmas.Bool.Decides.{nat_tests}
 use Rattle.size_model.specs.declared.piece.Piece.{Piece}
-use Rattle.size_model.specs.Cut.{end_of, has, label_in, Precedes, IsTidy, IsCut, IsLaid}
+use Rattle.size_model.specs.Cut.{end_of, has, label_in, IsTidy, IsLaid}
 use Rattle.range_map.specs.Ranges.{EndsBy}
 use Rattle.range_map.specs.Emit.{touches, joins_last, longer, lengthened}
+use Rattle.size_model.proofs.Cuts.{label_past_head, StartsFrom}
 
 -- the first of two labels
 abbrev pub either : Option ℕ → Option ℕ → Option ℕ
 either None o = o
 either (Some v) o = Some v
-
-pub has_in : (p : Piece) (x : ℕ) → p.start ≤ x → x < end_of p → has p x ≡ true
-has_in p x a b = grind (arith, nat_tests)
-
-pub has_left : (p : Piece) (x : ℕ) → x < p.start → has p x ≡ false
-has_left p x a = grind (arith, nat_tests)
-
-pub has_right : (p : Piece) (x : ℕ) → end_of p ≤ x → has p x ≡ false
-has_right p x a = grind (arith, nat_tests)
-
-pub has_cases : (p : Piece) (x : ℕ) → ((p.start ≤ x) × (x < end_of p)) ⊎ ((x < p.start) ⊎ (end_of p ≤ x))
-has_cases p x = grind arith
-
-pub label_at_head : (p : Piece) (ps : List Piece) (x : ℕ) → p.start ≤ x → x < end_of p → label_in (p ∷ ps) x ≡ Some p.label
-label_at_head p ps x a b = ap (λ t. cond t (Some p.label) (label_in ps x)) (has_in p x a b)
-
-pub label_past_head : (p : Piece) (ps : List Piece) (x : ℕ) → end_of p ≤ x → label_in (p ∷ ps) x ≡ label_in ps x
-label_past_head p ps x a = ap (λ t. cond t (Some p.label) (label_in ps x)) (has_right p x a)
-
-pub label_before_head : (p : Piece) (ps : List Piece) (x : ℕ) → x < p.start → label_in (p ∷ ps) x ≡ label_in ps x
-label_before_head p ps x a = ap (λ t. cond t (Some p.label) (label_in ps x)) (has_left p x a)
 
 pub label_in-append : (ps qs : List Piece) (x : ℕ) → label_in (ps ++ qs) x ≡ either (label_in ps x) (label_in qs x)
 label_in-append [] qs x = refl
@@ -43,23 +22,9 @@ pub label_past : (ps : List Piece) (at x : ℕ) → EndsBy at ps → at ≤ x �
 label_past [] at x e h = refl
 label_past (p ∷ ps) at x e h = label_past_head p ps x (omega arith) ∙ label_past ps at x e.1 h
 
--- the first piece starts no earlier than a place
-abbrev pub StartsFrom : ℕ → List Piece → Type 0
-StartsFrom at [] = Unit {0}
-StartsFrom at (p ∷ ps) = at ≤ p.start
-
-pub StartsFrom-Precedes : (p : Piece) (ps : List Piece) → Precedes p ps → StartsFrom (end_of p) ps
-StartsFrom-Precedes p [] h = tt
-StartsFrom-Precedes p (q ∷ qs) h = h.0
-
 pub StartsFrom-weaker : (a b : ℕ) (ps : List Piece) → a ≤ b → StartsFrom b ps → StartsFrom a ps
 StartsFrom-weaker a b [] l h = tt
 StartsFrom-weaker a b (q ∷ qs) l h = omega arith
-
-pub label_before : (ps : List Piece) (at x : ℕ) → IsTidy ps → StartsFrom at ps → x < at → label_in ps x ≡ None
-label_before [] at x t s h = refl
-label_before (p ∷ ps) at x t s h =
-    label_before_head p ps x (omega arith) ∙ label_before ps (end_of p) x t.2 (StartsFrom-Precedes p ps t.1) (omega arith)
 
 pub EndsBy-weaker : (ps : List Piece) (a b : ℕ) → a ≤ b → EndsBy a ps → EndsBy b ps
 EndsBy-weaker [] a b l e = tt
@@ -141,61 +106,3 @@ laid_push ps p t e j h = record { tidy = IsTidy-push ps p t e j h; labels = λ x
 
 pub laid_lengthened : (ps : List Piece) (p : Piece) → IsTidy ps → joins_last ps p ≡ true → IsLaid (ps ++ p ∷ []) (lengthened ps p.len)
 laid_lengthened ps p t j = record { tidy = lengthened_tidy ps p.len t; labels = λ x. lengthened_labels ps p x j }
-
--- a label of a place is that of some piece which has it
-label_none_from_head : (p : Piece) (ps : List Piece) (x : ℕ) → label_in (p ∷ ps) x ≡ None → p.start ≤ x → x < end_of p → ⊥
-label_none_from_head p ps x e a b = none-some p.label (sym e ∙ label_at_head p ps x a b)
-
--- at the end of a tidy list's first piece its label does not stand
-pub label_at_end : (p : Piece) (ps : List Piece) → IsTidy (p ∷ ps) → label_in (p ∷ ps) (end_of p) ≡ Some p.label → ⊥
-label_at_end p [] t e = none-some p.label (sym (label_past_head p [] (end_of p) (omega arith)) ∙ e)
-label_at_end p (q ∷ qs) t e =
-    elim (has_cases q (end_of p)) [
-      | inl h ↦ t.1.1 (omega arith) (same_Some _ _ (sym e ∙ (label_past_head p (q ∷ qs) (end_of p) (omega arith) ∙ label_at_head q qs (end_of p) h.0 h.1)))
-      | inr h ↦ none-some p.label (sym (label_before (q ∷ qs) q.start (end_of p) t.2 (omega arith) (elim h [ inl a ↦ a | inr b ↦ absurd (omega arith) ])) ∙ (sym (label_past_head p (q ∷ qs) (end_of p) (omega arith)) ∙ e))
-    ]
-
-start_le : (p q : Piece) (ps qs : List Piece) → IsTidy (p ∷ ps) → IsTidy (q ∷ qs) → ((x : ℕ) → label_in (p ∷ ps) x ≡ label_in (q ∷ qs) x) → q.start ≤ p.start
-start_le p q ps qs t u h =
-    elim (cases_lt p.start q.start) [
-      | inl l ↦ absurd (none-some p.label (sym (label_before (q ∷ qs) q.start p.start u (omega arith) l) ∙ (sym (h p.start) ∙ label_at_head p ps p.start (omega arith) (omega arith))))
-      | inr l ↦ l
-    ]
-
-end_le : (p q : Piece) (ps qs : List Piece) → IsTidy (p ∷ ps) → IsTidy (q ∷ qs) → p.start ≡ q.start → p.label ≡ q.label → ((x : ℕ) → label_in (p ∷ ps) x ≡ label_in (q ∷ qs) x) → end_of q ≤ end_of p
-end_le p q ps qs t u s l h =
-    elim (cases_lt (end_of p) (end_of q)) [
-      | inl k ↦ absurd (label_at_end p ps t (h (end_of p) ∙ (label_at_head q qs (end_of p) (omega arith) k ∙ ap (λ y. Some y) (sym l))))
-      | inr k ↦ k
-    ]
-
-abbrev piece_of : ℕ → ℕ → ℕ → Piece
-piece_of s n l = record { start = s; len = n; label = l }
-
-same_piece : (p q : Piece) → p.start ≡ q.start → p.len ≡ q.len → p.label ≡ q.label → p ≡ q
-same_piece p q a b c = ap (λ s. piece_of s p.len p.label) a ∙ (ap (λ n. piece_of q.start n p.label) b ∙ ap (λ l. piece_of q.start q.len l) c)
-
-tails : (p q : Piece) (ps qs : List Piece) → IsTidy (p ∷ ps) → IsTidy (q ∷ qs) → p ≡ q → ((x : ℕ) → label_in (p ∷ ps) x ≡ label_in (q ∷ qs) x) → (x : ℕ) → label_in ps x ≡ label_in qs x
-tails p q ps qs t u e h x =
-    let f : end_of p ≡ end_of q = ap end_of e in
-    elim (cases_lt x (end_of p)) [
-      | inl l ↦ label_before ps (end_of p) x t.2 (StartsFrom-Precedes p ps t.1) l ∙ sym (label_before qs (end_of q) x u.2 (StartsFrom-Precedes q qs u.1) (omega arith))
-      | inr l ↦ sym (label_past_head p ps x l) ∙ (h x ∙ label_past_head q qs x (omega arith))
-    ]
-
--- a tidy list is the only one with its labels
-pub IsTidy-unique : (ps qs : List Piece) → IsTidy ps → IsTidy qs → ((x : ℕ) → label_in ps x ≡ label_in qs x) → ps ≡ qs
-IsTidy-unique [] [] t u h = refl
-IsTidy-unique [] (q ∷ qs) t u h = absurd (label_none_from_head q qs q.start (sym (h q.start)) (omega arith) (omega arith))
-IsTidy-unique (p ∷ ps) [] t u h = absurd (label_none_from_head p ps p.start (h p.start) (omega arith) (omega arith))
-IsTidy-unique (p ∷ ps) (q ∷ qs) t u h =
-    let s : p.start ≡ q.start = (let a = start_le q p qs ps u t (λ x. sym (h x)) in let b = start_le p q ps qs t u h in omega arith) in
-    let l : p.label ≡ q.label = same_Some _ _ (sym (label_at_head p ps p.start (omega arith) (omega arith)) ∙ (h p.start ∙ label_at_head q qs p.start (omega arith) (omega arith))) in
-    let a : end_of q ≤ end_of p = end_le p q ps qs t u s l h in
-    let b : end_of p ≤ end_of q = end_le q p qs ps u t (sym s) (sym l) (λ x. sym (h x)) in
-    let e : p ≡ q = same_piece p q s (omega arith) l in
-    let r : ps ≡ qs = IsTidy-unique ps qs t.2 u.2 (tails p q ps qs t u e h) in
-    cc
-
-pub IsCut-unique : (f : ℕ → Option ℕ) (ps qs : List Piece) → IsCut f ps → IsCut f qs → ps ≡ qs
-IsCut-unique f ps qs a b = IsTidy-unique ps qs a.tidy b.tidy (λ x. a.labels x ∙ sym (b.labels x))

@@ -13,8 +13,9 @@ use Rattle.size_model.specs.declared.piece.Piece.{Piece}
 use Rattle.size_model.specs.Cut.{end_of, label_in, IsTidy, IsLaid, is_place}
 use Rattle.range_map.specs.Ranges.{EndsBy, IsRange}
 use Rattle.range_map.specs.Sweep.{at, no_piece, numbered, starts_from, AllOpen, IsOpening, IsLaidTo, CoversPlaces}
-use Rattle.range_map.proofs.Pieces.{EndsBy-weaker, StartsFrom-Precedes, label_before, label_past, label_at_head, label_before_head, label_past_head}
-use Rattle.range_map.proofs.Places.{steady, place_cases}
+use Rattle.size_model.proofs.Cuts.{StartsFrom-Precedes, label_before, label_at_head, label_before_head, label_past_head}
+use Rattle.range_map.proofs.Pieces.{EndsBy-weaker, label_past}
+use Rattle.size_model.proofs.Places.{steady, place_cases}
 use Rattle.range_map.proofs.Adding.{label_append_left, label_append_right}
 
 is_place-push : (ps : List Piece) (p : Piece) (x : ℕ) → is_place (ps ++ p ∷ []) x ≡ true → (is_place ps x ≡ true) ⊎ ((x ≡ p.start) ⊎ (x ≡ end_of p))

@@ -5,6 +5,7 @@ mod GroupLemmas
 mod LimitLemmas
 mod ListLemmas
 mod OrderLemmas
+mod PathLemmas
 mod RootLemmas
 mod RowLemmas
 mod RunLemmas

@@ -53,7 +53,7 @@ children-shown : (o : RowOptions) (t : Table) → All (λ l. has_shown o t l ≡
 unfolding children
 children-shown o t = All-in_order (label_cmp o t) (λ l. has_shown o t l ≡ true) (filter (has_shown o t) (first_labels t)) (filter_passes (has_shown o t) (first_labels t))
 
-limited-sound : (o : RowOptions) (P : Entry → Type 0) (es : List Entry) → All P es → P (others_entry (drop o.limit es)) → All P (limited o es)
+pub limited-sound : (o : RowOptions) (P : Entry → Type 0) (es : List Entry) → All P es → P (others_entry (drop o.limit es)) → All P (limited o es)
 unfolding limited
 limited-sound o P es all one = at (o.limit == 0 || leb (length es) o.limit)
   where
@@ -305,7 +305,7 @@ module _ (o : RowOptions) (size : Row → ℕ) where
       omega (arith, first, at-es n level after es, sum_by-cons (λ (d : Entry). size (row_of level d)) e es)
 
   -- a level adds up its entries
-  at-listing : (n level : ℕ) (t : Table) (after : List Row) → level_sum size level (listing o (suc n) level t ++ after) ≡ sum_by (λ e. size (row_of level e)) (entries_of o t) + level_sum size level after
+  pub at-listing : (n level : ℕ) (t : Table) (after : List Row) → level_sum size level (listing o (suc n) level t ++ after) ≡ sum_by (λ e. size (row_of level e)) (entries_of o t) + level_sum size level after
   unfolding listing
   at-listing n level t after = at-es n level after (entries_of o t)
 

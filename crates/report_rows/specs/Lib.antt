@@ -3,6 +3,7 @@ pub mod Groups
 pub mod Keys
 pub mod Laws
 pub mod Order
+pub mod Paths
 pub mod Rows
 pub mod Shown
 pub mod Tables

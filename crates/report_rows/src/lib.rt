@@ -6,7 +6,7 @@ mod laws;
 mod listing;
 mod row;
 
-pub use laws::sizes_by_prefix;
+pub use laws::{rows_show_paths, sizes_by_prefix};
 pub use listing::rows;
 pub use row::{Row, RowKind, RowOptions, RowTree, Rows};
 

@@ -3,6 +3,8 @@ pub mod Empty
 pub mod Gathered
 pub mod Merging
 pub mod OneFile
+pub mod Paths
+pub mod Ranks
 pub mod Refilled
 pub mod Totalling
 pub mod Walking

@@ -1,185 +1,106 @@
--- Paths in order, and rows of one path joined.
-use Rattle.std.proofs.Common.{◌≡◌, ◌+◌, ◌-◌, ◌<◌, ℕ, zero, suc, min, Bool, true, false, cond, List, [], ◌∷◌, ◌++◌, length, get_or, set, take, drop, reverse, slice_get, Some, refl, sym, ap, subst, ◌∙◌, arith, is_lt}
+-- Rows that are put among others, in order.
+use Rattle.std.proofs.Common.{◌≡◌, ◌+◌, ◌-◌, ◌<◌, ◌≤◌, ℕ, zero, suc, Bool, true, false, cond, List, [], ◌∷◌, ◌++◌, length, get_or, set, take, drop, reverse, slice_get, None, Some, refl, sym, ap, subst, ◌∙◌, arith, is_lt, inl, inr, ◌⊎◌, append_assoc, length-append}
 use Rattle.std.specs.Prelude.{All}
 use Rattle.std.specs.List.{sum_by, AllByRecursion}
-use Rattle.std.specs.List.Sorted.{IsPermutation, IsSorted, IsStrictlySortedBy}
-use Rattle.std.specs.Cmp.{IsTotalOrder}
-use Rattle.std.specs.Cmp.Lexicographic.{slice_cmp}
-use Rattle.std.specs.Ordering.{nat_cmp, ordering_then, ordering_reverse, is_eq}
+use Rattle.std.specs.List.Sorted.{IsPermutation, IsSorted, IsStrictlySortedBy, IsPartitionedBy, IsPartitionPoint}
+use Rattle.std.specs.Ordering.{ordering_reverse, is_eq, is_gt, is_le}
 use Rattle.std.specs.declared.cmp.Ordering.{Ordering}
 use Rattle.std.specs.declared.cmp.Ordering.TheVariants.{Less, Equal, Greater}
-use Rattle.std.proofs.lemmas.Bool.Decides.{nat_tests}
-use Rattle.std.proofs.lemmas.Cmp.{lists_total, nat_list_cmp_total}
-use Rattle.std.proofs.lemmas.List.{take_more, length-drop, length-reverse, get_or-reverse, reverse-append}
+use Rattle.std.proofs.lemmas.Bool.{cases_eq}
+use Rattle.std.proofs.lemmas.List.{append-nil, length-drop, length-reverse, length-take-le, get_or-append-add, get_or-drop, get_or-reverse, get_or-take, reverse-append, reverse-reverse, take-append-drop}
 use Rattle.std.proofs.lemmas.List.Sums.{sum_by-cons, sum_by_push, sum_by-append}
 use Rattle.std.proofs.lemmas.List.Elements.{All-from_recursion, recursion_from_All}
-use Rattle.std.proofs.lemmas.List.Sorted.{sum_by-IsPermutation, All-permutation, IsPermutation-reverse}
-use Rattle.std.proofs.lemmas.Option.{get_or_from_slice_get, slice_get_within}
-use Rattle.size_model.proofs.Firsts.{drop-get}
+use Rattle.std.proofs.lemmas.List.Sorted.{All-permutation, IsPermutation-reverse, IsPermutation-trans, sum_by-IsPermutation}
+use Rattle.std.proofs.lemmas.Map.Keys.{Less-from_sorted}
+use Rattle.std.proofs.lemmas.Option.{get_or_from_slice_get, slice_get-get_or, slice_get_within}
 use Rattle.rollup.specs.declared.table.RollupRow.{RollupRow}
 use Rattle.rollup.specs.Totals.{path_cmp, row_cmp}
 use Rattle.rollup.specs.Adding.{is_path}
-use Rattle.rollup.specs.Rows.{falling, joins_last, larger, enlarged, with_row, joined, AreMerged, FitTogether}
-
--- one item more of a list
-pub one_more : {X : Type 0} (xs : List X) (i : ℕ) (x : X) → slice_get xs i ≡ Some x → take (i + 1) xs ≡ take i xs ++ x ∷ []
-one_more xs i x e = take_more xs i x (slice_get_within xs i x e) ∙ ap (λ y. take i xs ++ y ∷ []) (get_or_from_slice_get xs i x x e)
-
--- the comparison of paths from a label on
-pub compare_from : (a b : List (List ℕ)) (i : ℕ) (x y : List ℕ) → slice_get a i ≡ Some x → slice_get b i ≡ Some y
-    → path_cmp (drop i a) (drop i b) ≡ ordering_then (slice_cmp nat_cmp x y) (path_cmp (drop (i + 1) a) (drop (i + 1) b))
-compare_from a b i x y at_a at_b =
-    let one : suc i ≡ i + 1 = omega arith in
-    ap (λ xs. path_cmp xs (drop i b)) (drop-get a i x at_a) ∙ (ap (λ ys. path_cmp (x ∷ drop (suc i) a) ys) (drop-get b i y at_b)
-    ∙ ap (λ j. ordering_then (slice_cmp nat_cmp x y) (path_cmp (drop j a) (drop j b))) one)
-
-nat_less : (m n : ℕ) → m < n → nat_cmp m n ≡ Less
-nat_less m n lt = grind (arith, nat_tests)
-
-nat_same : (m n : ℕ) → m ≡ n → nat_cmp m n ≡ Equal
-nat_same m n e = grind (arith, nat_tests)
-
-nat_greater : (m n : ℕ) → n < m → nat_cmp m n ≡ Greater
-nat_greater m n lt = grind (arith, nat_tests)
-
--- where one of them ends their lengths decide
-pub compare_ends : (a b : List (List ℕ)) (i : ℕ) → i ≡ min (length a) (length b) → path_cmp (drop i a) (drop i b) ≡ nat_cmp (length a) (length b)
-compare_ends a b i e = by_rest (drop i a) (drop i b) (length-drop i a) (length-drop i b)
-  where
-    by_rest : (xs ys : List (List ℕ)) → length xs ≡ length a - i → length ys ≡ length b - i → path_cmp xs ys ≡ nat_cmp (length a) (length b)
-    by_rest [] [] la lb = let zero_a : 0 ≡ length a - i = la in let zero_b : 0 ≡ length b - i = lb in sym (nat_same (length a) (length b) (omega arith))
-    by_rest [] (y ∷ ys) la lb = let zero_a : 0 ≡ length a - i = la in sym (nat_less (length a) (length b) (omega (arith, lb)))
-    by_rest (x ∷ xs) [] la lb = let zero_b : 0 ≡ length b - i = lb in sym (nat_greater (length a) (length b) (omega (arith, la)))
-    by_rest (x ∷ xs) (y ∷ ys) la lb = absurd (omega (arith, la, lb))
-
-pub then_other : (o rest : Ordering) → (o ≡ Equal → ⊥) → ordering_then o rest ≡ o
-then_other Less rest h = refl
-then_other Equal rest h = absurd (h refl)
-then_other Greater rest h = refl
-
--- paths that compare equal are one
-same_list : {X : Type 0} (R : X → X → Ordering) → ((x y : X) → R x y ≡ Equal → x ≡ y) → (xs ys : List X) → slice_cmp R xs ys ≡ Equal → xs ≡ ys
-same_list R same [] [] e = refl
-same_list R same [] (y ∷ ys) e = cc
-same_list R same (x ∷ xs) [] e = cc
-same_list R same (x ∷ xs) (y ∷ ys) e = by_first (R x y) refl e (same_list R same xs ys)
-  where
-    by_first : (o : Ordering) → R x y ≡ o → ordering_then o (slice_cmp R xs ys) ≡ Equal → (slice_cmp R xs ys ≡ Equal → xs ≡ ys) → (x ∷ xs) ≡ (y ∷ ys)
-    by_first Less h e later = cc
-    by_first Equal h e later = let first = same x y h in let rest = later e in cc
-    by_first Greater h e later = cc
-
-same_number : (m n : ℕ) → nat_cmp m n ≡ Equal → m ≡ n
-same_number m n e = grind (arith, nat_tests)
-
-equal_is : (o : Ordering) → is_eq o ≡ true → o ≡ Equal
-equal_is Less e = cc
-equal_is Equal e = refl
-equal_is Greater e = cc
-
-pub same_path : (p q : List (List ℕ)) → is_path p q ≡ true → p ≡ q
-same_path p q e = same_list (slice_cmp nat_cmp) (same_list nat_cmp same_number) p q (equal_is (path_cmp p q) e)
-
-pub path_total : IsTotalOrder path_cmp
-path_total = lists_total nat_list_cmp_total
-
--- what is not above and not equal is below
-less_from : (x y : RollupRow) → is_lt (row_cmp y x) ≡ false → is_path x.path y.path ≡ false → row_cmp x y ≡ Less
-less_from x y high other = by_order (row_cmp x y) refl
-  where
-    by_order : (o : Ordering) → row_cmp x y ≡ o → o ≡ Less
-    by_order Less e = refl
-    by_order Equal e = absurd (let h : is_eq Equal ≡ false = ap is_eq (sym e) ∙ other in cc)
-    by_order Greater e = absurd (let h : is_lt Less ≡ false = ap is_lt (sym (path_total.antisymm y.path x.path ∙ ap ordering_reverse e)) ∙ high in cc)
-
--- the last row is not above a row
-abbrev pub EndsUpto : List RollupRow → RollupRow → Type 0
-EndsUpto [] r = Unit {0}
-EndsUpto (q ∷ []) r = is_lt (row_cmp r q) ≡ false
-EndsUpto (q ∷ s ∷ qs) r = EndsUpto (s ∷ qs) r
-
--- and neither is the next one, row by row
-abbrev pub Climbs : List RollupRow → Type 0
-Climbs [] = Unit {0}
-Climbs (r ∷ []) = Unit {0}
-Climbs (r ∷ s ∷ rs) = (is_lt (row_cmp s r) ≡ false) × Climbs (s ∷ rs)
+use Rattle.rollup.specs.Rows.{AreMerged, Climbs, EndsUpto, EndsUptoFirst, FitTogether, falling, joins_last, larger, enlarged, pushed, with_row, with_row_by, with_rows}
+use Rattle.rollup.proofs.Paths.{path_total, same_path}
 
 abbrev Strict : List RollupRow → Type 0
 Strict rows = IsStrictlySortedBy row_cmp rows
 
-abbrev EndsBelow : List RollupRow → RollupRow → Type 0
-EndsBelow [] r = Unit {0}
-EndsBelow (q ∷ []) r = row_cmp q r ≡ Less
-EndsBelow (q ∷ s ∷ qs) r = EndsBelow (s ∷ qs) r
+-- the order of two rows the other way round
+turned : (q r : RollupRow) (o : Ordering) → row_cmp q r ≡ o → row_cmp r q ≡ ordering_reverse o
+turned q r o e = path_total.antisymm r.path q.path ∙ ap ordering_reverse e
 
-ends_below : (rows : List RollupRow) (r : RollupRow) → EndsUpto rows r → joins_last rows r.path ≡ false → EndsBelow rows r
-ends_below [] r h e = tt
-ends_below (q ∷ []) r h e = less_from q r h e
-ends_below (q ∷ s ∷ qs) r h e = ends_below (s ∷ qs) r h e
-
-first_below : (q : RollupRow) (qs : List RollupRow) (r : RollupRow) → Strict (q ∷ qs) → EndsBelow (q ∷ qs) r → row_cmp q r ≡ Less
-unfolding IsStrictlySortedBy
-first_below q [] r t h = h
-first_below q (s ∷ qs) r t h = path_total.trans q.path s.path r.path t.0.0 (first_below s qs r t.1 h)
-
-all_push : (P : RollupRow → Type 0) (rows : List RollupRow) (r : RollupRow) → AllByRecursion P rows → P r → AllByRecursion P (rows ++ r ∷ [])
-all_push P [] r h p = (p, tt)
-all_push P (q ∷ qs) r h p = (h.0, all_push P qs r h.1 p)
-
-strict_push : (rows : List RollupRow) (r : RollupRow) → Strict rows → EndsBelow rows r → Strict (rows ++ r ∷ [])
-unfolding IsStrictlySortedBy
-strict_push [] r t h = (tt, tt)
-strict_push (q ∷ []) r t h = ((h, tt), (tt, tt))
-strict_push (q ∷ s ∷ qs) r t h = (all_push (λ y. row_cmp q y ≡ Less) (s ∷ qs) r t.0 (first_below q (s ∷ qs) r t h), strict_push (s ∷ qs) r t.1 h)
-
-all_enlarged : (P : RollupRow → Type 0) → ((q r : RollupRow) → P q → P (larger q r)) → (rows : List RollupRow) (r : RollupRow) → AllByRecursion P rows → AllByRecursion P (enlarged rows r)
-all_enlarged P keeps [] r h = h
-all_enlarged P keeps (q ∷ []) r h = (keeps q r h.0, tt)
-all_enlarged P keeps (q ∷ s ∷ qs) r h = (h.0, all_enlarged P keeps (s ∷ qs) r h.1)
-
-strict_enlarged : (rows : List RollupRow) (r : RollupRow) → Strict rows → Strict (enlarged rows r)
-unfolding IsStrictlySortedBy
-strict_enlarged [] r t = t
-strict_enlarged (q ∷ []) r t = t
-strict_enlarged (q ∷ s ∷ qs) r t = (all_enlarged (λ y. row_cmp q y ≡ Less) (λ y z e. e) (s ∷ qs) r t.0, strict_enlarged (s ∷ qs) r t.1)
-
-upto_pushed : (rows : List RollupRow) (r s : RollupRow) → is_lt (row_cmp s r) ≡ false → EndsUpto (rows ++ r ∷ []) s
-upto_pushed [] r s h = h
-upto_pushed (q ∷ []) r s h = h
-upto_pushed (q ∷ t ∷ qs) r s h = upto_pushed (t ∷ qs) r s h
-
-upto_enlarged : (rows : List RollupRow) (r s : RollupRow) → joins_last rows r.path ≡ true → is_lt (row_cmp s r) ≡ false → EndsUpto (enlarged rows r) s
-upto_enlarged [] r s e h = cc
-upto_enlarged (q ∷ []) r s e h = ap (λ p. is_lt (path_cmp s.path p)) (same_path q.path r.path e) ∙ h
-upto_enlarged (q ∷ t ∷ []) r s e h = upto_enlarged (t ∷ []) r s e h
-upto_enlarged (q ∷ t ∷ u ∷ qs) r s e h = upto_enlarged (t ∷ u ∷ qs) r s e h
-
--- a row that is joined or pushed
-strict_with : (rows : List RollupRow) (r : RollupRow) (b : Bool) → joins_last rows r.path ≡ b → Strict rows → EndsUpto rows r → Strict (cond b (enlarged rows r) (rows ++ r ∷ []))
-strict_with rows r true e t h = strict_enlarged rows r t
-strict_with rows r false e t h = strict_push rows r t (ends_below rows r h e)
-
-upto_with : (rows : List RollupRow) (r s : RollupRow) (b : Bool) → joins_last rows r.path ≡ b → is_lt (row_cmp s r) ≡ false → EndsUpto (cond b (enlarged rows r) (rows ++ r ∷ [])) s
-upto_with rows r s true e h = upto_enlarged rows r s e h
-upto_with rows r s false e h = upto_pushed rows r s h
-
-strict_joined : (rs out : List RollupRow) → Strict out → ((r : RollupRow) (qs : List RollupRow) → rs ≡ r ∷ qs → EndsUpto out r) → Climbs rs → Strict (joined out rs)
-strict_joined [] out t h c = t
-strict_joined (r ∷ []) out t h c = strict_with out r (joins_last out r.path) refl t (h r [] refl)
-strict_joined (r ∷ s ∷ rs) out t h c =
-    strict_joined (s ∷ rs) (with_row out r) (strict_with out r (joins_last out r.path) refl t (h r (s ∷ rs) refl))
-    (λ q qs e. subst (EndsUpto (with_row out r)) (first_same s q rs qs e) (upto_with out r s (joins_last out r.path) refl c.0)) c.1
+-- a row below one that is not above a third
+below_then : (q s r : RollupRow) → row_cmp q s ≡ Less → is_le (row_cmp s r) ≡ true → row_cmp q r ≡ Less
+below_then q s r first second = by_order (row_cmp s r) refl second
   where
-    first_same : (s q : RollupRow) (rs qs : List RollupRow) → (s ∷ rs) ≡ (q ∷ qs) → s ≡ q
-    first_same s q rs qs e = cc
+    by_order : (o : Ordering) → row_cmp s r ≡ o → is_le o ≡ true → row_cmp q r ≡ Less
+    by_order Less e h = path_total.trans q.path s.path r.path first e
+    by_order Equal e h = sym (ap (path_cmp q.path) (same_path s.path r.path (ap is_eq e))) ∙ first
+    by_order Greater e h = cc
 
-all_with : (P : RollupRow → Type 0) → ((q r : RollupRow) → P q → P (larger q r)) → (rows : List RollupRow) (r : RollupRow) (b : Bool) → AllByRecursion P rows → P r → AllByRecursion P (cond b (enlarged rows r) (rows ++ r ∷ []))
-all_with P keeps rows r true h p = all_enlarged P keeps rows r h
-all_with P keeps rows r false h p = all_push P rows r h p
+-- not above, in the words of two tests
+not_above : (q r : RollupRow) → is_lt (row_cmp r q) ≡ false → is_le (row_cmp q r) ≡ true
+not_above q r h = by_order (row_cmp q r) refl
+  where
+    by_order : (o : Ordering) → row_cmp q r ≡ o → is_le o ≡ true
+    by_order Less e = refl
+    by_order Equal e = refl
+    by_order Greater e = let h2 : is_lt Less ≡ false = ap is_lt (sym (turned q r Greater e)) ∙ h in cc
 
-all_joined : (P : RollupRow → Type 0) → ((q r : RollupRow) → P q → P (larger q r)) → (rs out : List RollupRow) → AllByRecursion P out → AllByRecursion P rs → AllByRecursion P (joined out rs)
-all_joined P keeps [] out h k = h
-all_joined P keeps (r ∷ rs) out h k = all_joined P keeps rs (with_row out r) (all_with P keeps out r (joins_last out r.path) h k.0) k.1
+not_less : (q r : RollupRow) → is_le (row_cmp q r) ≡ true → is_lt (row_cmp r q) ≡ false
+not_less q r h = by_order (row_cmp q r) refl h
+  where
+    by_order : (o : Ordering) → row_cmp q r ≡ o → is_le o ≡ true → is_lt (row_cmp r q) ≡ false
+    by_order Less e k = ap is_lt (turned q r Less e)
+    by_order Equal e k = ap is_lt (turned q r Equal e)
+    by_order Greater e k = cc
+
+not_greater : (o : Ordering) → is_gt o ≡ false → is_le o ≡ true
+not_greater Less h = refl
+not_greater Equal h = refl
+not_greater Greater h = cc
+
+greater_is : (o : Ordering) → is_gt o ≡ true → o ≡ Greater
+greater_is Less h = cc
+greater_is Equal h = cc
+greater_is Greater h = refl
+
+-- what holds of rows holds of them with one more
+all_with : (P : RollupRow → Type 0) → ((q r : RollupRow) → P q → P (larger q r)) → (rows : List RollupRow) (r : RollupRow) → AllByRecursion P rows → P r → AllByRecursion P (with_row rows r)
+all_with P keeps [] r h p = (p, tt)
+all_with P keeps (q ∷ qs) r h p = by_order (row_cmp q r) (all_with P keeps qs r h.1 p)
+  where
+    by_order : (o : Ordering) → AllByRecursion P (with_row qs r) → AllByRecursion P (with_row_by o q r qs (with_row qs r))
+    by_order Less rest = (h.0, rest)
+    by_order Equal rest = (keeps q r h.0, h.1)
+    by_order Greater rest = (p, h)
+
+all_rows : (P : RollupRow → Type 0) → ((q r : RollupRow) → P q → P (larger q r)) → (rs rows : List RollupRow) → AllByRecursion P rows → AllByRecursion P rs → AllByRecursion P (with_rows rows rs)
+all_rows P keeps [] rows h k = h
+all_rows P keeps (r ∷ rs) rows h k = all_rows P keeps rs (with_row rows r) (all_with P keeps rows r h k.0) k.1
+
+pub all_merged : (P : RollupRow → Type 0) → ((q r : RollupRow) → P q → P (larger q r)) → (rows others merged : List RollupRow) → AreMerged rows others merged → All P rows → All P others → All P merged
+all_merged P keeps rows others merged m h k =
+    subst (All P) (sym m.is) (All-from_recursion P (with_rows rows m.order) (all_rows P keeps m.order rows (recursion_from_All P rows h) (recursion_from_All P m.order (All-permutation P others m.order m.same k))))
+
+-- they stay in order
+all_below : (r q : RollupRow) (rows : List RollupRow) → row_cmp r q ≡ Less → AllByRecursion (λ y. row_cmp q y ≡ Less) rows → AllByRecursion (λ y. row_cmp r y ≡ Less) rows
+all_below r q [] lt h = tt
+all_below r q (s ∷ rows) lt h = (path_total.trans r.path q.path s.path lt h.0, all_below r q rows lt h.1)
+
+pub strict_with : (rows : List RollupRow) (r : RollupRow) → Strict rows → Strict (with_row rows r)
+unfolding IsStrictlySortedBy
+strict_with [] r t = (tt, tt)
+strict_with (q ∷ qs) r t = by_order (row_cmp q r) refl (strict_with qs r t.1)
+  where
+    by_order : (o : Ordering) → row_cmp q r ≡ o → Strict (with_row qs r) → Strict (with_row_by o q r qs (with_row qs r))
+    by_order Less e rest = (all_with (λ y. row_cmp q y ≡ Less) (λ y z h. h) qs r t.0 e, rest)
+    by_order Equal e rest = t
+    by_order Greater e rest = let lt = turned q r Greater e in ((lt, all_below r q qs lt t.0), t)
+
+strict_rows : (rs rows : List RollupRow) → Strict rows → Strict (with_rows rows rs)
+strict_rows [] rows t = t
+strict_rows (r ∷ rs) rows t = strict_rows rs (with_row rows r) (strict_with rows r t)
+
+pub strict_merged : (rows others merged : List RollupRow) → AreMerged rows others merged → Strict rows → Strict merged
+strict_merged rows others merged m t = subst Strict (sym m.is) (strict_rows m.order rows t)
 
 -- the sizes of the rows of whose path a test holds
 module _ (test : List (List ℕ) → Bool) (f : RollupRow → ℕ) (adds : (q r : RollupRow) → f (larger q r) ≡ f q + f r) where
@@ -193,56 +114,87 @@ module _ (test : List (List ℕ) → Bool) (f : RollupRow → ℕ) (adds : (q r 
       on true = adds q r
       on false = refl
 
-  sum_enlarged : (rows : List RollupRow) (r : RollupRow) → joins_last rows r.path ≡ true → sum_by size_at (enlarged rows r) ≡ sum_by size_at rows + size_at r
-  sum_enlarged [] r e = cc
-  sum_enlarged (q ∷ []) r e =
-      omega (arith, sum_by-cons size_at (larger q r) [], sum_by-cons size_at q [], size_larger q r (same_path q.path r.path e))
-  sum_enlarged (q ∷ s ∷ qs) r e =
-      omega (arith, sum_by-cons size_at q (enlarged (s ∷ qs) r), sum_by-cons size_at q (s ∷ qs), sum_enlarged (s ∷ qs) r e)
+  pub sum_with : (rows : List RollupRow) (r : RollupRow) → sum_by size_at (with_row rows r) ≡ sum_by size_at rows + size_at r
+  sum_with [] r = omega (arith, sum_by-cons size_at r [])
+  sum_with (q ∷ qs) r = by_order (row_cmp q r) refl (sum_with qs r)
+    where
+      by_order : (o : Ordering) → row_cmp q r ≡ o → sum_by size_at (with_row qs r) ≡ sum_by size_at qs + size_at r
+          → sum_by size_at (with_row_by o q r qs (with_row qs r)) ≡ sum_by size_at (q ∷ qs) + size_at r
+      by_order Less e rest = omega (arith, sum_by-cons size_at q (with_row qs r), sum_by-cons size_at q qs, rest)
+      by_order Equal e rest = omega (arith, sum_by-cons size_at (larger q r) qs, sum_by-cons size_at q qs, size_larger q r (same_path q.path r.path (ap is_eq e)))
+      by_order Greater e rest = omega (arith, sum_by-cons size_at r (q ∷ qs))
 
-  sum_with : (rows : List RollupRow) (r : RollupRow) (b : Bool) → joins_last rows r.path ≡ b → sum_by size_at (cond b (enlarged rows r) (rows ++ r ∷ [])) ≡ sum_by size_at rows + size_at r
-  sum_with rows r true e = sum_enlarged rows r e
-  sum_with rows r false e = sum_by_push size_at rows r
+  sum_rows : (rs rows : List RollupRow) → sum_by size_at (with_rows rows rs) ≡ sum_by size_at rows + sum_by size_at rs
+  sum_rows [] rows = let none : sum_by size_at rows ≡ sum_by size_at rows + 0 = omega arith in none
+  sum_rows (r ∷ rs) rows = omega (arith, sum_rows rs (with_row rows r), sum_with rows r, sum_by-cons size_at r rs)
 
-  pub sum_joined : (rs out : List RollupRow) → sum_by size_at (joined out rs) ≡ sum_by size_at out + sum_by size_at rs
-  sum_joined [] out = let none : sum_by size_at out ≡ sum_by size_at out + 0 = omega arith in none
-  sum_joined (r ∷ rs) out = omega (arith, sum_joined rs (with_row out r), sum_with out r (joins_last out r.path) refl, sum_by-cons size_at r rs)
+  pub sum_merged : (rows others merged : List RollupRow) → AreMerged rows others merged → sum_by size_at merged ≡ sum_by size_at rows + sum_by size_at others
+  sum_merged rows others merged m = ap (sum_by size_at) m.is ∙ omega (arith, sum_rows m.order rows, sum_by-IsPermutation size_at others m.order m.same)
 
-  pub sum_merged : (rows merged : List RollupRow) → AreMerged rows merged → sum_by size_at merged ≡ sum_by size_at rows
-  sum_merged rows merged h =
-      let all = sum_joined (reverse h.falls) [] in
-      let back = sum_by-IsPermutation size_at h.falls (reverse h.falls) (IsPermutation-reverse h.falls) in
-      let same = sum_by-IsPermutation size_at rows h.falls h.same in
-      ap (sum_by size_at) h.is ∙ omega (arith, all, back, same)
+-- the first row is above a row
+abbrev BeginsAbove : List RollupRow → RollupRow → Type 0
+BeginsAbove [] r = Unit {0}
+BeginsAbove (y ∷ ys) r = row_cmp y r ≡ Greater
 
-climbs_from : (rows : List RollupRow) → ((k : ℕ) (d : RollupRow) → k + 1 < length rows → is_lt (row_cmp (get_or rows (k + 1) d) (get_or rows k d)) ≡ false) → Climbs rows
-climbs_from [] h = tt
-climbs_from (r ∷ []) h = tt
-climbs_from (r ∷ s ∷ rows) h = (
-  h 0 r (omega arith),
-  climbs_from (s ∷ rows) (λ k d lt.
-      let next : suc k + 1 ≡ suc (k + 1) = omega arith in
-      subst (λ j. is_lt (row_cmp (get_or (r ∷ s ∷ rows) j d) (get_or (s ∷ rows) k d)) ≡ false) next (h (suc k) d (omega arith))),
-)
+-- a row that comes first
+with_first : (ys : List RollupRow) (r : RollupRow) → BeginsAbove ys r → with_row ys r ≡ r ∷ ys
+with_first [] r h = refl
+with_first (y ∷ ys) r h = ap (λ o. with_row_by o y r ys (with_row ys r)) h
 
--- what falls from the first row on climbs from the last one on
-climbs_back : (rows : List RollupRow) → IsSorted falling rows → Climbs (reverse rows)
-climbs_back rows s = climbs_from (reverse rows) (λ k d lt.
-    let count : length (reverse rows) ≡ length rows = length-reverse rows in
-    let j : ℕ = length rows - 1 - (k + 1) in
-    let here : get_or (reverse rows) (k + 1) d ≡ get_or rows j d = get_or-reverse rows (k + 1) d (omega arith) in
-    let last : length rows - 1 - k ≡ j + 1 = omega arith in
-    let there : get_or (reverse rows) k d ≡ get_or rows (j + 1) d = get_or-reverse rows k d (omega arith) ∙ ap (λ i. get_or rows i d) last in
-    ap (λ r. is_lt (row_cmp r (get_or (reverse rows) k d))) here ∙ (ap (λ r. is_lt (row_cmp (get_or rows j d) r)) there ∙ s j d (omega arith) (omega arith)))
-
-pub strict_merged : (rows merged : List RollupRow) → AreMerged rows merged → IsStrictlySortedBy row_cmp merged
+-- rows before the last one, which is not above a row, are below it
+under : (q s : RollupRow) (qs : List RollupRow) (r : RollupRow) → Strict (q ∷ s ∷ qs) → EndsUpto (s ∷ qs) r → row_cmp q r ≡ Less
 unfolding IsStrictlySortedBy
-strict_merged rows merged h = subst Strict (sym h.is) (strict_joined (reverse h.falls) [] tt (λ r qs e. tt) (climbs_back h.falls h.sorted))
+under q s [] r t h = below_then q s r t.0.0 (not_above s r h)
+under q s (u ∷ qs) r t h = path_total.trans q.path s.path r.path t.0.0 (under s u qs r t.1 h)
 
-pub all_merged : (P : RollupRow → Type 0) → ((q r : RollupRow) → P q → P (larger q r)) → (rows merged : List RollupRow) → AreMerged rows merged → All P rows → All P merged
-all_merged P keeps rows merged h all =
-    subst (All P) (sym h.is) (All-from_recursion P (joined [] (reverse h.falls)) (all_joined P keeps (reverse h.falls) [] tt
-    (recursion_from_All P (reverse h.falls) (All-permutation P h.falls (reverse h.falls) (IsPermutation-reverse h.falls) (All-permutation P rows h.falls h.same all)))))
+-- a row between rows that are not above it and rows that are
+with_middle : (xs ys : List RollupRow) (r : RollupRow) → Strict xs → EndsUpto xs r → BeginsAbove ys r → with_row (xs ++ ys) r ≡ pushed xs r ++ ys
+unfolding IsStrictlySortedBy
+with_middle [] ys r t h k = with_first ys r k
+with_middle (q ∷ []) ys r t h k = by_order (row_cmp q r) refl
+  where
+    by_order : (o : Ordering) → row_cmp q r ≡ o → with_row_by o q r ys (with_row ys r) ≡ cond (is_eq o) (larger q r ∷ []) (q ∷ r ∷ []) ++ ys
+    by_order Less e = ap (λ l. q ∷ l) (with_first ys r k)
+    by_order Equal e = refl
+    by_order Greater e = absurd (let h2 : is_lt Less ≡ false = ap is_lt (sym (turned q r Greater e)) ∙ h in cc)
+with_middle (q ∷ s ∷ qs) ys r t h k =
+    ap (λ o. with_row_by o q r (s ∷ (qs ++ ys)) (with_row (s ∷ (qs ++ ys)) r)) (under q s qs r t h)
+    ∙ (ap (λ l. q ∷ l) (with_middle (s ∷ qs) ys r t.1 h k) ∙ by_join (joins_last (s ∷ qs) r.path))
+  where
+    by_join : (b : Bool) → q ∷ (cond b (enlarged (s ∷ qs) r) ((s ∷ qs) ++ r ∷ []) ++ ys) ≡ cond b (enlarged (q ∷ s ∷ qs) r) ((q ∷ s ∷ qs) ++ r ∷ []) ++ ys
+    by_join true = refl
+    by_join false = refl
+
+-- where rows end that one is added to
+upto_push : (rows : List RollupRow) (r s : RollupRow) → is_lt (row_cmp s r) ≡ false → EndsUpto (rows ++ r ∷ []) s
+upto_push [] r s h = h
+upto_push (q ∷ []) r s h = h
+upto_push (q ∷ t ∷ qs) r s h = upto_push (t ∷ qs) r s h
+
+upto_enlarged : (rows : List RollupRow) (r s : RollupRow) → joins_last rows r.path ≡ true → is_lt (row_cmp s r) ≡ false → EndsUpto (enlarged rows r) s
+upto_enlarged [] r s e h = cc
+upto_enlarged (q ∷ []) r s e h = ap (λ p. is_lt (path_cmp s.path p)) (same_path q.path r.path e) ∙ h
+upto_enlarged (q ∷ t ∷ []) r s e h = upto_enlarged (t ∷ []) r s e h
+upto_enlarged (q ∷ t ∷ u ∷ qs) r s e h = upto_enlarged (t ∷ u ∷ qs) r s e h
+
+pub upto_pushed : (rows : List RollupRow) (r s : RollupRow) → is_lt (row_cmp s r) ≡ false → EndsUpto (pushed rows r) s
+upto_pushed rows r s h = by_join (joins_last rows r.path) refl
+  where
+    by_join : (b : Bool) → joins_last rows r.path ≡ b → EndsUpto (cond b (enlarged rows r) (rows ++ r ∷ [])) s
+    by_join true e = upto_enlarged rows r s e h
+    by_join false e = upto_push rows r s h
+
+length-enlarged : (rows : List RollupRow) (r : RollupRow) → length (enlarged rows r) ≡ length rows
+length-enlarged [] r = refl
+length-enlarged (q ∷ []) r = refl
+length-enlarged (q ∷ s ∷ qs) r = ap suc (length-enlarged (s ∷ qs) r)
+
+pub length-pushed : (rows : List RollupRow) (r : RollupRow) → length (pushed rows r) ≤ length rows + 1
+length-pushed rows r = by_join (joins_last rows r.path)
+  where
+    by_join : (b : Bool) → length (cond b (enlarged rows r) (rows ++ r ∷ [])) ≤ length rows + 1
+    by_join true = omega (arith, length-enlarged rows r)
+    by_join false = omega (arith, length-append rows (r ∷ []))
 
 -- the last row, as `last` gives it
 pub joins_last-get : (rows : List RollupRow) (p : List (List ℕ)) (d : RollupRow) (n : ℕ) → length rows ≡ suc n → joins_last rows p ≡ is_path (get_or rows n d).path p
@@ -264,31 +216,188 @@ set_larger (q ∷ []) r d (suc n) e = absurd (omega arith)
 set_larger (q ∷ s ∷ qs) r d zero e = absurd (omega arith)
 set_larger (q ∷ s ∷ qs) r d (suc n) e = ap (λ l. q ∷ l) (set_larger (s ∷ qs) r d n (omega arith))
 
--- a row taken from the end and joined
-pub joins-next : (rows rest out new all : List RollupRow) (r : RollupRow) → rows ≡ rest ++ r ∷ [] → new ≡ with_row out r → joined out (reverse rows) ≡ all → joined new (reverse rest) ≡ all
-joins-next rows rest out new all r e made so_far =
-    let back : reverse rows ≡ r ∷ reverse rest = ap reverse e ∙ reverse-append rest (r ∷ []) in
-    ap (λ xs. joined xs (reverse rest)) made ∙ (sym (ap (joined out) back) ∙ so_far)
+-- the first rows of ordered ones
+front_all : (P : RollupRow → Type 0) (xs ys : List RollupRow) → AllByRecursion P (xs ++ ys) → AllByRecursion P xs
+front_all P [] ys h = tt
+front_all P (x ∷ xs) ys h = (h.0, front_all P xs ys h.1)
 
-fits_one : (f : RollupRow → ℕ) (adds : (q r : RollupRow) → f (larger q r) ≡ f q + f r) (rows rest out new : List RollupRow) (r : RollupRow) → rows ≡ rest ++ r ∷ [] → new ≡ with_row out r → sum_by f new + sum_by f rest ≡ sum_by f out + sum_by f rows
-fits_one f adds rows rest out new r e made =
-    omega (arith, ap (sum_by f) made, sum_with (λ p. true) f adds out r (joins_last out r.path) refl, ap (sum_by f) e, sum_by_push f rest r)
+strict_front : (xs ys : List RollupRow) → Strict (xs ++ ys) → Strict xs
+unfolding IsStrictlySortedBy
+strict_front [] ys t = tt
+strict_front (x ∷ xs) ys t = (front_all (λ y. row_cmp x y ≡ Less) xs ys t.0, strict_front xs ys t.1)
 
-pub fits-next : (rows rest out new : List RollupRow) (r : RollupRow) → rows ≡ rest ++ r ∷ [] → new ≡ with_row out r → FitTogether out rows → FitTogether new rest
-fits-next rows rest out new r e made h = record {
-  vm = omega (arith, fits_one (λ (q : RollupRow). q.vm) (λ q s. refl) rows rest out new r e made, h.vm);
-  file = omega (arith, fits_one (λ (q : RollupRow). q.file) (λ q s. refl) rows rest out new r e made, h.file);
+-- rows that end up to a row, by all of them
+pub ends_all : (xs : List RollupRow) (r : RollupRow) → All (λ (q : RollupRow). is_le (path_cmp q.path r.path) ≡ true) xs → EndsUpto xs r
+ends_all [] r h = tt
+ends_all (q ∷ []) r h = not_less q r (h 0 q (omega arith))
+ends_all (q ∷ s ∷ qs) r h = ends_all (s ∷ qs) r (λ k d lt. h (suc k) d (omega arith))
+
+begins_all : (ys : List RollupRow) (r : RollupRow) → All (λ (q : RollupRow). is_gt (path_cmp q.path r.path) ≡ true) ys → BeginsAbove ys r
+begins_all [] r h = tt
+begins_all (y ∷ ys) r h = greater_is (row_cmp y r) (h 0 y (omega arith))
+
+-- what a search among rising rows asks, and one among those above, the greatest first
+pub rising_parts : (rows : List RollupRow) (r : RollupRow) → Strict rows → IsPartitionedBy (λ (q : RollupRow). is_le (path_cmp q.path r.path)) rows
+rising_parts rows r t i j d le lt h = by_place (cases_eq i j)
+  where
+    by_place : ((i ≡ j) ⊎ (i ≡ j → ⊥)) → is_le (row_cmp (get_or rows i d) r) ≡ true
+    by_place (inl e) = subst (λ k. is_le (row_cmp (get_or rows k d) r) ≡ true) (sym e) h
+    by_place (inr n) = ap is_le (below_then (get_or rows i d) (get_or rows j d) r (Less-from_sorted row_cmp rows i j d t (omega arith) lt) h)
+
+above_get : (rows above : List RollupRow) (k : ℕ) (d : RollupRow) → k < length above → get_or (rows ++ reverse above) (length rows + (length above - 1 - k)) d ≡ get_or above k d
+above_get rows above k d lt =
+    let at : length above - 1 - (length above - 1 - k) ≡ k = omega arith in
+    get_or-append-add rows (reverse above) (length above - 1 - k) d ∙ (get_or-reverse above (length above - 1 - k) d (omega arith) ∙ ap (λ i. get_or above i d) at)
+
+above_falls : (rows above : List RollupRow) (i j : ℕ) (d : RollupRow) → Strict (rows ++ reverse above) → i < j → j < length above → row_cmp (get_or above j d) (get_or above i d) ≡ Less
+above_falls rows above i j d t lt within =
+    let less = Less-from_sorted row_cmp (rows ++ reverse above) (length rows + (length above - 1 - j)) (length rows + (length above - 1 - i)) d t (omega arith) (omega (arith, length-append rows (reverse above), length-reverse above)) in
+    ap (λ q. row_cmp q (get_or above i d)) (sym (above_get rows above j d within)) ∙ (ap (row_cmp (get_or (rows ++ reverse above) (length rows + (length above - 1 - j)) d)) (sym (above_get rows above i d (omega arith))) ∙ less)
+
+pub falling_parts : (rows above : List RollupRow) (r : RollupRow) → Strict (rows ++ reverse above) → IsPartitionedBy (λ (q : RollupRow). is_gt (path_cmp q.path r.path)) above
+falling_parts rows above r t i j d le lt h = by_place (cases_eq i j)
+  where
+    by_place : ((i ≡ j) ⊎ (i ≡ j → ⊥)) → is_gt (row_cmp (get_or above i d) r) ≡ true
+    by_place (inl e) = subst (λ k. is_gt (row_cmp (get_or above k d) r) ≡ true) (sym e) h
+    by_place (inr n) =
+        let far = turned (get_or above j d) r Greater (greater_is (row_cmp (get_or above j d) r) h) in
+        ap is_gt (turned r (get_or above i d) Less (path_total.trans r.path (get_or above j d).path (get_or above i d).path far (above_falls rows above i j d t (omega arith) lt)))
+
+-- rows taken from the end and put behind others, and back
+pub moved_same : {X : Type 0} (rows above : List X) (kept : ℕ) → (rows ++ reverse (drop kept above)) ++ reverse (take kept above) ≡ rows ++ reverse above
+moved_same rows above kept =
+    append_assoc rows (reverse (drop kept above)) (reverse (take kept above))
+    ∙ ap (λ l. rows ++ l) (sym (reverse-append (take kept above) (drop kept above)) ∙ ap reverse (take-append-drop kept above))
+
+pub parted_same : {X : Type 0} (rows above : List X) (kept : ℕ) → above ≡ [] ++ reverse (drop kept rows) → take kept rows ++ reverse above ≡ rows
+parted_same rows above kept e = ap (λ l. take kept rows ++ reverse l) e ∙ (ap (λ l. take kept rows ++ l) (reverse-reverse (drop kept rows)) ∙ take-append-drop kept rows)
+
+-- Rows of before, and those above, the greatest first: what is not above a row has come back, and the row stands
+-- behind it.
+module _ (rows above : List RollupRow) (r : RollupRow) (kept : ℕ) (t : Strict (rows ++ reverse above)) (ends : EndsUpto rows r) (within : kept ≤ length above)
+    (split : IsPartitionPoint (λ (q : RollupRow). is_gt (path_cmp q.path r.path) ≡ true) (λ (q : RollupRow). is_gt (path_cmp q.path r.path) ≡ false) above kept) where
+  ends_back : EndsUpto (rows ++ reverse (drop kept above)) r
+  ends_back = by_rest (drop kept above) refl
+    where
+      by_rest : (rest : List RollupRow) → drop kept above ≡ rest → EndsUpto (rows ++ reverse rest) r
+      by_rest [] e = subst (λ l. EndsUpto l r) (sym (append-nil rows)) ends
+      by_rest (q ∷ qs) e =
+          let first : get_or above (kept + 0) q ≡ q = sym (get_or-drop kept above 0 q) ∙ ap (λ l. get_or l 0 q) e in
+          let more : suc (length qs) ≡ length above - kept = sym (ap length e) ∙ length-drop kept above in
+          let le : is_le (row_cmp q r) ≡ true = subst (λ s. is_le (row_cmp s r) ≡ true) first (not_greater (row_cmp (get_or above (kept + 0) q) r) (split.1 (kept + 0) q (omega arith) (omega arith))) in
+          subst (λ l. EndsUpto (rows ++ l) r) (sym (reverse-append (q ∷ []) qs))
+          (subst (λ l. EndsUpto l r) (append_assoc rows (reverse qs) (q ∷ [])) (upto_push (rows ++ reverse qs) q r (not_less q r le)))
+
+  begins_kept : BeginsAbove (reverse (take kept above)) r
+  begins_kept =
+      begins_all (reverse (take kept above)) r (All-permutation (λ (q : RollupRow). is_gt (path_cmp q.path r.path) ≡ true) (take kept above) (reverse (take kept above)) (IsPermutation-reverse (take kept above))
+      (λ k d lt.
+      let count = length-take-le kept above within in
+      subst (λ (q : RollupRow). is_gt (path_cmp q.path r.path) ≡ true) (sym (get_or-take kept above k d (omega arith))) (split.0 k d (omega arith) (omega arith))))
+
+  pub inserted : pushed (rows ++ reverse (drop kept above)) r ++ reverse (take kept above) ≡ with_row (rows ++ reverse above) r
+  inserted =
+      let front = strict_front (rows ++ reverse (drop kept above)) (reverse (take kept above)) (subst Strict (sym (moved_same rows above kept)) t) in
+      sym (with_middle (rows ++ reverse (drop kept above)) (reverse (take kept above)) r front ends_back begins_kept) ∙ ap (λ l. with_row l r) (moved_same rows above kept)
+
+-- rows that are put in one after the other
+climbs_from : (rows : List RollupRow) → ((k : ℕ) (d : RollupRow) → k + 1 < length rows → is_lt (row_cmp (get_or rows (k + 1) d) (get_or rows k d)) ≡ false) → Climbs rows
+climbs_from [] h = tt
+climbs_from (r ∷ []) h = tt
+climbs_from (r ∷ s ∷ rows) h = (
+  h 0 r (omega arith),
+  climbs_from (s ∷ rows) (λ k d lt.
+      let next : suc k + 1 ≡ suc (k + 1) = omega arith in
+      subst (λ j. is_lt (row_cmp (get_or (r ∷ s ∷ rows) j d) (get_or (s ∷ rows) k d)) ≡ false) next (h (suc k) d (omega arith))),
+)
+
+-- what falls from the first row on climbs from the last one on
+pub climbs_back : (rows : List RollupRow) → IsSorted falling rows → Climbs (reverse rows)
+climbs_back rows s = climbs_from (reverse rows) (λ k d lt.
+    let count : length (reverse rows) ≡ length rows = length-reverse rows in
+    let j : ℕ = length rows - 1 - (k + 1) in
+    let here : get_or (reverse rows) (k + 1) d ≡ get_or rows j d = get_or-reverse rows (k + 1) d (omega arith) in
+    let last : length rows - 1 - k ≡ j + 1 = omega arith in
+    let there : get_or (reverse rows) k d ≡ get_or rows (j + 1) d = get_or-reverse rows k d (omega arith) ∙ ap (λ i. get_or rows i d) last in
+    ap (λ r. is_lt (row_cmp r (get_or (reverse rows) k d))) here ∙ (ap (λ r. is_lt (row_cmp (get_or rows j d) r)) there ∙ s j d (omega arith) (omega arith)))
+
+back_of : (new rest : List RollupRow) (r : RollupRow) → new ≡ rest ++ r ∷ [] → reverse new ≡ r ∷ reverse rest
+back_of new rest r e = ap reverse e ∙ reverse-append rest (r ∷ [])
+
+pub next_same : (new rest rows out all : List RollupRow) (r : RollupRow) → new ≡ rest ++ r ∷ [] → out ≡ with_row rows r → with_rows rows (reverse new) ≡ all → with_rows out (reverse rest) ≡ all
+next_same new rest rows out all r e made so_far = ap (λ l. with_rows l (reverse rest)) made ∙ (sym (ap (with_rows rows) (back_of new rest r e)) ∙ so_far)
+
+pub next_climbs : (new rest : List RollupRow) (r : RollupRow) → new ≡ rest ++ r ∷ [] → Climbs (reverse new) → Climbs (reverse rest)
+next_climbs new rest r e h = tail_climbs (reverse rest) (subst Climbs (back_of new rest r e) h)
+  where
+    tail_climbs : (rs : List RollupRow) → Climbs (r ∷ rs) → Climbs rs
+    tail_climbs [] h = tt
+    tail_climbs (s ∷ rs) h = h.1
+
+pub next_ends : (new rest out : List RollupRow) (r : RollupRow) → new ≡ rest ++ r ∷ [] → Climbs (reverse new) → ((s : RollupRow) → is_lt (row_cmp s r) ≡ false → EndsUpto out s) → EndsUptoFirst out (reverse rest)
+next_ends new rest out r e h ends = by_first (reverse rest) (subst Climbs (back_of new rest r e) h)
+  where
+    by_first : (rs : List RollupRow) → Climbs (r ∷ rs) → EndsUptoFirst out rs
+    by_first [] h = tt
+    by_first (s ∷ rs) h = ends s h.0
+
+pub first_ends : (new rest rows : List RollupRow) (r : RollupRow) → new ≡ rest ++ r ∷ [] → EndsUptoFirst rows (reverse new) → EndsUpto rows r
+first_ends new rest rows r e h = subst (EndsUptoFirst rows) (back_of new rest r e) h
+
+pub next_strict : (rows out : List RollupRow) (r : RollupRow) → out ≡ with_row rows r → Strict rows → Strict out
+next_strict rows out r made t = subst Strict (sym made) (strict_with rows r t)
+
+fits_one : (f : RollupRow → ℕ) (adds : (q r : RollupRow) → f (larger q r) ≡ f q + f r) (new rest rows out : List RollupRow) (r : RollupRow) → new ≡ rest ++ r ∷ [] → out ≡ with_row rows r → sum_by f out + sum_by f rest ≡ sum_by f rows + sum_by f new
+fits_one f adds new rest rows out r e made = omega (arith, ap (sum_by f) made, sum_with (λ p. true) f adds rows r, ap (sum_by f) e, sum_by_push f rest r)
+
+pub next_fits : (new rest rows out : List RollupRow) (r : RollupRow) → new ≡ rest ++ r ∷ [] → out ≡ with_row rows r → FitTogether rows new → FitTogether out rest
+next_fits new rest rows out r e made h = record {
+  vm = omega (arith, fits_one (λ (q : RollupRow). q.vm) (λ q s. refl) new rest rows out r e made, h.vm);
+  file = omega (arith, fits_one (λ (q : RollupRow). q.file) (λ q s. refl) new rest rows out r e made, h.file);
 }
 
--- two lists that fit together, one after the other
-pub fits-append : (rows others : List RollupRow) → FitTogether rows others → FitTogether (rows ++ others) []
-fits-append rows others h = record {
-  vm = omega (arith, sum_by-append (λ (q : RollupRow). q.vm) rows others, h.vm);
-  file = omega (arith, sum_by-append (λ (q : RollupRow). q.file) rows others, h.file);
+pub first_fits : (new rest rows : List RollupRow) (r : RollupRow) → new ≡ rest ++ r ∷ [] → FitTogether rows new → FitTogether rows (r ∷ [])
+first_fits new rest rows r e h = record {
+  vm = omega (arith, ap (sum_by (λ (q : RollupRow). q.vm)) e, sum_by_push (λ (q : RollupRow). q.vm) rest r, sum_by-cons (λ (q : RollupRow). q.vm) r [], h.vm);
+  file = omega (arith, ap (sum_by (λ (q : RollupRow). q.file)) e, sum_by_push (λ (q : RollupRow). q.file) rest r, sum_by-cons (λ (q : RollupRow). q.file) r [], h.file);
 }
 
-pub fits-permuted : (rows others : List RollupRow) → IsPermutation rows others → FitTogether rows [] → FitTogether others []
-fits-permuted rows others p h = record {
-  vm = omega (arith, sum_by-IsPermutation (λ (q : RollupRow). q.vm) rows others p, h.vm);
-  file = omega (arith, sum_by-IsPermutation (λ (q : RollupRow). q.file) rows others p, h.file);
+-- the first of two parts fits where both do
+pub front_fits : (xs ys all others : List RollupRow) → xs ++ ys ≡ all → FitTogether all others → FitTogether xs others
+front_fits xs ys all others e h = record {
+  vm = omega (arith, sum_by-append (λ (q : RollupRow). q.vm) xs ys, ap (sum_by (λ (q : RollupRow). q.vm)) e, h.vm);
+  file = omega (arith, sum_by-append (λ (q : RollupRow). q.file) xs ys, ap (sum_by (λ (q : RollupRow). q.file)) e, h.file);
+}
+
+-- the least new row stands last
+pub last_first : (rows new : List RollupRow) (r : RollupRow) → slice_get new (length new - 1) ≡ Some r → EndsUpto rows r → EndsUptoFirst rows (reverse new)
+last_first rows new r at h = by_list (reverse new) refl
+  where
+    by_list : (rs : List RollupRow) → reverse new ≡ rs → EndsUptoFirst rows rs
+    by_list [] e = tt
+    by_list (s ∷ rs) e =
+        let within = slice_get_within new (length new - 1) r at in
+        let none : length new - 1 - 0 ≡ length new - 1 = omega arith in
+        let is : r ≡ s = sym (get_or_from_slice_get new (length new - 1) r r at) ∙ (sym (get_or-reverse new 0 r (omega arith) ∙ ap (λ i. get_or new i r) none) ∙ ap (λ l. get_or l 0 r) e) in
+        subst (EndsUpto rows) is h
+
+pub none_first : (rows new : List RollupRow) → slice_get new (length new - 1) ≡ None → EndsUptoFirst rows (reverse new)
+none_first rows [] e = tt
+none_first rows (r ∷ new) e = absurd (let some = slice_get-get_or (r ∷ new) (length (r ∷ new) - 1) r (omega arith) in cc)
+
+-- new rows that come in another order
+pub moved_fits : (rows others moved : List RollupRow) → IsPermutation others moved → FitTogether rows others → FitTogether rows moved
+moved_fits rows others moved p h = record {
+  vm = omega (arith, sum_by-IsPermutation (λ (q : RollupRow). q.vm) others moved p, h.vm);
+  file = omega (arith, sum_by-IsPermutation (λ (q : RollupRow). q.file) others moved p, h.file);
+}
+
+pub alone_fits : (rows others : List RollupRow) → FitTogether rows others → FitTogether [] others
+alone_fits rows others h = record { vm = omega (arith, h.vm); file = omega (arith, h.file) }
+
+pub merged_from : (rows others moved merged : List RollupRow) → IsPermutation others moved → merged ≡ with_rows rows (reverse moved) → AreMerged rows others merged
+merged_from rows others moved merged p e = record {
+  order = reverse moved;
+  same = IsPermutation-trans others moved (reverse moved) p (IsPermutation-reverse moved);
+  is = e;
 }

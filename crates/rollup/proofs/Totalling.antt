@@ -1,10 +1,8 @@
 -- What is known of a rollup after a file.
-use Rattle.std.proofs.Common.{◌≡◌, ◌+◌, ◌-◌, ◌<◌, ◌≤◌, ◌^◌, ℕ, Bool, true, cond, List, ◌++◌, map, length, refl, sym, ap, subst, ◌∙◌, inl, inr, ◌⊎◌, arith}
+use Rattle.std.proofs.Common.{◌≡◌, ◌+◌, ◌-◌, ◌<◌, ◌≤◌, ◌^◌, ℕ, Bool, true, List, map, length, refl, sym, ap, subst, ◌∙◌, inl, inr, ◌⊎◌, arith}
 use Rattle.std.specs.Prelude.{All, slice_index_or}
 use Rattle.std.specs.List.{sum_by}
 use Rattle.std.proofs.lemmas.List.{get_or-map, length-map}
-use Rattle.std.proofs.lemmas.List.Elements.{All-append}
-use Rattle.std.proofs.lemmas.List.Sums.{sum_by-append}
 use Rattle.size_model.specs.Numbered.{text_of}
 use Rattle.rollup.specs.declared.cursor.Part.TheVariants.{File, Vm}
 use Rattle.rollup.specs.declared.table.RollupRow.{RollupRow}
@@ -34,15 +32,13 @@ module _ (pool : List (List ℕ)) (old : List RollupRow) (es : List Entry) where
   }
 
   -- the sizes of old rows and of a file's
-  pub file_added : (test : List (List ℕ) → Bool) (new : List RollupRow) → AreMerged (old ++ fresh) new → file_where test new ≡ file_where test old + weight File (λ ns. test (map (text_of pool) ns)) es
+  pub file_added : (test : List (List ℕ) → Bool) (new : List RollupRow) → AreMerged old fresh new → file_where test new ≡ file_where test old + weight File (λ ns. test (map (text_of pool) ns)) es
   file_added test new m =
-      sum_merged test (λ (r : RollupRow). r.file) (λ q r. refl) (old ++ fresh) new m ∙ (sum_by-append (λ (r : RollupRow). cond (test r.path) r.file 0) old fresh
-      ∙ ap (λ k. file_where test old + k) (rows-weigh File (λ (r : RollupRow). r.file) pool test (λ e. refl) es))
+      sum_merged test (λ (r : RollupRow). r.file) (λ q r. refl) old fresh new m ∙ ap (λ k. file_where test old + k) (rows-weigh File (λ (r : RollupRow). r.file) pool test (λ e. refl) es)
 
-  pub vm_added : (test : List (List ℕ) → Bool) (new : List RollupRow) → AreMerged (old ++ fresh) new → vm_where test new ≡ vm_where test old + weight Vm (λ ns. test (map (text_of pool) ns)) es
+  pub vm_added : (test : List (List ℕ) → Bool) (new : List RollupRow) → AreMerged old fresh new → vm_where test new ≡ vm_where test old + weight Vm (λ ns. test (map (text_of pool) ns)) es
   vm_added test new m =
-      sum_merged test (λ (r : RollupRow). r.vm) (λ q r. refl) (old ++ fresh) new m ∙ (sum_by-append (λ (r : RollupRow). cond (test r.path) r.vm 0) old fresh
-      ∙ ap (λ k. vm_where test old + k) (rows-weigh Vm (λ (r : RollupRow). r.vm) pool test (λ e. refl) es))
+      sum_merged test (λ (r : RollupRow). r.vm) (λ q r. refl) old fresh new m ∙ ap (λ k. vm_where test old + k) (rows-weigh Vm (λ (r : RollupRow). r.vm) pool test (λ e. refl) es)
 
   all_fresh : (P : RollupRow → Type 0) → ((k : ℕ) (d : Entry) → k < length es → P (row_of pool (slice_index_or es k d))) → All P fresh
   all_fresh P h k d lt =
@@ -53,16 +49,16 @@ module _ (pool : List (List ℕ)) (old : List RollupRow) (es : List Entry) where
   larger_some q r (inl h) = inl (omega arith)
   larger_some q r (inr h) = inr (omega arith)
 
-  pub new_totals : (depth lengths mapped len n limit : ℕ) (new : List RollupRow) → IsTotals depth old lengths mapped → All (IsEntry depth limit) es → AreMerged (old ++ fresh) new
+  pub new_totals : (depth lengths mapped len n limit : ℕ) (new : List RollupRow) → IsTotals depth old lengths mapped → All (IsEntry depth limit) es → AreMerged old fresh new
       → weight File (λ _. true) es ≤ len → weight Vm (λ _. true) es ≤ n → lengths + len ≤ 2 ^ 63 - 1 → mapped + n ≤ 2 ^ 63 - 1 → IsTotals depth new (lengths + len) (mapped + n)
   new_totals depth lengths mapped len n limit new t all m file vm len_fits n_fits = record {
-    ordered = strict_merged (old ++ fresh) new m;
-    deep = all_merged (λ (r : RollupRow). length r.path ≡ depth) (λ q r h. h) (old ++ fresh) new m
-        (All-append (λ (r : RollupRow). length r.path ≡ depth) old fresh t.deep (all_fresh (λ (r : RollupRow). length r.path ≡ depth) (λ k d lt. length-map (slice_index_or es k d).numbers (text_of pool) ∙ (all k d lt).deep)));
-    some = all_merged (λ (r : RollupRow). (0 < r.vm) ⊎ (0 < r.file)) larger_some (old ++ fresh) new m
-        (All-append (λ (r : RollupRow). (0 < r.vm) ⊎ (0 < r.file)) old fresh t.some (all_fresh (λ (r : RollupRow). (0 < r.vm) ⊎ (0 < r.file)) (λ k d lt. (all k d lt).some)));
-    file = omega (arith, sum_merged (λ _. true) (λ (r : RollupRow). r.file) (λ q r. refl) (old ++ fresh) new m, sum_by-append (λ (r : RollupRow). r.file) old fresh, file_all, file, t.file);
-    vm = omega (arith, sum_merged (λ _. true) (λ (r : RollupRow). r.vm) (λ q r. refl) (old ++ fresh) new m, sum_by-append (λ (r : RollupRow). r.vm) old fresh, vm_all, vm, t.vm);
+    ordered = strict_merged old fresh new m t.ordered;
+    deep = all_merged (λ (r : RollupRow). length r.path ≡ depth) (λ q r h. h) old fresh new m t.deep
+        (all_fresh (λ (r : RollupRow). length r.path ≡ depth) (λ k d lt. length-map (slice_index_or es k d).numbers (text_of pool) ∙ (all k d lt).deep));
+    some = all_merged (λ (r : RollupRow). (0 < r.vm) ⊎ (0 < r.file)) larger_some old fresh new m t.some
+        (all_fresh (λ (r : RollupRow). (0 < r.vm) ⊎ (0 < r.file)) (λ k d lt. (all k d lt).some));
+    file = omega (arith, sum_merged (λ _. true) (λ (r : RollupRow). r.file) (λ q r. refl) old fresh new m, file_all, file, t.file);
+    vm = omega (arith, sum_merged (λ _. true) (λ (r : RollupRow). r.vm) (λ q r. refl) old fresh new m, vm_all, vm, t.vm);
     lengths_fit = len_fits;
     mapped_fit = n_fits;
   }

@@ -1,5 +1,6 @@
 pub mod Adding
 pub mod Counted
+pub mod Order
 pub mod Rows
 pub mod Sizes
 pub mod Totals

@@ -1,15 +1,54 @@
--- Rows that are joined where they have one path.
-use Rattle.std.specs.Prelude.{◌≡◌, reverse, ◌+◌, ◌≤◌, ◌^◌, ◌-◌, ℕ, Bool, false, if◌then◌else◌, List, [], ◌∷◌, ◌++◌}
+-- Rows in order, and rows that are put among them.
+use Rattle.std.specs.Prelude.{◌≡◌, ◌+◌, ◌≤◌, ◌^◌, ◌-◌, ℕ, Bool, true, false, if◌then◌else◌, List, [], ◌∷◌, ◌++◌}
 use Rattle.std.specs.List.{sum_by}
-use Rattle.std.specs.List.Sorted.{IsPermutation, IsSorted}
+use Rattle.std.specs.List.Sorted.{IsPartitionPoint, IsPermutation}
+use Rattle.std.specs.Ordering.{is_gt, is_le, is_lt}
 use Rattle.std.specs.declared.cmp.Ordering.{Ordering}
+use Rattle.std.specs.declared.cmp.Ordering.TheVariants.{Less, Equal, Greater}
 use Rattle.rollup.specs.declared.table.RollupRow.{RollupRow}
-use Rattle.rollup.specs.Totals.{row_cmp}
+use Rattle.rollup.specs.Totals.{path_cmp, row_cmp}
 use Rattle.rollup.specs.Adding.{is_path}
 
 -- the other way round
 abbrev pub falling : RollupRow → RollupRow → Ordering
 falling a b = row_cmp b a
+
+-- the path of a row is above one, and it is not
+abbrev pub is_above : List (List ℕ) → RollupRow → Bool
+is_above p r = is_gt (path_cmp r.path p)
+
+abbrev pub is_upto : List (List ℕ) → RollupRow → Bool
+is_upto p r = is_le (path_cmp r.path p)
+
+-- a test holds of the first so many rows, and of no other
+abbrev pub Splits : (RollupRow → Bool) → List RollupRow → ℕ → Type 0
+Splits test rows n = IsPartitionPoint (λ r. test r ≡ true) (λ r. test r ≡ false) rows n
+
+-- a row with the sizes of another one added to its own
+abbrev pub larger : RollupRow → RollupRow → RollupRow
+larger q r = record { path = q.path; vm = q.vm + r.vm; file = q.file + r.file }
+
+-- A row among rows that ascend by path: where one has its path the sizes are added to it, and else it stands before
+-- the first that is above it.
+abbrev pub with_row_by : Ordering → RollupRow → RollupRow → List RollupRow → List RollupRow → List RollupRow
+with_row_by Less q r qs rest = q ∷ rest
+with_row_by Equal q r qs rest = larger q r ∷ qs
+with_row_by Greater q r qs rest = r ∷ q ∷ qs
+
+abbrev pub with_row : List RollupRow → RollupRow → List RollupRow
+with_row [] r = r ∷ []
+with_row (q ∷ qs) r = with_row_by (row_cmp q r) q r qs (with_row qs r)
+
+-- each of these rows in turn
+abbrev pub with_rows : List RollupRow → List RollupRow → List RollupRow
+with_rows rows [] = rows
+with_rows rows (r ∷ rs) = with_rows (with_row rows r) rs
+
+-- the rows with others among them, in whichever order these came
+pub record AreMerged (rows others merged : List RollupRow) : Type 0 where
+  pub order : List RollupRow
+  pub same : IsPermutation others order
+  pub is : merged ≡ with_rows rows order
 
 -- the last row has the path
 abbrev pub joins_last : List RollupRow → List (List ℕ) → Bool
@@ -17,32 +56,34 @@ joins_last [] p = false
 joins_last (q ∷ []) p = is_path q.path p
 joins_last (q ∷ r ∷ qs) p = joins_last (r ∷ qs) p
 
--- a row with the sizes of another one added to its own
-abbrev pub larger : RollupRow → RollupRow → RollupRow
-larger q r = record { path = q.path; vm = q.vm + r.vm; file = q.file + r.file }
-
 -- the list with its last row made larger
 abbrev pub enlarged : List RollupRow → RollupRow → List RollupRow
 enlarged [] r = []
 enlarged (q ∷ []) r = larger q r ∷ []
 enlarged (q ∷ s ∷ qs) r = q ∷ enlarged (s ∷ qs) r
 
-abbrev pub with_row : List RollupRow → RollupRow → List RollupRow
-with_row out r = if joins_last out r.path then enlarged out r else out ++ r ∷ []
+-- a row behind the last one, or joined to it
+abbrev pub pushed : List RollupRow → RollupRow → List RollupRow
+pushed out r = if joins_last out r.path then enlarged out r else out ++ r ∷ []
 
--- each row in turn
-abbrev pub joined : List RollupRow → List RollupRow → List RollupRow
-joined out [] = out
-joined out (r ∷ rs) = joined (with_row out r) rs
+-- the last row is not above a row
+abbrev pub EndsUpto : List RollupRow → RollupRow → Type 0
+EndsUpto [] r = Unit {0}
+EndsUpto (q ∷ []) r = is_lt (row_cmp r q) ≡ false
+EndsUpto (q ∷ s ∷ qs) r = EndsUpto (s ∷ qs) r
+
+-- nor above the first of others
+abbrev pub EndsUptoFirst : List RollupRow → List RollupRow → Type 0
+EndsUptoFirst rows [] = Unit {0}
+EndsUptoFirst rows (r ∷ rs) = EndsUpto rows r
+
+-- no row is above the next one
+abbrev pub Climbs : List RollupRow → Type 0
+Climbs [] = Unit {0}
+Climbs (r ∷ []) = Unit {0}
+Climbs (r ∷ s ∷ rs) = (is_lt (row_cmp s r) ≡ false) × Climbs (s ∷ rs)
 
 -- the sizes of these rows and of those add up to a number that fits
 pub record FitTogether (rows others : List RollupRow) : Type 0 where
   pub vm : sum_by (λ (r : RollupRow). r.vm) rows + sum_by (λ (r : RollupRow). r.vm) others ≤ 2 ^ 63 - 1
   pub file : sum_by (λ (r : RollupRow). r.file) rows + sum_by (λ (r : RollupRow). r.file) others ≤ 2 ^ 63 - 1
-
--- the rows in ascending order, those of one path joined
-pub record AreMerged (rows merged : List RollupRow) : Type 0 where
-  pub falls : List RollupRow
-  pub same : IsPermutation rows falls
-  pub sorted : IsSorted falling falls
-  pub is : merged ≡ joined [] (reverse falls)

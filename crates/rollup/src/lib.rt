@@ -4,7 +4,9 @@
 mod answer;
 mod cursor;
 mod file;
+mod fresh;
 mod merge;
+mod order;
 mod sizes;
 mod table;
 mod walk;

@@ -1,183 +1,149 @@
 //! The rows of before and those of a file, in order, each path once.
 
-ghost use Rattle.std.specs.Prelude.{◌≡◌, ◌+◌, ◌-◌, ◌^◌, ◌<◌, ◌≤◌, ℕ, Bool, List, [], ◌∷◌, ◌++◌, IfOk, OnOk, All, length, map, reverse, slice_index_or};
-ghost use Rattle.std.specs.List.Sorted.{IsPermutation, IsSorted};
-ghost use Rattle.size_model.specs.Numbered.{text_of};
-ghost use Rattle.rollup.specs.Totals.{path_cmp};
-ghost use Rattle.std.specs.Cmp.Lexicographic.{slice_cmp};
-ghost use Rattle.std.specs.Ordering.{nat_cmp};
-ghost use Rattle.rollup.specs.Rows.{AreMerged, FitTogether, falling, joins_last, enlarged, with_row, joined};
-ghost use Rattle.rollup.specs.Sizes.{Entry, IsTable, entries_of, no_entry, row_of};
+ghost use Rattle.std.specs.Prelude.{false, ◌≡◌, ◌+◌, ◌-◌, ◌<◌, ◌≤◌, [], ◌∷◌, ◌++◌, OnOk, OnErr, length, reverse, drop, take, vec_len, vec_capacity};
+ghost use Rattle.std.specs.List.Sorted.{IsSorted, IsStrictlySortedBy, IsPartitionedBy};
+ghost use Rattle.std.specs.Ordering.{is_lt};
+ghost use Rattle.rollup.specs.Totals.{path_cmp, row_cmp};
+ghost use Rattle.rollup.specs.Rows.{Climbs, EndsUpto, EndsUptoFirst, FitTogether, Splits};
+ghost use Rattle.rollup.specs.Rows.{enlarged, falling, is_above, is_upto, joins_last, pushed, with_row, with_rows};
 
-use crate::sizes::PathSizes;
+use crate::order::compare;
 use crate::table::RollupRow;
-use size_core::{Bytes, LabelPool, NoMemory, Path};
-use std::alloc::{AllocError, Global};
+use size_core::{NoMemory, Path};
+use std::alloc::Global;
 use std::cmp::Ordering;
 
-fn compare_labels(a: &Bytes, b: &Bytes) -> Ordering
-    ensures { result ≡ slice_cmp nat_cmp a.now b.now }
+// Moves what stands behind so many rows to the end of others, the last one first.
+fn move_behind(rows: &mut Vec<RollupRow>, kept: usize, to: &mut Vec<RollupRow>)
+    requires kept { kept ≤ vec_len rows.old }
+    requires room { vec_len to.old + (vec_len rows.old - kept) ≤ vec_capacity to.old }
+    ensures rows { rows.new.items ≡ take kept rows.old.items }
+    ensures to { to.new.items ≡ to.old.items ++ reverse (drop kept rows.old.items) }
+    ensures rows_len { vec_len rows.new ≡ kept }
+    ensures to_len { vec_len to.new ≡ vec_len to.old + (vec_len rows.old - kept) }
+    ensures rows_capacity { vec_capacity rows.new ≡ vec_capacity rows.old }
+    ensures to_capacity { vec_capacity to.new ≡ vec_capacity to.old }
 {
-    a.as_slice().cmp(&b.as_slice())
-}
-
-// Compares two paths, label by label.
-fn compare(a: &Path, b: &Path) -> Ordering
-    ensures { result ≡ path_cmp a.now b.now }
-{
-    let count = a.len().min(b.len());
-    for i in 0..count {
-        match compare_labels(a.get(i), b.get(i)) {
-            Ordering::Equal => {}
-            order => return order,
-        }
+    while rows.len() > kept {
+        let Some(row) = rows.pop() else {
+            return;
+        };
+        to.push_reserved(row);
     }
-    a.len().cmp(&b.len())
 }
 
-fn copy_of(alloc: Global, path: &Path) -> Result<Path, NoMemory>
-    ensures { IfOk result (λ p. p ≡ path.now) }
+// How many of these rows, the greatest path first, are above a path.
+fn count_above(rows: &[RollupRow], path: &Path) -> usize
+    requires { IsPartitionedBy (is_above path.now) rows.now }
+    ensures bound { result ≤ length rows.now }
+    ensures split { Splits (is_above path.now) rows.now result }
 {
-    let mut copy = Path::new(alloc);
-    for i in 0..path.len() {
-        copy.push(path.get(i).copy()?)?;
-    }
-    Ok(copy)
+    rows.partition_point(|row| compare(&row.path, path).is_gt())
 }
 
-fn push_copies(rows: &mut Vec<RollupRow>, alloc: Global, old: &[RollupRow]) -> Result<(), NoMemory>
-    ensures { OnOk result (rows.new.items ≡ rows.old.items ++ old.now) }
+// How many of these rows, the least path first, are not above a path.
+fn count_upto(rows: &[RollupRow], path: &Path) -> usize
+    requires { IsPartitionedBy (is_upto path.now) rows.now }
+    ensures bound { result ≤ length rows.now }
+    ensures split { Splits (is_upto path.now) rows.now result }
 {
-    for row in old {
-        rows.push(RollupRow {
-            path: copy_of(alloc, &row.path)?,
-            vm: row.vm,
-            file: row.file,
-        })?;
-    }
-    Ok(())
+    rows.partition_point(|row| compare(&row.path, path).is_le())
 }
 
-// The path that the labels of these numbers spell.
-fn spell(alloc: Global, pool: &LabelPool, numbers: &[usize]) -> Result<Path, NoMemory>
-    requires { All (λ n. n < length pool.now) numbers.now }
-    ensures { IfOk result (λ p. p ≡ map (text_of pool.now) numbers.now) }
+fn joins(rows: &[RollupRow], path: &Path) -> bool
+    ensures { result ≡ joins_last rows.now path.now }
 {
-    let mut path = Path::new(alloc);
-    for number in numbers {
-        path.push(Bytes::of(alloc, pool.get(*number))?)?;
-    }
-    Ok(path)
-}
-
-// The row of an entry.
-fn row_at(
-    alloc: Global,
-    pool: &LabelPool,
-    sizes: &PathSizes,
-    i: usize,
-) -> Result<RollupRow, NoMemory>
-    requires table { IsTable sizes.now }
-    requires within { i < length sizes.now.sizes.items }
-    requires below { All (λ n. n < length pool.now) (slice_index_or (entries_of sizes.now) i no_entry).numbers }
-    requires vm { (slice_index_or (entries_of sizes.now) i no_entry).vm < 2 ^ 64 }
-    requires file { (slice_index_or (entries_of sizes.now) i no_entry).file < 2 ^ 64 }
-    ensures { IfOk result (λ r. r ≡ row_of pool.now (slice_index_or (entries_of sizes.now) i no_entry)) }
-{
-    let size = sizes.sizes[i];
-    Ok(RollupRow {
-        path: spell(alloc, pool, sizes.paths.get(i))?,
-        vm: size.vm as u64,
-        file: size.file as u64,
-    })
-}
-
-fn push_entries(
-    rows: &mut Vec<RollupRow>,
-    alloc: Global,
-    pool: &LabelPool,
-    sizes: &PathSizes,
-) -> Result<(), NoMemory>
-    requires table { IsTable sizes.now }
-    requires below { All (λ (e : Entry). All (λ n. n < length pool.now) e.numbers) (entries_of sizes.now) }
-    requires vm { All (λ (e : Entry). e.vm < 2 ^ 64) (entries_of sizes.now) }
-    requires file { All (λ (e : Entry). e.file < 2 ^ 64) (entries_of sizes.now) }
-    ensures { OnOk result (rows.new.items ≡ rows.old.items ++ map (row_of pool.now) (entries_of sizes.now)) }
-{
-    for i in 0..sizes.sizes.len() {
-        rows.push(row_at(alloc, pool, sizes, i)?)?;
-    }
-    Ok(())
-}
-
-// Puts the greatest path first.
-fn sort_falling(rows: &mut Vec<RollupRow>) -> Result<(), AllocError>
-    ensures same { IsPermutation rows.old.items rows.new.items }
-    ensures sorted { OnOk result (IsSorted falling rows.new.items) }
-{
-    rows.sort_by(|a, b| compare(&b.path, &a.path))
-}
-
-fn joins(out: &[RollupRow], path: &Path) -> bool
-    ensures { result ≡ joins_last out.now path.now }
-{
-    match out.last() {
+    match rows.last() {
         Some(last) => compare(&last.path, path) == Ordering::Equal,
         None => false,
     }
 }
 
 // Adds the sizes of a row to those of the last one.
-fn enlarge(out: &mut Vec<RollupRow>, row: &RollupRow)
-    requires { FitTogether out.old.items (row.now ∷ []) }
-    ensures { out.new.items ≡ enlarged out.old.items row.now }
+fn enlarge(rows: &mut Vec<RollupRow>, row: &RollupRow)
+    requires { FitTogether rows.old.items (row.now ∷ []) }
+    ensures rows { rows.new.items ≡ enlarged rows.old.items row.now }
+    ensures len { vec_len rows.new ≡ vec_len rows.old }
+    ensures capacity { vec_capacity rows.new ≡ vec_capacity rows.old }
 {
-    if let Some(last) = out.last_mut() {
+    if let Some(last) = rows.last_mut() {
         last.vm += row.vm;
         last.file += row.file;
     }
 }
 
-// Adds a row, joined to the last one where they have one path.
-fn push_joined(out: &mut Vec<RollupRow>, row: RollupRow) -> Result<(), NoMemory>
-    requires { FitTogether out.old.items (row ∷ []) }
-    ensures { OnOk result (out.new.items ≡ with_row out.old.items row) }
+// Puts a row behind the last one, joined to it where they have one path.
+fn push(rows: &mut Vec<RollupRow>, row: RollupRow)
+    requires room { vec_len rows.old < vec_capacity rows.old }
+    requires fits { FitTogether rows.old.items (row ∷ []) }
+    ensures rows { rows.new.items ≡ pushed rows.old.items row }
+    ensures len { vec_len rows.new ≤ vec_len rows.old + 1 }
+    ensures capacity { vec_capacity rows.new ≡ vec_capacity rows.old }
 {
-    if joins(out.as_slice(), &row.path) {
-        enlarge(out, &row);
-        return Ok(());
+    if joins(rows.as_slice(), &row.path) {
+        enlarge(rows, &row);
+    } else {
+        rows.push_reserved(row);
     }
-    out.push(row)?;
+}
+
+// Puts a row in its place among the rows of before, of which those above, the greatest first, stand apart. Those
+// that are not above it come back first.
+fn insert(rows: &mut Vec<RollupRow>, above: &mut Vec<RollupRow>, row: RollupRow)
+    requires room { vec_len rows.old + vec_len above.old < vec_capacity rows.old }
+    requires ordered { IsStrictlySortedBy row_cmp (rows.old.items ++ reverse above.old.items) }
+    requires ends { EndsUpto rows.old.items row }
+    requires fits { FitTogether (rows.old.items ++ reverse above.old.items) (row ∷ []) }
+    ensures rows { rows.new.items ++ reverse above.new.items ≡ with_row (rows.old.items ++ reverse above.old.items) row }
+    ensures ends { (s : RollupRow) → is_lt (row_cmp s row) ≡ false → EndsUpto rows.new.items s }
+    ensures room { vec_len rows.new + vec_len above.new ≤ vec_len rows.old + vec_len above.old + 1 }
+    ensures capacity { vec_capacity rows.new ≡ vec_capacity rows.old }
+{
+    let kept = count_above(above.as_slice(), &row.path);
+    move_behind(above, kept, rows);
+    push(rows, row);
+}
+
+// Puts rows, of which the last one is the least, in their places.
+fn insert_all(rows: &mut Vec<RollupRow>, mut above: Vec<RollupRow>, mut new: Vec<RollupRow>)
+    requires room { vec_len rows.old + vec_len above + vec_len new ≤ vec_capacity rows.old }
+    requires ordered { IsStrictlySortedBy row_cmp (rows.old.items ++ reverse above.items) }
+    requires climbs { Climbs (reverse new.items) }
+    requires ends { EndsUptoFirst rows.old.items (reverse new.items) }
+    requires fits { FitTogether (rows.old.items ++ reverse above.items) new.items }
+    ensures { rows.new.items ≡ with_rows (rows.old.items ++ reverse above.items) (reverse new.items) }
+{
+    while let Some(row) = new.pop() {
+        insert(rows, &mut above, row);
+    }
+    move_behind(&mut above, 0, rows);
+}
+
+// How many rows of before are not above the least new one, which stands last.
+fn count_below(rows: &[RollupRow], new: &[RollupRow]) -> usize
+    requires { IsStrictlySortedBy row_cmp rows.now }
+    ensures bound { result ≤ length rows.now }
+    ensures ends { EndsUptoFirst (take result rows.now) (reverse new.now) }
+{
+    match new.last() {
+        Some(row) => count_upto(rows, &row.path),
+        None => rows.len(),
+    }
+}
+
+/// Puts new rows, the greatest path first, in their places among those of before, which ascend by path. The sizes
+/// of a path that is there already are added to its row. After a refusal the rows are as they were.
+pub fn merge(alloc: Global, rows: &mut Vec<RollupRow>, new: Vec<RollupRow>) -> Result<(), NoMemory>
+    requires ordered { IsStrictlySortedBy row_cmp rows.old.items }
+    requires falls { IsSorted falling new.items }
+    requires fits { FitTogether rows.old.items new.items }
+    ensures ok { OnOk result (rows.new.items ≡ with_rows rows.old.items (reverse new.items)) }
+    ensures err { OnErr result (rows.new.items ≡ rows.old.items) }
+{
+    rows.reserve(new.len())?;
+    let kept = count_below(rows.as_slice(), new.as_slice());
+    let mut above = Vec::with_capacity(alloc, rows.len() - kept)?;
+    move_behind(rows, kept, &mut above);
+    insert_all(rows, above, new);
     Ok(())
-}
-
-// The rows from the last one on, those of one path joined.
-fn join_rows(alloc: Global, mut rows: Vec<RollupRow>) -> Result<Vec<RollupRow>, NoMemory>
-    requires { FitTogether rows.items [] }
-    ensures { IfOk result (λ v. v.items ≡ joined [] (reverse rows.items)) }
-{
-    let mut out = Vec::new(alloc);
-    while let Some(row) = rows.pop() {
-        push_joined(&mut out, row)?;
-    }
-    Ok(out)
-}
-
-/// The rows of before with those of a file, in ascending order, each path once.
-pub fn new_rows(
-    alloc: Global,
-    old: &[RollupRow],
-    pool: &LabelPool,
-    sizes: &PathSizes,
-) -> Result<Vec<RollupRow>, NoMemory>
-    requires table { IsTable sizes.now }
-    requires below { All (λ (e : Entry). All (λ n. n < length pool.now) e.numbers) (entries_of sizes.now) }
-    requires fits { FitTogether old.now (map (row_of pool.now) (entries_of sizes.now)) }
-    ensures { IfOk result (λ v. AreMerged (old.now ++ map (row_of pool.now) (entries_of sizes.now)) v.items) }
-{
-    let mut rows = Vec::new(alloc);
-    push_copies(&mut rows, alloc, old)?;
-    push_entries(&mut rows, alloc, pool, sizes)?;
-    sort_falling(&mut rows)?;
-    join_rows(alloc, rows)
 }

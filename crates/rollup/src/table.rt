@@ -10,7 +10,8 @@ ghost use Rattle.rollup.specs.Adding.{file_count, vm_count, file_where, vm_where
 
 use crate::answer::RollupAnswer;
 use crate::file::sizes_of_file;
-use crate::merge::new_rows;
+use crate::fresh::new_rows;
+use crate::merge::merge;
 use dual_map::{Base, DualMap};
 use size_core::{LabelPool, Path, Steps};
 use std::alloc::Global;
@@ -138,7 +139,8 @@ impl Rollup {
             return Err(RollupAnswer::MappedTooLarge);
         }
         let sizes = sizes_of_file(self.alloc, base, file_len, maps, passes, steps)?;
-        self.rows = new_rows(self.alloc, self.rows.as_slice(), pool, &sizes)?;
+        let new = new_rows(self.alloc, pool, &sizes)?;
+        merge(self.alloc, &mut self.rows, new)?;
         self.lengths = lengths as u64;
         self.mapped = mapped as u64;
         Ok(())

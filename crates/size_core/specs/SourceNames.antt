@@ -2,7 +2,7 @@
 use Rattle.std.specs.Prelude.{ℕ, List, codes, Option, None, Some, if◌then◌else◌}
 use Rattle.std.specs.Str.{bytes_eq}
 use Rattle.size_core.specs.declared.source.Source.{Source}
-use Rattle.size_core.specs.declared.source.Source.TheVariants.{Segments, Sections, Symbols, RawSymbols, InputFiles}
+use Rattle.size_core.specs.declared.source.Source.TheVariants.{Segments, Sections, Symbols, RawSymbols, CompileUnits, Inlines, InputFiles}
 
 -- the data source of a name
 abbrev pub source_named : List ℕ → Option Source
@@ -11,5 +11,7 @@ source_named name =
     else if bytes_eq name (codes "sections") then Some Sections
     else if bytes_eq name (codes "symbols") then Some Symbols
     else if bytes_eq name (codes "rawsymbols") then Some RawSymbols
+    else if bytes_eq name (codes "compileunits") then Some CompileUnits
+    else if bytes_eq name (codes "inlines") then Some Inlines
     else if bytes_eq name (codes "inputfiles") then Some InputFiles
     else None

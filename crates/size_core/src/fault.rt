@@ -49,7 +49,7 @@ pub enum Fault {
     BadLine,
     /// A debug string has no end.
     BadString,
-    /// Not in use: every version of DWARF that is told apart is read.
+    /// Not in use: DWARF 2 to 5 are read, and units of other versions are passed over.
     NewerDwarf,
     /// Not in use: relocatable files are read.
     Relocatable,

@@ -17,7 +17,7 @@ pub use choices::{Domain, Format, Sort};
 pub use claim::{Claim, Load, Side, Span};
 pub use fault::{BadFile, Fault};
 pub use labels::LabelPool;
-pub use limits::Limits;
+pub use limits::{FULL, Limits, full_in_digits};
 pub use list::{List, Names, Path};
 pub use memory::NoMemory;
 pub use source::Source;

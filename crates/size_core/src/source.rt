@@ -29,6 +29,10 @@ impl Source {
             Some(Source::Symbols)
         } else if name == b"rawsymbols".as_slice() {
             Some(Source::RawSymbols)
+        } else if name == b"compileunits".as_slice() {
+            Some(Source::CompileUnits)
+        } else if name == b"inlines".as_slice() {
+            Some(Source::Inlines)
         } else if name == b"inputfiles".as_slice() {
             Some(Source::InputFiles)
         } else {

@@ -1,6 +1,6 @@
 ghost use Rattle.std.specs.Prelude.{◌≡◌, ◌<◌};
 
-use crate::{Bytes, LabelPool, Names, Path, Source, Steps, Text};
+use crate::{Bytes, FULL, LabelPool, Names, Path, Source, Steps, Text};
 use std::marker::Brand;
 use std::sync::ledger::{Blank, Ledger};
 use std::test::Fail;
@@ -14,6 +14,13 @@ fn labels_keep_their_numbers(rt: HostRuntime) -> Result<(), Fail> {
     assert_eq!(rt; pool.len(), 2);
     assert!(rt; pool.get(1) == b"".as_slice());
     Ok(())
+}
+
+#[test]
+fn limits_of_the_program(rt: HostRuntime) {
+    assert_eq!(rt; FULL.file, 1_073_741_824);
+    assert_eq!(rt; FULL.total, 2_147_483_648);
+    assert_eq!(rt; FULL.claims, 16_777_216);
 }
 
 #[test]

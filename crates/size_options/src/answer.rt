@@ -5,6 +5,7 @@ ghost use Rattle.size_options.specs.declared.answer.OptionAnswer.TheVariants.{No
 
 use size_core::NoMemory;
 use std::alloc::AllocError;
+use thiserror::Error;
 
 /// How the words are misused. Where several kinds apply, the first in this order is the answer.
 #[derive(Clone, Copy, Debug, PartialEq, Eq, Hash)]
@@ -32,11 +33,13 @@ pub enum UsageKind {
 }
 
 /// Why there are no options.
-#[derive(Clone, Copy, Debug, PartialEq, Eq, Hash)]
+#[derive(Clone, Copy, Debug, PartialEq, Eq, Hash, Error)]
 pub enum OptionAnswer {
     /// The words are misused.
+    #[error("{0:?}")]
     Usage(UsageKind),
     /// There was not enough memory.
+    #[error("out of memory")]
     NoMemory,
 }
 

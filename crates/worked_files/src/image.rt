@@ -1,13 +1,7 @@
 //! Small ELF files, least byte first (ELF gABI, chapters 4 and 5).
 
+use crate::numbers::{Class, Numbers, Order};
 use std::alloc::{AllocError, Global};
-
-/// The width of a file's addresses.
-#[derive(Clone, Copy, PartialEq, Eq)]
-pub enum Class {
-    Bits32,
-    Bits64,
-}
 
 /// What the file's header says.
 #[derive(Clone, Copy)]
@@ -25,9 +19,11 @@ pub const EXECUTABLE: Head = Head {
     machine: 62,
 };
 
-/// A program header of type PT_LOAD.
+/// A program header.
 #[derive(Clone, Copy)]
 pub struct Segment {
+    /// PT_LOAD is 1.
+    pub kind: u32,
     pub flags: u32,
     pub offset: u64,
     pub vaddr: u64,
@@ -66,154 +62,128 @@ pub const NAMES: Section<'static> = Section {
     ..NULL
 };
 
-/// A symbol of type STT_FUNC with a name at an offset of its names.
+/// Bytes of the file that have no addresses.
+pub fn part<'a>(name: &'a [u8], bytes: &'a [u8]) -> Section<'a> {
+    Section {
+        name,
+        kind: 1,
+        bytes,
+        ..NULL
+    }
+}
+
+/// A symbol with a name at an offset of its names.
 #[derive(Clone, Copy)]
-pub struct Function {
+pub struct Symbol {
     pub name: u32,
+    /// STT_FUNC is 2, STT_SECTION is 3, STT_FILE is 4.
+    pub kind: u8,
     pub value: u64,
     pub size: u64,
     pub section: u16,
 }
 
-// Numbers in a row, in the widths of a class.
-#[derive(Drop)]
-struct Image {
-    class: Class,
-    bytes: Vec<u8>,
+fn put_header(
+    image: &mut Numbers,
+    head: Head,
+    segments: usize,
+    sections: usize,
+    names: usize,
+) -> Result<(), AllocError> {
+    let (class, header, segment, section) = match head.class {
+        Class::Bits32 => (1, 52, 32, 40),
+        Class::Bits64 => (2, 64, 56, 64),
+    };
+    image.text(b"\x7fELF")?;
+    image.text(&[class, 1, 1])?;
+    image.zeros(9)?;
+    image.half(head.kind)?;
+    image.half(head.machine)?;
+    image.word(1)?;
+    image.address(0x400078)?;
+    image.address(if segments == 0 { 0 } else { u64::from(header) })?;
+    image.address(0)?;
+    image.word(0)?;
+    image.half(header)?;
+    image.half(segment)?;
+    image.half(u16::try_from(segments).unwrap_or(u16::MAX))?;
+    image.half(section)?;
+    image.half(u16::try_from(sections).unwrap_or(u16::MAX))?;
+    image.half(u16::try_from(names).unwrap_or(u16::MAX))
 }
 
-impl Image {
-    fn new(alloc: Global, class: Class) -> Image {
-        Image {
-            class,
-            bytes: Vec::new(alloc),
-        }
+fn put_segment(image: &mut Numbers, class: Class, s: Segment) -> Result<(), AllocError> {
+    image.word(s.kind)?;
+    if class == Class::Bits64 {
+        image.word(s.flags)?;
     }
+    image.address(s.offset)?;
+    image.address(s.vaddr)?;
+    image.address(s.vaddr)?;
+    image.address(s.filesz)?;
+    image.address(s.memsz)?;
+    if class == Class::Bits32 {
+        image.word(s.flags)?;
+    }
+    image.address(4096)
+}
 
-    fn text(&mut self, text: &[u8]) -> Result<(), AllocError> {
-        self.bytes.extend_from_slice(text)
-    }
+// The header of a section whose name and bytes stand at these offsets.
+fn put_section(
+    image: &mut Numbers,
+    s: &Section<'_>,
+    name: usize,
+    offset: u64,
+    size: u64,
+) -> Result<(), AllocError> {
+    image.word(u32::try_from(name).unwrap_or(u32::MAX))?;
+    image.word(s.kind)?;
+    image.address(s.flags)?;
+    image.address(s.addr)?;
+    image.address(offset)?;
+    image.address(size)?;
+    image.word(s.link)?;
+    image.word(0)?;
+    image.address(1)?;
+    image.address(0)
+}
 
-    fn zeros(&mut self, count: usize) -> Result<(), AllocError> {
-        for _ in 0..count {
-            self.bytes.push(0)?;
-        }
-        Ok(())
+fn put_symbol(image: &mut Numbers, class: Class, s: Symbol) -> Result<(), AllocError> {
+    image.word(s.name)?;
+    if class == Class::Bits64 {
+        image.text(&[s.kind, 0])?;
+        image.half(s.section)?;
     }
-
-    fn half(&mut self, x: u16) -> Result<(), AllocError> {
-        self.text(&x.to_le_bytes())
+    image.address(s.value)?;
+    image.address(s.size)?;
+    if class == Class::Bits32 {
+        image.text(&[s.kind, 0])?;
+        image.half(s.section)?;
     }
-
-    fn word(&mut self, x: u32) -> Result<(), AllocError> {
-        self.text(&x.to_le_bytes())
-    }
-
-    fn address(&mut self, x: u64) -> Result<(), AllocError> {
-        match self.class {
-            Class::Bits32 => self.word(u32::try_from(x).unwrap_or(u32::MAX)),
-            Class::Bits64 => self.text(&x.to_le_bytes()),
-        }
-    }
-
-    fn header(
-        &mut self,
-        head: Head,
-        segments: usize,
-        sections: usize,
-        names: usize,
-    ) -> Result<(), AllocError> {
-        let (class, header, segment, section) = match self.class {
-            Class::Bits32 => (1, 52, 32, 40),
-            Class::Bits64 => (2, 64, 56, 64),
-        };
-        self.text(b"\x7fELF")?;
-        self.text(&[class, 1, 1])?;
-        self.zeros(9)?;
-        self.half(head.kind)?;
-        self.half(head.machine)?;
-        self.word(1)?;
-        self.address(0x400078)?;
-        self.address(if segments == 0 { 0 } else { u64::from(header) })?;
-        self.address(0)?;
-        self.word(0)?;
-        self.half(header)?;
-        self.half(segment)?;
-        self.half(u16::try_from(segments).unwrap_or(u16::MAX))?;
-        self.half(section)?;
-        self.half(u16::try_from(sections).unwrap_or(u16::MAX))?;
-        self.half(u16::try_from(names).unwrap_or(u16::MAX))
-    }
-
-    fn segment(&mut self, s: Segment) -> Result<(), AllocError> {
-        self.word(1)?;
-        if self.class == Class::Bits64 {
-            self.word(s.flags)?;
-        }
-        self.address(s.offset)?;
-        self.address(s.vaddr)?;
-        self.address(s.vaddr)?;
-        self.address(s.filesz)?;
-        self.address(s.memsz)?;
-        if self.class == Class::Bits32 {
-            self.word(s.flags)?;
-        }
-        self.address(4096)
-    }
-
-    // The header of a section whose name and bytes stand at these offsets.
-    fn section(
-        &mut self,
-        s: &Section<'_>,
-        name: usize,
-        offset: u64,
-        size: u64,
-    ) -> Result<(), AllocError> {
-        self.word(u32::try_from(name).unwrap_or(u32::MAX))?;
-        self.word(s.kind)?;
-        self.address(s.flags)?;
-        self.address(s.addr)?;
-        self.address(offset)?;
-        self.address(size)?;
-        self.word(s.link)?;
-        self.word(0)?;
-        self.address(1)?;
-        self.address(0)
-    }
-
-    fn function(&mut self, f: Function) -> Result<(), AllocError> {
-        const STT_FUNC: u8 = 2;
-        self.word(f.name)?;
-        if self.class == Class::Bits64 {
-            self.text(&[STT_FUNC, 0])?;
-            self.half(f.section)?;
-        }
-        self.address(f.value)?;
-        self.address(f.size)?;
-        if self.class == Class::Bits32 {
-            self.text(&[STT_FUNC, 0])?;
-            self.half(f.section)?;
-        }
-        Ok(())
-    }
+    Ok(())
 }
 
 /// A table of symbols, the first of which is the null symbol.
-pub fn functions(
-    alloc: Global,
-    class: Class,
-    functions: &[Function],
-) -> Result<Vec<u8>, AllocError> {
-    let mut image = Image::new(alloc, class);
+pub fn symbols(alloc: Global, class: Class, symbols: &[Symbol]) -> Result<Vec<u8>, AllocError> {
+    let mut image = Numbers::new(alloc, class, Order::Little);
     image.zeros(match class {
         Class::Bits32 => 16,
         Class::Bits64 => 24,
     })?;
-    for f in functions {
-        image.function(*f)?;
+    for symbol in symbols {
+        put_symbol(&mut image, class, *symbol)?;
     }
     Ok(image.bytes)
 }
+
+/// A symbol of type STT_FUNC in the first section, without a name.
+pub const FUNCTION: Symbol = Symbol {
+    name: 0,
+    kind: 2,
+    value: 0,
+    size: 0,
+    section: 1,
+};
 
 // The names of sections, and where each begins.
 fn names_of(alloc: Global, sections: &[Section<'_>]) -> Result<(Vec<u8>, Vec<usize>), AllocError> {
@@ -240,18 +210,19 @@ pub fn file(
     sections: &[Section<'_>],
 ) -> Result<Vec<u8>, AllocError> {
     let (names, places) = names_of(alloc, sections)?;
-    let mut image = Image::new(alloc, head.class);
+    let mut image = Numbers::new(alloc, head.class, Order::Little);
     let names_index = sections.iter().position(|s| s.name == NAMES.name);
-    image.header(
+    put_header(
+        &mut image,
         head,
         segments.len(),
         sections.len(),
         names_index.unwrap_or(0),
     )?;
     for segment in segments {
-        image.segment(*segment)?;
+        put_segment(&mut image, head.class, *segment)?;
     }
-    let mut headers = Image::new(alloc, head.class);
+    let mut headers = Numbers::new(alloc, head.class, Order::Little);
     for (i, section) in sections.iter().enumerate() {
         let name = places.get(i).copied().unwrap_or(0);
         let start = image.bytes.len() as u64;
@@ -261,7 +232,7 @@ pub fn file(
         }
         let size = (image.bytes.len() as u64).wrapping_sub(start);
         let offset = if section.kind == 0 { 0 } else { start };
-        headers.section(section, name, offset, section.empty.max(size))?;
+        put_section(&mut headers, section, name, offset, section.empty.max(size))?;
     }
     let end = image.bytes.len();
     image.zeros(7 - end.wrapping_sub(1) % 8)?;
@@ -295,6 +266,7 @@ pub const TEXT: Section<'static> = Section {
 
 /// A load of the first 136 bytes, which end with `.text`.
 pub const LOAD: Segment = Segment {
+    kind: 1,
     flags: 5,
     offset: 0,
     vaddr: 0x400000,

@@ -1,9 +1,17 @@
 //! The files of the worked runs.
 
-use crate::image::{
-    Class, EXECUTABLE, Function, Head, LOAD, NAMES, NULL, Section, Segment, TEXT, file, functions,
-    many_sections, plain_file, thread_local,
+use crate::debug_files::{
+    compressed_units, folders, operations, two_rows, two_units, unnamed_units,
 };
+use crate::executable::executable;
+use crate::image::{
+    EXECUTABLE, FUNCTION, Head, LOAD, NAMES, NULL, Section, Segment, Symbol, TEXT, file,
+    many_sections, part, plain_file, symbols, thread_local,
+};
+use crate::macho_files::{
+    macho_debug_file, macho_library, macho_object, macho_of, macho_program, macho_without_access,
+};
+use crate::numbers::{Class, Order};
 use std::alloc::{AllocError, Global};
 
 /// Names of symbols: `a` at 1, `b` at 3.
@@ -57,16 +65,6 @@ fn zeroed<'a>(name: &'a [u8], addr: u64, size: u64) -> Section<'a> {
     }
 }
 
-// Bytes of the file that have no addresses.
-fn part<'a>(name: &'a [u8], bytes: &'a [u8]) -> Section<'a> {
-    Section {
-        name,
-        kind: 1,
-        bytes,
-        ..NULL
-    }
-}
-
 /// The plain file with 2^40 addresses of zeros behind its code: 416 bytes.
 pub fn large_bss(alloc: Global) -> Result<Vec<u8>, AllocError> {
     let load = Segment {
@@ -98,18 +96,18 @@ pub fn loaded_twice(alloc: Global) -> Result<Vec<u8>, AllocError> {
 
 /// A file of 568 bytes with a function `a` of 8 bytes and then a function `b` of 12, both where `.text` begins.
 pub fn two_functions(alloc: Global) -> Result<Vec<u8>, AllocError> {
-    let a = Function {
+    let a = Symbol {
         name: 1,
         value: 0x400078,
         size: 8,
-        section: 1,
+        ..FUNCTION
     };
-    let b = Function {
+    let b = Symbol {
         name: 3,
         size: 12,
         ..a
     };
-    let symbols = functions(alloc, Class::Bits64, &[a, b])?;
+    let symbols = symbols(alloc, Class::Bits64, &[a, b])?;
     let table = symbol_table(&symbols, 3);
     let sections = [NULL, TEXT, table, SYMBOL_NAMES, NAMES];
     file(alloc, EXECUTABLE, &[LOAD], &sections)
@@ -123,19 +121,18 @@ pub fn object(alloc: Global) -> Result<Vec<u8>, AllocError> {
 
 /// An object of 624 bytes whose two sections of code are one function each, `a` and `b`.
 pub fn object_functions(alloc: Global) -> Result<Vec<u8>, AllocError> {
-    let a = Function {
+    let a = Symbol {
         name: 1,
-        value: 0,
         size: 16,
-        section: 1,
+        ..FUNCTION
     };
-    let b = Function {
+    let b = Symbol {
         name: 3,
         size: 8,
         section: 2,
         ..a
     };
-    let symbols = functions(alloc, Class::Bits64, &[a, b])?;
+    let symbols = symbols(alloc, Class::Bits64, &[a, b])?;
     let table = symbol_table(&symbols, 4);
     let sections = [NULL, TEXT_A, TEXT_B, table, SYMBOL_NAMES, NAMES];
     file(alloc, RELOCATABLE, &[], &sections)
@@ -236,6 +233,25 @@ pub enum Input {
     AboutUnits,
     Object,
     ObjectFunctions,
+    /// Two units, by a version of DWARF.
+    Units(u16),
+    /// Two units whose entries are compressed: whether a flag says so, and else the section's name.
+    Compressed(bool),
+    UnnamedUnits,
+    /// Lines of instructions of two operations, by a version of DWARF.
+    Operations(u16),
+    /// Lines of two rows at one address; whether the last instruction has no end.
+    TwoRows(bool),
+    /// Lines of files in folders, by a version of DWARF.
+    Folders(u16),
+    /// A position-independent executable, with a version of DWARF.
+    Executable(u16),
+    MachoProgram,
+    MachoWithoutAccess,
+    MachoOf(Class, Order),
+    MachoObject,
+    MachoLibrary,
+    MachoDebugFile,
     Text(&'static [u8]),
 }
 
@@ -258,6 +274,19 @@ pub fn bytes_of(alloc: Global, input: Input) -> Result<Vec<u8>, AllocError> {
         Input::AboutUnits => about_units(alloc),
         Input::Object => object(alloc),
         Input::ObjectFunctions => object_functions(alloc),
+        Input::Units(version) => two_units(alloc, version),
+        Input::Compressed(marked) => compressed_units(alloc, marked),
+        Input::UnnamedUnits => unnamed_units(alloc),
+        Input::Operations(version) => operations(alloc, version),
+        Input::TwoRows(cut) => two_rows(alloc, cut),
+        Input::Folders(version) => folders(alloc, version),
+        Input::Executable(version) => executable(alloc, version),
+        Input::MachoProgram => macho_program(alloc),
+        Input::MachoWithoutAccess => macho_without_access(alloc),
+        Input::MachoOf(class, order) => macho_of(alloc, class, order),
+        Input::MachoObject => macho_object(alloc),
+        Input::MachoLibrary => macho_library(alloc),
+        Input::MachoDebugFile => macho_debug_file(alloc),
         Input::Text(text) => text.to_vec(alloc),
     }
 }

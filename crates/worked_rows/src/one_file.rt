@@ -5,7 +5,7 @@ ghost use Rattle.std.specs.Prelude.{◌≡◌, ◌<◌, ◌≤◌, ◌+◌, ◌^
 use bloaty_engine::{Plan, ProfileAnswer, plan, profile_file};
 use custom_rewrites::RegexPatterns;
 use rollup::Rollup;
-use size_core::{Limits, NoMemory, Steps};
+use size_core::{FULL, NoMemory, Steps};
 use size_options::options;
 use std::alloc::Global;
 use std::marker::Brand;
@@ -57,7 +57,7 @@ fn add<L: Ledger>(
     requires lengths { total.old.lengths + length file.now ≤ 2 ^ 62 }
 {
     let mut steps = Steps::<L>::begin(blank);
-    profile_file(alloc, plan, "a.elf", file, total, &Limits::FULL, &mut steps)
+    profile_file(alloc, plan, "a.elf", file, total, &FULL, &mut steps)
 }
 
 fn has_rows(rt: &impl Abort, total: &Rollup, wanted: &[Row<'_>]) {

@@ -1,13 +1,12 @@
 //! The sizes that a data source gives each label of a file, by the pieces of its two maps.
 
-ghost use Rattle.std.specs.Prelude.{◌≡◌, ◌^◌, ◌<◌, All, IfOk, IfSome, OnOk, length};
-ghost use Rattle.size_model.specs.Loads.{IsLoad};
-ghost use Rattle.data_sources.specs.Opened.{bytes_of};
+ghost use Rattle.std.specs.Prelude.{◌≡◌, ◌^◌, ◌<◌, IfOk, length};
+ghost use Rattle.data_sources.specs.Groups.{bytes_of};
 
-use data_sources::{Binary, ClaimAnswer, claims, load_at, load_slots};
+use data_sources::{Binary, ClaimAnswer, claims, loads_of};
 use dual_map::{Base, DualMap};
 use range_map::RangeMap;
-use size_core::{LabelPool, Load, NoMemory, Source, Steps};
+use size_core::{LabelPool, NoMemory, Source, Steps};
 use std::alloc::Global;
 use std::marker::Brand;
 use std::sync::ledger::{Blank, Ledger};
@@ -41,28 +40,6 @@ impl Sizes {
     }
 }
 
-// Adds a load, where there is one.
-fn push_load(loads: &mut Vec<Load>, load: Option<Load>) -> Result<(), NoMemory>
-    requires fits { IfSome load IsLoad }
-    requires all { All IsLoad loads.old.items }
-    ensures { OnOk result (All IsLoad loads.new.items) }
-{
-    if let Some(load) = load {
-        loads.push(load)?;
-    }
-    Ok(())
-}
-
-fn loads_of(alloc: Global, binary: &Binary<'_>) -> Result<Vec<Load>, NoMemory>
-    ensures { IfOk result (λ v. All IsLoad v.items) }
-{
-    let mut loads = Vec::new(alloc);
-    for i in 0..load_slots(binary) {
-        push_load(&mut loads, load_at(binary, i))?;
-    }
-    Ok(loads)
-}
-
 // How many positions of a map have each of the labels up to a number.
 fn sizes_in<L: Ledger>(
     alloc: Global,
@@ -90,6 +67,40 @@ fn sizes_in<L: Ledger>(
     Ok(sizes)
 }
 
+// The file with its loads.
+fn base_of(alloc: Global, binary: &Binary<'_>) -> Result<Base, NoMemory>
+    requires { length (bytes_of binary.now) < 2 ^ 32 }
+    ensures { IfOk result (λ base. base.len ≡ length (bytes_of binary.now)) }
+{
+    let len = binary.bytes().len() as u64;
+    let loads = loads_of(alloc, binary)?;
+    Base::from_loads(alloc, len, &loads)
+}
+
+// The maps of a data source, whose labels come into the pool.
+fn maps_of(
+    alloc: Global,
+    binary: &Binary<'_>,
+    source: Source,
+    name: &[u8],
+    labels: &mut LabelPool,
+) -> Result<DualMap, ClaimAnswer>
+    requires { length (bytes_of binary.now) < 2 ^ 32 }
+{
+    let base = base_of(alloc, binary)?;
+    let len = binary.bytes().len() as u64;
+    let unmapped = labels.intern(b"[Unmapped]")?;
+    let claims = claims(alloc, binary, source, name, labels, 1 << 24)?;
+    Ok(DualMap::build(alloc, &base, len, &claims, unmapped)?)
+}
+
+// The two sizes of each label.
+fn both_sizes(alloc: Global, maps: &DualMap, labels: LabelPool) -> Result<Sizes, NoMemory> {
+    let file = sizes_in::<Brand>(alloc, maps.file_map(), labels.len(), Blank::new(1))?;
+    let vm = sizes_in::<Brand>(alloc, maps.vm_map(), labels.len(), Blank::new(1))?;
+    Ok(Sizes { labels, file, vm })
+}
+
 /// The sizes of the labels of a data source on a file of this name.
 pub fn sizes_of(
     alloc: Global,
@@ -99,15 +110,7 @@ pub fn sizes_of(
 ) -> Result<Sizes, ClaimAnswer>
     requires { length (bytes_of binary.now) < 2 ^ 32 }
 {
-    let len = match binary {
-        Binary::Elf(file) => file.bytes().len() as u64,
-    };
     let mut labels = LabelPool::new(alloc);
-    let unmapped = labels.intern(b"[Unmapped]")?;
-    let claims = claims(alloc, binary, source, name, &mut labels, 1 << 24)?;
-    let base = Base::from_loads(alloc, len, &loads_of(alloc, binary)?)?;
-    let maps = DualMap::build(alloc, &base, len, &claims, unmapped)?;
-    let file = sizes_in::<Brand>(alloc, maps.file_map(), labels.len(), Blank::new(1))?;
-    let vm = sizes_in::<Brand>(alloc, maps.vm_map(), labels.len(), Blank::new(1))?;
-    Ok(Sizes { labels, file, vm })
+    let maps = maps_of(alloc, binary, source, name, &mut labels)?;
+    Ok(both_sizes(alloc, &maps, labels)?)
 }

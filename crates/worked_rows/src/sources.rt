@@ -7,9 +7,9 @@ use std::alloc::Global;
 use std::process::Abort;
 use std::test::Fail;
 use worked_files::{
-    Class, EXECUTABLE, Function, Head, LOAD, NAMES, NULL, SYMBOL_NAMES, Section, Segment, TEXT,
-    file, functions, large_bss, loaded_twice, object, object_functions, plain_file, symbol_table,
-    thread_local, two_functions,
+    Class, EXECUTABLE, FUNCTION, Head, LOAD, NAMES, NULL, SYMBOL_NAMES, Section, Segment, Symbol,
+    TEXT, file, large_bss, loaded_twice, object, object_functions, plain_file, symbol_table,
+    symbols, thread_local, two_functions,
 };
 
 // A label with its file size and its VM size.
@@ -155,14 +155,26 @@ fn the_first_symbol_takes_a_byte(rt: HostRuntime) -> Result<(), Fail> {
         Source::InputFiles,
         &[(b"a.elf", file.len() as u64, 136)],
     )?;
-    assert_bad(
-        &rt,
-        alloc,
-        &file,
-        Source::CompileUnits,
-        Fault::SourceNotForFile,
-        0,
-    )
+    // Without debug sections there are no units and no lines.
+    for source in [Source::CompileUnits, Source::Inlines] {
+        assert_rows(
+            &rt,
+            alloc,
+            &file,
+            source,
+            &[
+                (b"[section .text]", 16, 16),
+                (b"[section .symtab]", 72, 0),
+                (b"[section .strtab]", 5, 0),
+                (b"[section .shstrtab]", 33, 0),
+                (b"[ELF Header]", 64, 64),
+                (b"[ELF Program Headers]", 56, 56),
+                (b"[ELF Section Headers]", 320, 0),
+                (b"[Unmapped]", 2, 0),
+            ],
+        )?;
+    }
+    Ok(())
 }
 
 #[test]
@@ -175,23 +187,23 @@ fn bit_0_of_an_arm_function_is_no_address(rt: HostRuntime) -> Result<(), Fail> {
             machine,
         };
         let load = Segment {
-            flags: 5,
             offset: 84,
             vaddr: 0x8000,
             filesz: 16,
             memsz: 16,
+            ..LOAD
         };
         let text = Section {
             addr: 0x8000,
             ..TEXT
         };
-        let function = Function {
+        let function = Symbol {
             name: 1,
             value: 0x8001,
             size: 4,
-            section: 1,
+            ..FUNCTION
         };
-        let symbols = functions(alloc, Class::Bits32, &[function])?;
+        let symbols = symbols(alloc, Class::Bits32, &[function])?;
         let table = symbol_table(&symbols, 3);
         let file = file(
             alloc,
@@ -218,13 +230,14 @@ fn bit_0_of_an_arm_function_is_no_address(rt: HostRuntime) -> Result<(), Fail> {
 #[test]
 fn a_symbol_without_its_section_is_a_fault_of_symbols_alone(rt: HostRuntime) -> Result<(), Fail> {
     let alloc = rt.alloc();
-    let function = Function {
+    let function = Symbol {
         name: 1,
         value: 0x400078,
         size: 4,
         section: 0xffff,
+        ..FUNCTION
     };
-    let symbols = functions(alloc, Class::Bits64, &[function])?;
+    let symbols = symbols(alloc, Class::Bits64, &[function])?;
     let table = symbol_table(&symbols, 3);
     let file = file(
         alloc,

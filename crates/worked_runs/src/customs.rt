@@ -27,6 +27,19 @@ custom_data_source {
 custom_data_source { name: \"same\" base_data_source: \"sections\" }
 ";
 
+// Units and files of lines, under names of their own.
+const UNITS: &[u8] = b"custom_data_source {
+  name: 'units'
+  base_data_source: 'compileunits'
+  rewrite { pattern: '^(\\\\w)\\\\.c$' replacement: 'unit \\\\1' }
+}
+custom_data_source {
+  name: 'files'
+  base_data_source: 'inlines'
+  rewrite { pattern: '^(.*):\\\\d+$' replacement: '\\\\1' }
+}
+";
+
 fn with_config(
     alloc: Global,
     words: &[&str],
@@ -48,7 +61,7 @@ struct Case<'a> {
     report: &'a [&'a str],
 }
 
-const CASES: [Case<'static>; 4] = [
+const CASES: [Case<'static>; 5] = [
     Case {
         words: &["--csv", "-n", "0", "-c", "conf", "-d", "mine", "a.elf"],
         file: Input::Plain,
@@ -117,6 +130,27 @@ const CASES: [Case<'static>; 4] = [
         file: Input::Plain,
         config: FOLDERS,
         report: &["parts,filesize"],
+    },
+    Case {
+        words: &[
+            "--csv",
+            "-c",
+            "conf",
+            "-d",
+            "units,files",
+            "--domain=vm",
+            "a.elf",
+        ],
+        file: Input::Units(4),
+        config: UNITS,
+        report: &[
+            "units,files,vmsize",
+            "unit a,a.c,16",
+            "unit a,[section .text],8",
+            "[LOAD #1 [RW]],[LOAD #1 [RW]],16",
+            "unit b,[section .text],16",
+            "[section .text],[section .text],8",
+        ],
     },
 ];
 

@@ -1,6 +1,6 @@
 //! Runs over devices that fail.
 
-use crate::runs::{COMMAND, NamedFile, assert_end, run, run_over, sound};
+use crate::runs::{COMMAND, NamedFile, assert_end, assert_report, run, run_over, sound};
 use bloaty_engine::Outcome;
 use std::test::Fail;
 use worked_files::{Input, bytes_of};
@@ -39,6 +39,17 @@ fn a_file_that_cannot_be_read(rt: HostRuntime) -> Result<(), Fail> {
         let ran = run_over(alloc, words, &files, devices)?;
         assert_end(&rt, &ran, Outcome::ReadFailed(number), 3, line);
     }
+    Ok(())
+}
+
+#[test]
+fn a_made_file_is_not_read(rt: HostRuntime) -> Result<(), Fail> {
+    let alloc = rt.alloc();
+    let mut devices = sound(alloc);
+    devices.failing_reads.push(1)?;
+    let words = ["--synth", "1", "--csv", "-d", "inputfiles"];
+    let ran = run_over(alloc, &words, &[], devices)?;
+    assert_report(&rt, &ran, &["inputfiles,vmsize,filesize", "synth,136,547"]);
     Ok(())
 }
 

@@ -8,8 +8,12 @@ mod devices;
 #[cfg(test)]
 mod faults;
 #[cfg(test)]
+mod formats;
+#[cfg(test)]
 mod refusals;
 #[cfg(test)]
 mod reports;
 #[cfg(test)]
 mod runs;
+#[cfg(test)]
+mod units;

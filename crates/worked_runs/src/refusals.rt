@@ -3,7 +3,7 @@
 use crate::runs::{COMMAND, NamedFile, assert_end, assert_report, run, run_over, sound};
 use bloaty_engine::{Outcome, UsageKind};
 use config_text::ConfigKind;
-use size_core::{Fault, Limits};
+use size_core::{FULL, Fault, Limits};
 use std::test::Fail;
 use worked_files::{Input, bytes_of};
 
@@ -139,8 +139,6 @@ fn names_of_no_source(rt: HostRuntime) -> Result<(), Fail> {
             "bloaty: unknown source: Sections",
         ),
         ("sections,symbols,mine", 3, "bloaty: unknown source: mine"),
-        ("compileunits", 1, "bloaty: unknown source: compileunits"),
-        ("sections,inlines", 2, "bloaty: unknown source: inlines"),
     ] {
         let ran = run(alloc, &["-d", list, "a.elf"], &file, sound(alloc))?;
         assert_end(&rt, &ran, Outcome::UnknownSource(number), 2, line);
@@ -340,8 +338,6 @@ fn files_with_a_fault(rt: HostRuntime) -> Result<(), Fail> {
 
 // Words over files that go past limits, the answer, and the line that tells it.
 type Passed<'a> = (&'a [&'a str], Input, Limits, Outcome, &'a str);
-
-const FULL: Limits = Limits::FULL;
 
 const PASSED_LIMITS: [Passed<'static>; 7] = [
     (

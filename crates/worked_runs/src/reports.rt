@@ -6,11 +6,11 @@ use std::process::Abort;
 use std::test::Fail;
 use worked_files::{Input, bytes_of};
 
-// Words over a file named `a.elf`, and the lines of their report.
-struct Case<'a> {
-    words: &'a [&'a str],
-    file: Input,
-    report: &'a [&'a str],
+/// Words over a file named `a.elf`, and the lines of their report.
+pub struct Case<'a> {
+    pub words: &'a [&'a str],
+    pub file: Input,
+    pub report: &'a [&'a str],
 }
 
 const SECTIONS: [Case<'static>; 8] = [
@@ -432,8 +432,8 @@ const MADE: [Case<'static>; 3] = [
     },
 ];
 
-// Each case has its report.
-fn assert_cases(rt: &impl Abort, alloc: Global, cases: &[Case<'_>]) -> Result<(), Fail> {
+/// Each case has its report.
+pub fn assert_cases(rt: &impl Abort, alloc: Global, cases: &[Case<'_>]) -> Result<(), Fail> {
     for case in cases {
         let file = bytes_of(alloc, case.file)?;
         let ran = run(alloc, case.words, &file, sound(alloc))?;

@@ -3,7 +3,7 @@
 use bloaty_engine::{Outcome, bloaty};
 use custom_rewrites::RegexPatterns;
 use outside::{MemFiles, MemSink};
-use size_core::{Limits, NoMemory};
+use size_core::{FULL, Limits, NoMemory};
 use std::alloc::Global;
 use std::process::Abort;
 
@@ -30,7 +30,7 @@ pub fn sound(alloc: Global) -> Devices {
         take: ROOM,
         failing_writes: Vec::new(alloc),
         failing_lines: Vec::new(alloc),
-        limits: Limits::FULL,
+        limits: FULL,
     }
 }
 

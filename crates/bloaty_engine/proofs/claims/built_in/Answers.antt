@@ -2,7 +2,7 @@
 use Rattle.std.proofs.Common.{sym, arith}
 use Rattle.std.proofs.lemmas.List.{length-map}
 use Rattle.size_model.specs.Numbered.{labelled}
-use Rattle.data_sources.specs.Made.{texts}
+use Rattle.claim_sheet.specs.Made.{texts}
 use Rattle.data_sources.specs.Views.{unmapped}
 use Rattle.bloaty_engine.proofs.NumberLemmas.{kept-text, kept-within, plain-view}
 use Rattle.bloaty_engine.proofs.claims.built_in.Goals as goal

@@ -1,6 +1,6 @@
 -- One label more has its new number.
 use Rattle.std.proofs.Common.{arith}
-use Rattle.data_sources.proofs.MadeLemmas.{kept-more}
+use Rattle.claim_sheet.proofs.MadeLemmas.{kept-more}
 use Rattle.custom_rewrites.specs.Rewriting.{rewritten}
 use Rattle.bloaty_engine.proofs.NumberLemmas.{renumbered-more, renumbered-whole}
 use Rattle.bloaty_engine.proofs.claims.rewritten_numbers.Goals as goal

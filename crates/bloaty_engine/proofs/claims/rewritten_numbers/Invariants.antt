@@ -1,5 +1,5 @@
 use Rattle.std.proofs.Common.{map, take}
-use Rattle.data_sources.specs.Made.{KeepsLabels}
+use Rattle.claim_sheet.specs.Made.{KeepsLabels}
 use Rattle.custom_rewrites.specs.Rewriting.{rewritten}
 use Rattle.bloaty_engine.specs.Numbering.{AreTexts}
 use Rattle.bloaty_engine.proofs.claims.rewritten_numbers.Given as goal

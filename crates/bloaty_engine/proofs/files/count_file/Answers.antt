@@ -1,9 +1,8 @@
 -- A file is counted as it is decided.
 use Rattle.std.proofs.Common.{◌≡◌, ◌+◌, length, Ok, sym, ap, ◌∙◌}
-use Rattle.size_model.specs.Loads.{mapped_count}
 use Rattle.bloaty_engine.specs.Counts.{filter_test}
 use Rattle.bloaty_engine.specs.Views.{viewed}
-use Rattle.bloaty_engine.proofs.FileLemmas.{counted-one, counted-within, ends-viewed, ok-viewed, view-parts, viewed-ok}
+use Rattle.bloaty_engine.proofs.FileLemmas.{counted-one, counted-within, ends-viewed, ok-viewed, view-len, viewed-ok}
 use Rattle.bloaty_engine.proofs.files.count_file.Goals as goal
 
 pub returns-in-Ok-clause-ended : goal.returns-in-Ok-clause-ended
@@ -15,9 +14,9 @@ pub returns-in-Ok-clause-counted : goal.returns-in-Ok-clause-counted
 returns-in-Ok-clause-counted g c = λ files f at has.
     let within = counted-within c.args.limits.now c.args.plan.now.sources c.args.number c.args.total.now.lengths c.args.total.now.mapped c.args.name.now c.args.file.now c.requires.fits c.requires.lengths in
     let view : viewed c.args.total.now.mapped c.args.limits.now.claims c.args.name.now c.args.file.now c.args.plan.now.sources ≡ Ok f = viewed-ok c.args.number _ f (sym within ∙ at) in
-    let parts = view-parts c.args.total.now.mapped c.args.limits.now.claims c.args.name.now c.args.file.now c.args.plan.now.sources f view in
+    let len = view-len c.args.total.now.mapped c.args.limits.now.claims c.args.name.now c.args.file.now c.args.plan.now.sources f view in
     counted-one (filter_test c.args.plan.now.filter) (length c.args.plan.now.sources) files f c.args.total.now c.profile_file.new.total has c.in-Ok.ensures.depth
-    (c.in-Ok.ensures.lengths ∙ ap (λ n. c.args.total.now.lengths + n) (sym parts.0)) (c.in-Ok.ensures.mapped ∙ ap (λ ls. c.args.total.now.mapped + mapped_count ls) (sym parts.1))
+    (c.in-Ok.ensures.lengths ∙ ap (λ n. c.args.total.now.lengths + n) (sym len)) ((rw c.as_str.ensures at c.in-Ok.ensures.mapped) f view)
     (λ test. (rw c.as_str.ensures at c.in-Ok.ensures.file) f test view) (λ test. (rw c.as_str.ensures at c.in-Ok.ensures.vm) f test view)
 
 pub returns-clause-ended : goal.returns-clause-ended

@@ -11,7 +11,7 @@ loop-k-init g c = record {
   counted = rw c.new-total.ensures (counted-none (g.F.Files.held c.args.files.now) c.args.limits.now c.args.plan.now.sources (filter_test c.args.plan.now.filter) c.args.names.now c.depth.result c.depth.ensures);
   within = omega arith;
   held = refl;
-  later = omega arith;
+  same = refl;
 }
 
 pub returns-in_err-file-clause-counted : goal.returns-in_err-file-clause-counted
@@ -32,6 +32,11 @@ returns-in_err-count_file-clause-counted g c =
     rw (p.1, p.2) (count-ends (g.F.Files.held c.args.files.now) c.args.limits.now c.args.plan.now.sources (filter_test c.args.plan.now.filter) c.args.names.now c.loop-k.k c.loop-k.lengths c.loop-k.total c.get-name.result.now
     found.0 c.in_err-count_file.field-0.0 to more c.get-name.ensures (omega (arith, c.loop-k-test.true, c.len-k-end.ensures)) (rw (c.deref.ensures.value, found.2.0) at c.in_err-count_file.ensures.ended))
 
+pub returns-in_err-file-clause-uncounted : goal.returns-in_err-file-clause-uncounted
+returns-in_err-file-clause-uncounted g c =
+    let p = err_from_is_err_and c.from_residual.result c.from_residual.ensures.1 in
+    rw (p.1, p.2) (λ q. c.in_err-file.ensures.uncounted q ∙ c.loop-k.invariant.same)
+
 pub loop-k-preserved : goal.loop-k-preserved
 loop-k-preserved g c =
     let found = rw (c.loop-k.invariant.held, c.as_str.ensures) at c.in_ok-file.ensures.found in
@@ -48,7 +53,7 @@ loop-k-preserved g c =
           c.loop-k.total c.count_file.new.total c.get-name.result.now found.0 f.0 to more c.get-name.ensures le (ap (λ n. counted_file c.args.limits.now c.args.plan.now.sources (c.loop-k.k + 1) n c.loop-k.total.mapped c.get-name.result.now found.0) to.lengths_are ∙ f.1) has (omega (arith, lengths, len, ap length found.2.0, to.lengths_are));
       within = omega (arith, found.2.1, len, c.loop-k.invariant.within, min-within (file_limit c.args.limits.now) (total_limit c.args.limits.now) c.loop-k.lengths c.min-limit.result limit);
       held = c.read_file.ensures.held ∙ c.loop-k.invariant.held;
-      later = omega (arith, c.loop-k.invariant.later, c.read_file.ensures.later);
+      same = c.in_ok-file.ensures.uncounted refl ∙ c.loop-k.invariant.same;
     }
 
 pub returns-clause-counted : goal.returns-clause-counted

@@ -9,7 +9,7 @@ invariant-loop-k g l = record {
   counted : AreCountedTo (g.F.Files.held l.fn.files) l.limits l.plan.sources (filter_test l.plan.filter) l.names l.k l.lengths l.total;
   within : l.lengths ≤ total_limit l.limits;
   held : g.F.Files.held l.files ≡ g.F.Files.held l.fn.files;
-  later : g.F.Files.faults l.fn.files ≤ g.F.Files.faults l.files;
+  same : g.F.Files.faults l.files ≡ g.F.Files.faults l.fn.files;
 }
 
 abbrev pub ghosts-count_file : goal.ghosts-count_file

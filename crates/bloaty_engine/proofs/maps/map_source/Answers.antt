@@ -2,7 +2,6 @@
 use Rattle.std.proofs.Common.{◌≡◌, length, arith}
 use Rattle.std.specs.Prelude.{slice_get}
 use Rattle.std.proofs.lemmas.Option.{IfSome_then}
-use Rattle.data_sources.specs.Opened.{bytes_of}
 use Rattle.bloaty_engine.specs.Numbering.{Says}
 use Rattle.bloaty_engine.specs.Spelling.{IsMapped}
 use Rattle.bloaty_engine.proofs.SpellLemmas.{Spells-cut}
@@ -13,8 +12,8 @@ returns-clause-mapped c =
     let claims : c.deref.result.now ≡ c.in_ok-said.said.claims.items = c.deref.ensures.value in
     let built = c.in_ok-maps.ensures in
     IfSome_then (slice_get c.args.plan.now.sources c.args.i)
-    {P = λ chosen. Says c.args.limit chosen c.args.name.now (bytes_of c.args.binary.now) c.claims_by_number.new.pool c.in_ok-said.said}
-    {Q = λ chosen. IsMapped c.args.limit c.args.base.now chosen c.args.name.now (bytes_of c.args.binary.now) c.claims_by_number.new.pool (record { maps = c.in_ok-maps.maps; claims = c.len.result })}
+    {P = λ chosen. Says c.args.limit chosen c.args.name.now c.args.binary.now c.claims_by_number.new.pool c.in_ok-said.said}
+    {Q = λ chosen. IsMapped c.args.limit c.args.base.now chosen c.args.name.now c.args.binary.now c.claims_by_number.new.pool (record { maps = c.in_ok-maps.maps; claims = c.len.result })}
     c.in_ok-said.ensures.says (λ chosen says.
     record {
       made = says.made;

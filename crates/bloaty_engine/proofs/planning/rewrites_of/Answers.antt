@@ -12,7 +12,12 @@ returns-in_err-made-clause-cause g c =
     let at : slice_get c.args.custom.now c.loop-source.source-index ≡ Some x =
     slice_get_read c.args.custom.now (length c.args.custom.now) c.loop-source.source-index x refl (omega arith) c.source-item.is in
     let inv = c.loop-source.invariant in
-    rw (p.1, p.2) (cause-more c.args.custom.now c.loop-source.source-index x at c.loop-source.first _ _ _ _ inv.number inv.read inv.rises _ c.in_err-made.ensures.cause)
+    rw (p.1, p.2) (cause-more c.args.custom.now c.loop-source.source-index x at c.loop-source.first _ _ _ _ inv.number inv.read (omega (arith, inv.count)) _ c.in_err-made.ensures.cause)
+
+pub returns-in_err-made-clause-uncounted : goal.returns-in_err-made-clause-uncounted
+returns-in_err-made-clause-uncounted g c =
+    let p = err_from_is_err_and c.from_residual.result c.from_residual.ensures.1 in
+    rw (p.1, p.2) (λ q. c.in_err-made.ensures.uncounted q ∙ c.loop-source.invariant.count)
 
 pub loop-source-preserved : goal.loop-source-preserved
 loop-source-preserved g c =
@@ -27,5 +32,5 @@ loop-source-preserved g c =
       same = rw (inv.same, made.same) (lists-more c.args.custom.now c.loop-source.source-index x at);
       read = read-more c.args.custom.now c.loop-source.source-index x at inv.read made.read;
       last = made.kept ∙ inv.last;
-      rises = omega (arith, inv.rises, c.rewrites_from.ensures.rises);
+      count = made.uncounted refl ∙ inv.count;
     })

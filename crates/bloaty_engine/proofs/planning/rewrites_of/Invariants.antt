@@ -1,4 +1,4 @@
-use Rattle.std.proofs.Common.{◌≡◌, ◌+◌, ◌≤◌, length, take}
+use Rattle.std.proofs.Common.{◌≡◌, ◌+◌, length, take}
 use Rattle.bloaty_engine.specs.Choices.{rewrite_lists}
 use Rattle.bloaty_engine.specs.Patterns.{AreRead, rewrites_of}
 use Rattle.bloaty_engine.proofs.planning.rewrites_of.Given as goal
@@ -9,5 +9,5 @@ invariant-loop-source g l = record {
   same : l.all.items ≡ rewrite_lists (take l.source-index l.custom);
   read : AreRead (rewrites_of (take l.source-index l.custom));
   last : g.P.Patterns.last_refused l.patterns ≡ g.P.Patterns.last_refused l.initial.patterns;
-  rises : g.P.Patterns.refused l.initial.patterns ≤ g.P.Patterns.refused l.patterns;
+  count : g.P.Patterns.refused l.patterns ≡ g.P.Patterns.refused l.initial.patterns;
 }

@@ -5,7 +5,7 @@ use Rattle.bloaty_engine.specs.declared.outcome.Outcome.TheVariants.{NoMemory, R
 use Rattle.bloaty_engine.specs.Counts.{filter_test}
 use Rattle.bloaty_engine.specs.Named.{file_names}
 use Rattle.bloaty_engine.proofs.MapLemmas.{err-same}
-use Rattle.bloaty_engine.proofs.RunLemmas.{ends-config, ends-files, ends-plan, ends-report, never-big, planned-count, rose-later}
+use Rattle.bloaty_engine.proofs.RunLemmas.{ends-config, ends-files, ends-plan, ends-report, memory-read, never-big, planned-count, rose-later}
 use Rattle.bloaty_engine.proofs.report.report.Goals as goal
 
 pub returns-in_err-customs-clause-run : goal.returns-in_err-customs-clause-run
@@ -33,7 +33,7 @@ returns-in_err-total-clause-run g c =
     let planned = rw c.deref.ensures.value at c.in_ok-plan.ensures.plan in
     let e = rw c.customs_of.ensures.held at c.in_err-total.ensures.counted in
     rw (p.1, p.2) (ends-files (g.F.Files.held c.args.files.now) c.args.limits.now c.args.options.now (g.P.Patterns.last_refused c.plan_of.new.patterns) t.0 t.1 c.in_ok-customs.customs.items t.2 c.in_ok-plan.plan planned e.0 e.1
-    c.in_err-total.field-0.0 e.2)
+    c.in_err-total.field-0.0 (λ i read. c.in_err-total.ensures.unmade i (ap Err read)) e.2)
 
 pub returns-in_err-total-clause-failed : goal.returns-in_err-total-clause-failed
 returns-in_err-total-clause-failed g c =
@@ -62,7 +62,7 @@ returns-in_err-report_of-clause-run g c =
     let t = c.in_ok-customs.ensures.read in
     let planned = rw c.deref.ensures.value at c.in_ok-plan.ensures.plan in
     let e = rw c.customs_of.ensures.held at c.in_ok-total.ensures.counted in
-    rw (p.1, p.2) (ends-files (g.F.Files.held c.args.files.now) c.args.limits.now c.args.options.now (g.P.Patterns.last_refused c.plan_of.new.patterns) t.0 t.1 c.in_ok-customs.customs.items t.2 c.in_ok-plan.plan planned e.0 e.1 NoMemory tt)
+    rw (p.1, p.2) (ends-files (g.F.Files.held c.args.files.now) c.args.limits.now c.args.options.now (g.P.Patterns.last_refused c.plan_of.new.patterns) t.0 t.1 c.in_ok-customs.customs.items t.2 c.in_ok-plan.plan planned e.0 e.1 NoMemory (memory-read c.args.options.now) tt)
 
 pub returns-clause-run : goal.returns-clause-run
 returns-clause-run g c =

@@ -4,8 +4,8 @@ use Rattle.rollup.specs.Rows.{larger}
 use Rattle.rollup.proofs.Merging.{set_larger}
 use Rattle.rollup.proofs.merge.enlarge.Goals as goal
 
-pub returns-in-Some : goal.returns-in-Some
-returns-in-Some c =
-    let some : 0 < vec_len c.args.out.now = c.in-Some.ensures.variant.0 refl in
-    let n : length c.args.out.now.items ≡ suc (vec_len c.args.out.now - 1) = omega (arith, c.args.out.now.ok.0) in
-    ap (λ (q : RollupRow). set c.args.out.now.items (vec_len c.args.out.now - 1) (larger q c.args.row.now)) c.in-Some.ensures.value ∙ set_larger c.args.out.now.items c.args.row.now c.in-Some.last.now (vec_len c.args.out.now - 1) n
+pub returns-in-Some-clause-rows : goal.returns-in-Some-clause-rows
+returns-in-Some-clause-rows c =
+    let some : 0 < vec_len c.args.rows.now = c.in-Some.ensures.variant.0 refl in
+    let n : length c.args.rows.now.items ≡ suc (vec_len c.args.rows.now - 1) = omega (arith, c.args.rows.now.ok.0) in
+    ap (λ (q : RollupRow). set c.args.rows.now.items (vec_len c.args.rows.now - 1) (larger q c.args.row.now)) c.in-Some.ensures.value ∙ set_larger c.args.rows.now.items c.args.row.now c.in-Some.last.now (vec_len c.args.rows.now - 1) n

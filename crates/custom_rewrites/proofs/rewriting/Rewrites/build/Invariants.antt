@@ -8,7 +8,7 @@ invariant-rewrites g l = record {
   texts : map (λ m. record { pattern = m.pattern; replacement = m.replacement }) l.made.items ≡ take l.place l.rewrites;
   read : All (λ q. IsPattern q.pattern) (take l.place l.rewrites);
   last : g.P.Patterns.last_refused l.patterns ≡ g.P.Patterns.last_refused l.fn.patterns;
-  rises : g.P.Patterns.refused l.fn.patterns ≤ g.P.Patterns.refused l.patterns;
+  count : g.P.Patterns.refused l.patterns ≡ g.P.Patterns.refused l.fn.patterns;
 }
 
 abbrev pub decreases-rewrites : goal.decreases-rewrites

@@ -1,4 +1,4 @@
-use Rattle.std.proofs.Common.{◌≡◌, ◌+◌, ◌^◌, ◌++◌, true, map, length, sym, subst, ap, ◌∙◌, arith}
+use Rattle.std.proofs.Common.{◌≡◌, ◌+◌, ◌^◌, true, map, length, sym, subst, ap, ◌∙◌, arith}
 use Rattle.std.specs.Prelude.{All}
 use Rattle.std.specs.Option.{option_copied}
 use Rattle.size_model.specs.Loads.{mapped_count}
@@ -8,9 +8,10 @@ use Rattle.size_model.specs.Loads.{is_mapped}
 use Rattle.rollup.specs.Totals.{IsTotals, Totals}
 use Rattle.rollup.specs.Adding.{file_where, vm_where}
 use Rattle.rollup.specs.Counted.{file_counted, vm_counted}
-use Rattle.rollup.specs.Rows.{AreMerged, FitTogether}
+use Rattle.rollup.specs.Rows.{AreMerged}
 use Rattle.rollup.specs.Sizes.{IsEntry, entries_of, row_of}
 use Rattle.rollup.proofs.OneFile.{file-le, vm-le}
+use Rattle.rollup.proofs.Merging.{alone_fits, merged_from, moved_fits}
 use Rattle.rollup.proofs.Totalling.{fit_together, file_added, vm_added, new_totals}
 use Rattle.rollup.proofs.table.Rollup.add_file.Goals as goal
 
@@ -23,20 +24,31 @@ new_rows-requires-clause-below g c = λ k d lt. (c.in_ok-sizes.ensures.entries (
 pub new_rows-requires-clause-fits : goal.new_rows-requires-clause-fits
 new_rows-requires-clause-fits g c =
     let es = entries_of c.in_ok-sizes.sizes in
-    let marks : _ = option_copied c.args.passes in
-    subst (λ rows. FitTogether rows (map (row_of c.args.pool.now) es)) (sym c.as_slice.ensures.value)
+    alone_fits c.self.inside.rows.items (map (row_of c.args.pool.now) es)
     (fit_together c.args.pool.now c.self.inside.rows.items es c.self.inside.depth c.self.inside.lengths c.self.inside.mapped c.args.file_len (mapped_count c.args.base.now.loads) c.self.invariant
     (omega (arith, c.in_ok-sizes.ensures.file (λ _. true), file-le (λ _. true) (option_copied c.args.passes) c.args.maps.now c.args.file_len))
     (omega (arith, c.in_ok-sizes.ensures.vm (λ _. true), vm-le (λ _. true) (option_copied c.args.passes) c.args.maps.now c.args.base.now.loads))
     (omega (arith, c.from.ensures, c.from-2.ensures, c.if-lengths-gt-MOST.false)) (omega (arith, c.from-3.ensures, c.mapped_size.ensures, c.if-mapped-gt-MOST.false)))
 
+pub merge-requires-clause-fits : goal.merge-requires-clause-fits
+merge-requires-clause-fits g c =
+    let es = entries_of c.in_ok-sizes.sizes in
+    moved_fits c.self.inside.rows.items (map (row_of c.args.pool.now) es) c.in_ok-new.new.items c.in_ok-new.ensures.same
+    (fit_together c.args.pool.now c.self.inside.rows.items es c.self.inside.depth c.self.inside.lengths c.self.inside.mapped c.args.file_len (mapped_count c.args.base.now.loads) c.self.invariant
+    (omega (arith, c.in_ok-sizes.ensures.file (λ _. true), file-le (λ _. true) (option_copied c.args.passes) c.args.maps.now c.args.file_len))
+    (omega (arith, c.in_ok-sizes.ensures.vm (λ _. true), vm-le (λ _. true) (option_copied c.args.passes) c.args.maps.now c.args.base.now.loads))
+    (omega (arith, c.from.ensures, c.from-2.ensures, c.if-lengths-gt-MOST.false)) (omega (arith, c.from-3.ensures, c.mapped_size.ensures, c.if-mapped-gt-MOST.false)))
+
+pub merge-requires-clause-ordered : goal.merge-requires-clause-ordered
+merge-requires-clause-ordered g c = c.self.invariant.ordered
+
 pub returns-clause-file : goal.returns-clause-file
 returns-clause-file g c = λ test.
     let es = entries_of c.in_ok-sizes.sizes in
     let old : c.self.inside.rows.items ≡ c.args.self.now.rows = ap (λ (t : Totals). t.rows) c.self.view_is in
-    let merged : AreMerged (c.self.inside.rows.items ++ map (row_of c.args.pool.now) es) c.in_ok-self-inside.field-0.items =
-    subst (λ rows. AreMerged (rows ++ map (row_of c.args.pool.now) es) c.in_ok-self-inside.field-0.items) c.as_slice.ensures.value c.in_ok-self-inside.ensures in
-    file_added c.args.pool.now c.self.inside.rows.items es test c.in_ok-self-inside.field-0.items merged
+    let merged : AreMerged c.self.inside.rows.items (map (row_of c.args.pool.now) es) c.merge.new.rows.items =
+    merged_from c.self.inside.rows.items (map (row_of c.args.pool.now) es) c.in_ok-new.new.items c.merge.new.rows.items c.in_ok-new.ensures.same c.in_ok-merge.ensures.ok in
+    file_added c.args.pool.now c.self.inside.rows.items es test c.merge.new.rows.items merged
     ∙ (ap (λ k. file_where test c.self.inside.rows.items + k) (c.in_ok-sizes.ensures.file (λ ns. test (map (text_of c.args.pool.now) ns)))
     ∙ ap (λ rows. file_where test rows + file_counted (λ ns. test (map (text_of c.args.pool.now) ns)) (option_copied c.args.passes) c.args.maps.now c.args.file_len) old)
 
@@ -44,19 +56,22 @@ pub returns-clause-vm : goal.returns-clause-vm
 returns-clause-vm g c = λ test.
     let es = entries_of c.in_ok-sizes.sizes in
     let old : c.self.inside.rows.items ≡ c.args.self.now.rows = ap (λ (t : Totals). t.rows) c.self.view_is in
-    let merged : AreMerged (c.self.inside.rows.items ++ map (row_of c.args.pool.now) es) c.in_ok-self-inside.field-0.items =
-    subst (λ rows. AreMerged (rows ++ map (row_of c.args.pool.now) es) c.in_ok-self-inside.field-0.items) c.as_slice.ensures.value c.in_ok-self-inside.ensures in
-    vm_added c.args.pool.now c.self.inside.rows.items es test c.in_ok-self-inside.field-0.items merged
+    let merged : AreMerged c.self.inside.rows.items (map (row_of c.args.pool.now) es) c.merge.new.rows.items =
+    merged_from c.self.inside.rows.items (map (row_of c.args.pool.now) es) c.in_ok-new.new.items c.merge.new.rows.items c.in_ok-new.ensures.same c.in_ok-merge.ensures.ok in
+    vm_added c.args.pool.now c.self.inside.rows.items es test c.merge.new.rows.items merged
     ∙ (ap (λ k. vm_where test c.self.inside.rows.items + k) (c.in_ok-sizes.ensures.vm (λ ns. test (map (text_of c.args.pool.now) ns)))
     ∙ ap (λ rows. vm_where test rows + vm_counted (λ ns. test (map (text_of c.args.pool.now) ns)) (option_copied c.args.passes) c.args.maps.now c.args.base.now.loads) old)
 
 pub invariant_of-self : goal.invariant_of-self
-invariant_of-self g c =
+invariant_of-self g c = subst (λ rows. IsTotals c.self.inside.depth rows c.self.inside.lengths c.self.inside.mapped) (sym c.in_err-merge.ensures.err) c.self.invariant
+
+pub invariant_of-self-2 : goal.invariant_of-self-2
+invariant_of-self-2 g c =
     let es = entries_of c.in_ok-sizes.sizes in
     let pool = c.args.pool.now in
-    let new = c.in_ok-self-inside.field-0.items in
-    let merged : AreMerged (c.self.inside.rows.items ++ map (row_of pool) es) new =
-    subst (λ rows. AreMerged (rows ++ map (row_of pool) es) new) c.as_slice.ensures.value c.in_ok-self-inside.ensures in
+    let new = c.merge.new.rows.items in
+    let merged : AreMerged c.self.inside.rows.items (map (row_of pool) es) c.merge.new.rows.items =
+    merged_from c.self.inside.rows.items (map (row_of pool) es) c.in_ok-new.new.items c.merge.new.rows.items c.in_ok-new.ensures.same c.in_ok-merge.ensures.ok in
     let depth : length c.args.maps.now ≡ c.self.inside.depth = c.requires.depth ∙ sym (ap (λ (t : Totals). t.depth) c.self.view_is) in
     let all : All (IsEntry c.self.inside.depth (length pool)) es = subst (λ k. All (IsEntry k (length pool)) es) depth (c.in_ok-sizes.ensures.entries (length pool) c.requires.labels) in
     let lengths : c.from.result + c.from-2.result ≡ c.self.inside.lengths + c.args.file_len = omega (arith, c.from.ensures, c.from-2.ensures) in

@@ -1,0 +1,4 @@
+pub mod ListLemmas
+pub mod LoopLemmas
+pub mod MadeLemmas
+pub mod SheetLemmas

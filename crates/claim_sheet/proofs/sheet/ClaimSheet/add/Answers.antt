@@ -1,0 +1,41 @@
+-- The claim is kept within the limit, and else only counted.
+use Rattle.std.proofs.Common.{◌≡◌, ◌∙◌, true, false, sym, ap, arith, [], ◌∷◌}
+use Rattle.std.proofs.lemmas.Result.{on_ok_weaker, on_err_weaker}
+use Rattle.claim_sheet.specs.Reaches.{claim_of, is_empty, wrapped}
+use Rattle.claim_sheet.specs.Sheets.{Sheet, adding}
+use Rattle.claim_sheet.proofs.MadeLemmas.{kept-length, kept-texts}
+use Rattle.claim_sheet.proofs.SheetLemmas.{adding_none, seen-kept, seen-past, seen-same}
+use Rattle.claim_sheet.proofs.sheet.ClaimSheet.add.Goals as goal
+
+pub returns-then-is_empty-clause-made : goal.returns-then-is_empty-clause-made
+returns-then-is_empty-clause-made c =
+    let none : is_empty c.args.reach ≡ true = sym c.if-is_empty.ensures in
+    rw none (sym (adding_none c.args.self.now))
+
+pub returns-then-len-self-clause-made : goal.returns-then-len-self-clause-made
+returns-then-len-self-clause-made c =
+    let some : is_empty c.args.reach ≡ false = sym c.if-is_empty.ensures in
+    let s = c.self.inside in
+    rw some (seen-past s.pool s.first s.claims.items s.limit s.over _ (omega arith)
+    ∙ ap (λ (t : Sheet). adding t (claim_of c.args.reach (wrapped c.args.wrap c.args.label.now) ∷ [])) c.self.view_is)
+
+pub returns-clause-made : goal.returns-clause-made
+returns-clause-made c =
+    let some : is_empty c.args.reach ≡ false = sym c.if-is_empty.ensures in
+    let s = c.self.inside in
+    rw some (on_ok_weaker c.push_wrapped.result (λ made. seen-kept s.pool c.push_wrapped.new.pool s.first s.claims.items c.push_wrapped.new.claims.items s.limit s.over _ c.self.invariant.within c.push_wrapped.ensures.kept (omega arith) made
+    ∙ ap (λ (t : Sheet). adding t (claim_of c.args.reach (wrapped c.args.wrap c.args.label.now) ∷ [])) c.self.view_is) c.push_wrapped.ensures.made)
+
+pub returns-clause-same : goal.returns-clause-same
+returns-clause-same c =
+    let s = c.self.inside in
+    on_err_weaker c.push_wrapped.result (λ same. seen-same s.pool c.push_wrapped.new.pool s.first s.claims.items c.push_wrapped.new.claims.items s.limit s.over c.self.invariant.within c.push_wrapped.ensures.kept
+    (rw same (kept-texts s.pool c.push_wrapped.new.pool s.claims.items c.push_wrapped.ensures.kept c.self.invariant.numbered)) ∙ c.self.view_is) c.push_wrapped.ensures.same_claims
+
+pub invariant_of-self-2 : goal.invariant_of-self-2
+invariant_of-self-2 c = record {
+  within = let more = kept-length c.self.inside.pool c.push_wrapped.new.pool c.push_wrapped.ensures.kept in let before = c.self.invariant.within in omega arith;
+  numbered = c.push_wrapped.ensures.numbered;
+  used = c.push_wrapped.ensures.used c.self.inside.first c.self.invariant.used;
+  few = let one = c.push_wrapped.ensures.few in omega arith;
+}

@@ -1,0 +1,92 @@
+//! What a claim covers.
+
+ghost use Rattle.std.specs.Prelude.{◌≡◌};
+ghost use Rattle.claim_sheet.specs.Reaches.{is_empty, span, in_file, in_memory, in_both, of_load, of_addresses};
+
+use size_core::{Load, Side, Span};
+
+/// The bytes that a claim covers.
+#[derive(Clone, Copy, Debug, PartialEq, Eq)]
+pub struct Reach {
+    pub side: Side,
+    pub vm: Span,
+    pub file: Span,
+}
+
+const NO_SPAN: Span = Span {
+    space: 0,
+    start: 0,
+    len: 0,
+};
+
+/// A span, which is 0, 0, 0 where it is empty.
+pub fn span(space: u32, start: u64, len: u64) -> Span
+    ensures { result ≡ span space start len }
+{
+    if len == 0 {
+        NO_SPAN
+    } else {
+        Span { space, start, len }
+    }
+}
+
+impl Reach {
+    /// Bytes of the file.
+    pub fn in_file(file: Span) -> Reach
+        ensures { result ≡ in_file file }
+    {
+        Reach {
+            side: Side::File,
+            vm: NO_SPAN,
+            file,
+        }
+    }
+
+    /// Virtual addresses.
+    pub fn in_memory(vm: Span) -> Reach
+        ensures { result ≡ in_memory vm }
+    {
+        Reach {
+            side: Side::Vm,
+            vm,
+            file: NO_SPAN,
+        }
+    }
+
+    /// Virtual addresses and bytes of the file.
+    pub fn in_both(vm: Span, file: Span) -> Reach
+        ensures { result ≡ in_both vm file }
+    {
+        Reach {
+            side: Side::Both,
+            vm,
+            file,
+        }
+    }
+
+    /// The part of a file of `len` bytes that a load takes, up to the file's end, and the load's addresses.
+    pub fn of_load(len: u64, load: &Load) -> Reach
+        ensures { result ≡ of_load len load.now }
+    {
+        let taken = load.filesz.min(load.memsz);
+        let part = taken.min(len.saturating_sub(load.offset));
+        Reach::in_both(
+            span(load.space, load.vaddr, load.memsz),
+            span(0, load.offset, part),
+        )
+    }
+
+    /// The addresses of a load.
+    pub fn of_addresses(load: &Load) -> Reach
+        ensures { result ≡ of_addresses load.now }
+    {
+        Reach::in_memory(span(load.space, load.vaddr, load.memsz))
+    }
+
+    /// Whether there is no byte.
+    pub fn is_empty(&self) -> bool
+        ensures { result ≡ is_empty self.now }
+    {
+        self.vm.len == 0 && self.file.len == 0
+    }
+}

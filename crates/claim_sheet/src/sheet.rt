@@ -1,0 +1,122 @@
+//! A sheet of claims.
+
+ghost use Rattle.std.specs.Prelude.{◌≡◌, ◌≤◌, true, false, length, OnOk, OnErr, IfOk, MatchResult};
+ghost use Rattle.claim_sheet.specs.Made.{AreNumbered, AreUsed, KeepsLabels, texts};
+ghost use Rattle.claim_sheet.specs.Reaches.{claim_on, claim_on_some, wrapped};
+ghost use Rattle.claim_sheet.specs.Sheets.{adding, fresh};
+
+use crate::labels::Wrap;
+use crate::making::push_wrapped;
+use crate::reach::Reach;
+use size_core::{Claim, LabelPool, NoMemory};
+use std::alloc::Global;
+use std::marker::Model;
+use std::mem::replace;
+
+/// There were more claims than the limit.
+#[derive(Clone, Copy, Debug, PartialEq, Eq)]
+pub struct TooMany;
+
+/// The claims made so far, with the pool of their labels and the most that there may be. Past that they are no
+/// more kept.
+#[derive(Drop)]
+pub struct ClaimSheet {
+    alloc: Global,
+    pool: LabelPool,
+    // How many labels the pool had at first.
+    first: usize,
+    claims: Vec<Claim>,
+    limit: u64,
+    over: bool,
+}
+
+impl Model for ClaimSheet {
+    ghost use Rattle.std.specs.Prelude.{take};
+    ghost use Rattle.claim_sheet.specs.Made.{texts};
+    ghost use Rattle.claim_sheet.specs.Sheets.{Sheet, IsSheet};
+
+    ghost Value = { Sheet };
+
+    ghost view = { λ s. record { pool = take s.first s.pool; limit = s.limit; made = texts s.pool s.claims.items; over = s.over } };
+
+    ghost invariant = { λ s. IsSheet s.pool s.first s.claims.items s.limit };
+}
+
+impl ClaimSheet {
+    /// A sheet with no claims. It has the pool's labels until it is finished.
+    pub fn begin(alloc: Global, pool: &mut LabelPool, limit: u64) -> ClaimSheet
+        ensures { result ≡ fresh pool.old limit }
+    {
+        let pool = replace(pool, LabelPool::new(alloc));
+        let first = pool.len();
+        ClaimSheet {
+            alloc,
+            pool,
+            first,
+            claims: Vec::new(alloc),
+            limit,
+            over: false,
+        }
+    }
+
+    /// Adds the claim on these bytes under this label, where there is a byte.
+    pub fn add(&mut self, reach: Reach, wrap: Wrap, label: &[u8]) -> Result<(), NoMemory>
+        ensures made { OnOk result (self.new ≡ adding self.old (claim_on reach (wrapped wrap label.now))) }
+        ensures same { OnErr result (self.new ≡ self.old) }
+        ensures kept { self.new.pool ≡ self.old.pool }
+    {
+        if reach.is_empty() {
+            return Ok(());
+        }
+        if self.claims.len() as u64 >= self.limit {
+            self.over = true;
+            return Ok(());
+        }
+        push_wrapped(
+            self.alloc,
+            &mut self.pool,
+            &mut self.claims,
+            reach,
+            wrap,
+            label,
+        )
+    }
+
+    /// The same, where there is something to claim.
+    #[tactic(auto, using(crate::proofs::SheetLemmas::adding_none))]
+    pub fn add_some(
+        &mut self,
+        reach: Option<Reach>,
+        wrap: Wrap,
+        label: &[u8],
+    ) -> Result<(), NoMemory>
+        ensures made { OnOk result (self.new ≡ adding self.old (claim_on_some reach (wrapped wrap label.now))) }
+        ensures same { OnErr result (self.new ≡ self.old) }
+        ensures kept { self.new.pool ≡ self.old.pool }
+    {
+        match reach {
+            Some(reach) => self.add(reach, wrap, label),
+            None => Ok(()),
+        }
+    }
+
+    /// Gives the pool its labels back, and with them those of the claims: the claims, or that there were more than
+    /// the limit. No other label is new in the pool.
+    pub fn finish(self, pool: &mut LabelPool) -> Result<Vec<Claim>, TooMany>
+        ensures claims { IfOk result (λ v. texts pool.new v.items ≡ self.made) }
+        ensures numbered { IfOk result (λ v. AreNumbered pool.new v.items) }
+        ensures used { IfOk result (λ v. AreUsed (length self.pool) pool.new v.items) }
+        ensures few { IfOk result (λ v. length v.items ≤ self.limit) }
+        ensures many { MatchResult result (λ _. self.over ≡ false) (λ _. self.over ≡ true) }
+        ensures kept { KeepsLabels self.pool pool.new }
+    {
+        let ClaimSheet {
+            pool: labels,
+            claims,
+            over,
+            ..
+        } = self;
+        *pool = labels;
+        if over { Err(TooMany) } else { Ok(claims) }
+    }
+}

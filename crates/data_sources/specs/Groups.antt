@@ -1,0 +1,91 @@
+-- What there is in a file of any format for the data sources to show, group by group.
+use Rattle.std.specs.Prelude.{ℕ, List, [], Option, None, Result}
+use Rattle.size_core.specs.declared.claim.Load.{Load}
+use Rattle.size_core.specs.declared.fault.BadFile.{BadFile}
+use Rattle.size_core.specs.declared.fault.Fault.TheVariants.{SourceNotForFile}
+use Rattle.size_core.specs.Checks.{bad}
+use Rattle.size_model.specs.declared.view.LabelledClaim.{LabelledClaim}
+use Rattle.claim_sheet.specs.declared.labels.Wrap.{Wrap}
+use Rattle.claim_sheet.specs.declared.labels.Wrap.TheVariants.{Plain}
+use Rattle.elf_claims.specs.Claims.{header_claims as elf_headers, load_claims as elf_loads, section_claims as elf_sections}
+use Rattle.elf_claims.specs.DebugClaims.{lines_claims as elf_lines, units_claims as elf_units}
+use Rattle.elf_claims.specs.Loads.{slot_count as elf_slots, slot_load as elf_load}
+use Rattle.elf_claims.specs.SymbolClaims.{symbols_claims as elf_symbols}
+use Rattle.macho_claims.specs.Claims.{header_claims as macho_headers, link_edit_claims as macho_link_edit, load_claims as macho_loads, section_claims as macho_sections}
+use Rattle.macho_claims.specs.DebugClaims.{lines_claims as macho_lines, units_claims as macho_units}
+use Rattle.macho_claims.specs.Loads.{slot_count as macho_slots, slot_load as macho_load}
+use Rattle.macho_claims.specs.SymbolClaims.{symbols_claims as macho_symbols}
+use Rattle.wasm_claims.specs.Claims.{header_claims as wasm_headers, section_claims as wasm_sections, symbols_claims as wasm_symbols}
+use Rattle.data_sources.specs.declared.binary.Binary.{Binary}
+use Rattle.data_sources.specs.declared.binary.Binary.TheVariants.{Elf, Macho, Wasm}
+
+-- the claims of records that may have a fault
+abbrev pub Reading : Type 0
+Reading = Result (List LabelledClaim) BadFile
+
+-- a data source that isn't offered for this kind of file
+abbrev pub not_offered : Reading
+not_offered = bad SourceNotForFile 0
+
+-- The groups of a file: its bytes; the slots in which loads may stand, and the load in a slot, if there is one; the
+-- claims of the loads and of the sections, whose labels are written in one of three ways; those of the parts for the
+-- link editor and of the headers; those that `segments` shows before the headers; and, each with its first fault,
+-- those of the symbols, of the compile units and of the lines of source text.
+pub record Groups : Type 0 where
+  pub bytes : List ℕ
+  pub slots : ℕ
+  pub load : ℕ → Option Load
+  pub loads : Wrap → List LabelledClaim
+  pub sections : Wrap → List LabelledClaim
+  pub link_edit : List LabelledClaim
+  pub headers : List LabelledClaim
+  pub segments : List LabelledClaim
+  pub symbols : Reading
+  pub units : Reading
+  pub lines : Reading
+
+-- the groups of each format
+abbrev pub groups_of : Binary → Groups
+groups_of (Elf file) = record {
+  bytes = file;
+  slots = elf_slots file;
+  load = λ i. elf_load file i;
+  loads = λ wrap. elf_loads wrap file;
+  sections = λ wrap. elf_sections wrap file;
+  link_edit = [];
+  headers = elf_headers file;
+  segments = elf_loads Plain file;
+  symbols = elf_symbols file;
+  units = elf_units file;
+  lines = elf_lines file;
+}
+groups_of (Macho file) = record {
+  bytes = file;
+  slots = macho_slots file;
+  load = λ i. macho_load file i;
+  loads = λ wrap. macho_loads wrap file;
+  sections = λ wrap. macho_sections wrap file;
+  link_edit = macho_link_edit file;
+  headers = macho_headers file;
+  segments = macho_loads Plain file;
+  symbols = macho_symbols file;
+  units = macho_units file;
+  lines = macho_lines file;
+}
+groups_of (Wasm file) = record {
+  bytes = file;
+  slots = 0;
+  load = λ i. None;
+  loads = λ wrap. [];
+  sections = λ wrap. wasm_sections wrap file;
+  link_edit = [];
+  headers = wasm_headers file;
+  segments = wasm_sections Plain file;
+  symbols = wasm_symbols file;
+  units = not_offered;
+  lines = not_offered;
+}
+
+-- the file that was opened
+abbrev pub bytes_of : Binary → List ℕ
+bytes_of binary = (groups_of binary).bytes

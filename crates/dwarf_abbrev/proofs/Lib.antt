@@ -1,0 +1,4 @@
+pub mod Forward
+pub mod Listings
+pub mod Specs
+pub mod Tables

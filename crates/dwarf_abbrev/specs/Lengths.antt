@@ -1,0 +1,35 @@
+-- Initial lengths (DWARF 5, section 7.4).
+use Rattle.std.specs.Prelude.{ℕ, ◌+◌, ◌==◌, ◌&&◌, not, true, false, Bool, length, Result, Ok, nat_le, if◌then◌else◌}
+use Rattle.std.specs.Int.{w32, w64}
+use Rattle.size_core.specs.declared.fault.BadFile.{BadFile}
+use Rattle.size_core.specs.declared.fault.Fault.TheVariants.{BadUnit}
+use Rattle.size_core.specs.Checks.{◌>>=◌, ◌>>◌, demand}
+use Rattle.byte_cursor.specs.declared.order.Order.{Order}
+use Rattle.byte_cursor.specs.Window.{Window, place_of}
+use Rattle.dwarf_abbrev.specs.declared.constants.TheConstants.{FIRST_RESERVED_LENGTH, WIDE_LENGTH}
+use Rattle.dwarf_abbrev.specs.declared.length.InitialLength.{InitialLength}
+use Rattle.dwarf_abbrev.specs.Reads.{num_from, faults_at}
+
+-- the length behind its first four bytes, and whether offsets have eight bytes
+abbrev pub length_behind : Order → ℕ × Window → Result (InitialLength × Window) BadFile
+length_behind order first =
+    if first.0 == WIDE_LENGTH then num_from w64 order first.1 >>= (λ n. Ok (record { len = n.0; wide = true }, n.1))
+    else Ok (record { len = first.0; wide = false }, first.1)
+
+-- the first four bytes of a length are reserved
+abbrev pub is_reserved : ℕ → Bool
+is_reserved first = nat_le FIRST_RESERVED_LENGTH first && not (first == WIDE_LENGTH)
+
+-- a length with its checks
+unfoldable pub checked_length : Order → Window → Result (InitialLength × Window) BadFile
+checked_length order w = do
+  first ← num_from w32 order w
+  demand (not (is_reserved first.0)) BadUnit (place_of w)
+  initial ← length_behind order first
+  demand (nat_le (initial.1.at + initial.0.len) (length initial.1.bytes)) BadUnit (place_of w)
+  Ok initial
+
+-- An initial length, and the window at the contents whose length it says. Each fault stands at its place: Truncated
+-- where it isn't whole, BadUnit where its first four bytes are reserved, and where the contents pass the window's end.
+unfoldable pub initial_length_from : Order → Window → Result (InitialLength × Window) BadFile
+initial_length_from order w = faults_at (place_of w) (checked_length order w)

@@ -1,0 +1,7 @@
+pub mod Declarations
+pub mod Forms
+pub mod Laws
+pub mod Lengths
+pub mod Listing
+pub mod Reads
+pub mod Values

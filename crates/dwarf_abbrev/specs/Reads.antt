@@ -1,0 +1,88 @@
+-- What is read of a window, and the window behind it.
+use Rattle.std.specs.Prelude.{◌≡◌, ℕ, ℤ, ◌+◌, ◌*◌, ◌^◌, ◌==◌, Bool, true, List, length, nat_lt, Option, Some, None, Result, Ok, Err, if◌then◌else◌}
+use Rattle.std.specs.Int.{Width, byte_len, w8, w16, w32, w64}
+use Rattle.size_core.specs.declared.fault.BadFile.{BadFile}
+use Rattle.size_core.specs.Checks.{◌>>=◌, bad}
+use Rattle.byte_cursor.specs.declared.order.Order.{Order}
+use Rattle.byte_cursor.specs.declared.order.Order.TheVariants.{Little, Big}
+use Rattle.byte_cursor.specs.Numbers.{num, uleb, sleb, text}
+use Rattle.byte_cursor.specs.Reads.{whole, unsigned_value, signed_value, leb_len, skipped}
+use Rattle.byte_cursor.specs.Window.{Window, place_of, moved}
+use Rattle.dwarf_abbrev.specs.declared.form.Digits.{Digits}
+use Rattle.dwarf_abbrev.specs.declared.form.Digits.TheVariants.{One, Two, Three, Four, Eight, Uleb}
+
+-- a call read this, seen by view, and left the window behind it, or it answered the fault
+abbrev pub Reads : {X Y : Type 0} → (X → Y) → Result X BadFile → Window → Result (Y × Window) BadFile → Type 0
+Reads view (Ok x) new reading = reading ≡ Ok (view x, new)
+Reads view (Err e) new reading = reading ≡ Err e
+
+-- the same, and after a fault the window is as it was
+abbrev pub Takes : {X Y : Type 0} → (X → Y) → Result X BadFile → Window → Window → Result (Y × Window) BadFile → Type 0
+Takes view (Ok x) old new reading = reading ≡ Ok (view x, new)
+Takes view (Err e) old new reading = (reading ≡ Err e) × (new ≡ old)
+
+-- the same reading, whose faults stand at this place
+abbrev pub faults_at : {X : Type 0} → ℕ → Result X BadFile → Result X BadFile
+faults_at place (Ok x) = Ok x
+faults_at place (Err e) = bad e.fault place
+
+-- a number of this width
+unfoldable pub num_from : Width → Order → Window → Result (ℕ × Window) BadFile
+num_from width order w = whole (num w.bytes w.at width order) (place_of w) >>= λ n. Ok (n, moved w true (byte_len width))
+
+-- a byte
+abbrev pub byte_from : Window → Result (ℕ × Window) BadFile
+byte_from w = num_from w8 Little w
+
+-- a LEB128 number, and one with a sign
+unfoldable pub uleb_from : Window → Result (ℕ × Window) BadFile
+uleb_from w = unsigned_value (uleb w.bytes w.at) (place_of w) >>= λ n. Ok (n, moved w true (leb_len (uleb w.bytes w.at)))
+
+unfoldable pub sleb_from : Window → Result (ℤ × Window) BadFile
+sleb_from w = signed_value (sleb w.bytes w.at) (place_of w) >>= λ n. Ok (n, moved w true (leb_len (sleb w.bytes w.at)))
+
+-- the bytes before the next zero byte, which is passed
+unfoldable pub text_from : Window → Result (List ℕ × Window) BadFile
+text_from w = whole (text w.bytes w.at) (place_of w) >>= λ t. Ok (t, moved w true (length t + 1))
+
+-- the next bytes, which are passed
+unfoldable pub skip_from : ℕ → Window → Result (Unit {0} × Window) BadFile
+skip_from count w = skipped w count >>= λ u. Ok (u, moved w true count)
+
+-- a number of three bytes, the lowest first or the highest first
+unfoldable pub three_from : Order → Window → Result (ℕ × Window) BadFile
+three_from Little w = do
+  low ← num_from w16 Little w
+  high ← byte_from low.1
+  Ok (low.0 + 2 ^ 16 * high.0, high.1)
+three_from Big w = do
+  high ← byte_from w
+  low ← num_from w16 Big high.1
+  Ok (low.0 + 2 ^ 16 * high.0, low.1)
+
+-- a number in these digits
+unfoldable pub number_from : Order → Digits → Window → Result (ℕ × Window) BadFile
+number_from order One w = byte_from w
+number_from order Two w = num_from w16 order w
+number_from order Three w = three_from order w
+number_from order Four w = num_from w32 order w
+number_from order Eight w = num_from w64 order w
+number_from order Uleb w = uleb_from w
+
+-- how an offset and an address are spelled
+abbrev pub offset_digits : Bool → Digits
+offset_digits wide = if wide then Eight else Four
+
+abbrev pub address_digits : ℕ → Digits
+address_digits size = if size == 2 then Two else if size == 4 then Four else Eight
+
+-- an offset, which has eight bytes or four, and an address of some size
+abbrev pub offset_from : Order → Bool → Window → Result (ℕ × Window) BadFile
+offset_from order wide w = number_from order (offset_digits wide) w
+
+abbrev pub address_from : Order → ℕ → Window → Result (ℕ × Window) BadFile
+address_from order size w = number_from order (address_digits size) w
+
+-- the window at an offset of a section, which is what the section's window has left
+abbrev pub inside : Window → ℕ → Option Window
+inside section offset = if nat_lt (section.at + offset) (length section.bytes) then Some (record section { at = section.at + offset }) else None

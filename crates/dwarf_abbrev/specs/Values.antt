@@ -1,0 +1,112 @@
+-- The values of attributes (DWARF 5, sections 7.5.5 and 7.5.6).
+use Rattle.std.specs.Prelude.{ℕ, ℤ, List, Option, Some, None, Result, Ok}
+use Rattle.std.specs.Option.{option_map}
+use Rattle.size_core.specs.declared.fault.BadFile.{BadFile}
+use Rattle.size_core.specs.declared.fault.Fault.TheVariants.{UnknownForm}
+use Rattle.size_core.specs.Checks.{◌>>=◌, bad}
+use Rattle.byte_cursor.specs.declared.order.Order.{Order}
+use Rattle.byte_cursor.specs.Window.{Window, place_of}
+use Rattle.dwarf_abbrev.specs.declared.shape.UnitShape.{UnitShape}
+use Rattle.dwarf_abbrev.specs.declared.spec.Spec.{Spec}
+use Rattle.dwarf_abbrev.specs.declared.form.Layout.{Layout}
+use Rattle.dwarf_abbrev.specs.declared.form.Layout.TheVariants.{Number, Signed, Text, Counted, Bytes, Implicit, Indirect}
+use Rattle.dwarf_abbrev.specs.declared.form.Sense.{Sense}
+use Rattle.dwarf_abbrev.specs.declared.form.Sense.TheVariants.{Address, AddrIndex, Constant, StrOffset, LineStrOffset, StrIndex, SectionOffset, ListIndex, Other}
+use Rattle.dwarf_abbrev.specs.declared.value.Value.{Value}
+use Rattle.dwarf_abbrev.specs.declared.value.Content.{Content}
+use Rattle.dwarf_abbrev.specs.Forms.{form_of, layout_of}
+use Rattle.dwarf_abbrev.specs.Reads.{faults_at, uleb_from, sleb_from, text_from, skip_from, number_from}
+
+-- what a value says
+pub data Meaning : Type 0 where
+  AnAddress : ℕ → Meaning
+  AnAddrIndex : ℕ → Meaning
+  AConstant : ℕ → Meaning
+  ASigned : ℤ → Meaning
+  AText : List ℕ → Meaning
+  AStrOffset : ℕ → Meaning
+  ALineStrOffset : ℕ → Meaning
+  AStrIndex : ℕ → Meaning
+  ASecOffset : ℕ → Meaning
+  AListIndex : ℕ → Meaning
+  NoMeaning : Meaning
+
+-- a value, and where it stands in the file
+pub record ValueRecord : Type 0 where
+  pub place : ℕ
+  pub content : Meaning
+
+-- a value as contracts see it
+abbrev pub meaning : Content → Meaning
+meaning (Content.Address n) = AnAddress n
+meaning (Content.AddrIndex n) = AnAddrIndex n
+meaning (Content.Constant n) = AConstant n
+meaning (Content.Signed n) = ASigned n
+meaning (Content.Text t) = AText t.now
+meaning (Content.StrOffset n) = AStrOffset n
+meaning (Content.LineStrOffset n) = ALineStrOffset n
+meaning (Content.StrIndex n) = AStrIndex n
+meaning (Content.SecOffset n) = ASecOffset n
+meaning (Content.ListIndex n) = AListIndex n
+meaning Content.Other = NoMeaning
+
+abbrev pub shown : Value → ValueRecord
+shown v = record { place = v.place; content = meaning v.content }
+
+-- what a number says
+abbrev pub said : Sense → ℕ → Meaning
+said Address n = AnAddress n
+said AddrIndex n = AnAddrIndex n
+said Constant n = AConstant n
+said StrOffset n = AStrOffset n
+said LineStrOffset n = ALineStrOffset n
+said StrIndex n = AStrIndex n
+said SectionOffset n = ASecOffset n
+said ListIndex n = AListIndex n
+said Other n = NoMeaning
+
+-- a value of this layout, which is neither in the declaration nor behind the number of its form
+unfoldable pub plain_from : Order → Layout → Window → Result (Meaning × Window) BadFile
+plain_from order (Number digits sense) w = do
+  n ← number_from order digits w
+  Ok (said sense n.0, n.1)
+plain_from order Signed w = do
+  n ← sleb_from w
+  Ok (ASigned n.0, n.1)
+plain_from order Text w = do
+  t ← text_from w
+  Ok (AText t.0, t.1)
+plain_from order (Counted digits) w = do
+  n ← number_from order digits w
+  passed ← skip_from n.0 n.1
+  Ok (NoMeaning, passed.1)
+plain_from order (Bytes count) w = do
+  passed ← skip_from count w
+  Ok (NoMeaning, passed.1)
+plain_from order Implicit w = bad UnknownForm (place_of w)
+plain_from order Indirect w = bad UnknownForm (place_of w)
+
+-- the layout of the values of a form's number
+abbrev pub layout_of_number : UnitShape → ℕ → Option Layout
+layout_of_number s n = option_map (layout_of s) (form_of n)
+
+-- a value of this layout, if the form has one
+abbrev pub known_from : Order → Option Layout → Window → Result (Meaning × Window) BadFile
+known_from order None w = bad UnknownForm (place_of w)
+known_from order (Some layout) w = plain_from order layout w
+
+-- A value of this layout: what the declaration says, or what stands behind the number of a form, or what stands here.
+unfoldable pub content_by : UnitShape → ℤ → Option Layout → Window → Result (Meaning × Window) BadFile
+content_by s constant None w = bad UnknownForm (place_of w)
+content_by s constant (Some Implicit) w = Ok (ASigned constant, w)
+content_by s constant (Some Indirect) w = do
+  form ← uleb_from w
+  known_from s.order (layout_of_number s form.0) form.1
+content_by s constant (Some layout) w = plain_from s.order layout w
+
+-- The value of an attribute, whose faults all stand at its place: UnknownForm, Truncated where it doesn't fit the
+-- window, BadLeb where a number in it is too large.
+unfoldable pub value_from : UnitShape → Spec → Window → Result (ValueRecord × Window) BadFile
+value_from s spec w = faults_at (place_of w) do
+  content ← content_by s spec.constant (layout_of_number s spec.form) w
+  Ok (record { place = place_of w; content = content.0 }, content.1)

@@ -1,0 +1,61 @@
+//! One declaration (DWARF 5, section 7.5.3).
+
+ghost use Rattle.std.specs.Prelude.{◌≡◌};
+ghost use Rattle.std.specs.Iterator.{YieldsFirst, item_count};
+ghost use Rattle.dwarf_abbrev.specs.Declarations.{specs_from};
+
+use crate::declaration::{Head, spec_from};
+use crate::spec::Spec;
+use byte_cursor::Cursor;
+use std::marker::Model;
+
+/// A declaration of entries, and an iterator over their attributes in order.
+#[derive(Drop)]
+pub struct Entry<'a> {
+    head: Head,
+    cursor: Cursor<'a>,
+}
+
+impl<'a> Model for Entry<'a> {
+    ghost use Rattle.dwarf_abbrev.specs.Declarations.{Declaration, specs_from};
+
+    ghost Value = { Declaration };
+
+    ghost view = { λ e. record { code = e.head.code; tag = e.head.tag; specs = (specs_from e.cursor).items } };
+}
+
+impl<'a> Entry<'a> {
+    /// The declaration of this head whose attributes stand at the cursor's place.
+    pub(crate) fn new(head: Head, cursor: Cursor<'a>) -> Entry<'a>
+        ensures { result ≡ record { code = head.code; tag = head.tag; specs = (specs_from cursor.entry).items } }
+    {
+        Entry { head, cursor }
+    }
+
+    /// The tag of the entries.
+    pub fn tag(&self) -> u64
+        ensures { result ≡ self.now.tag }
+    {
+        self.head.tag
+    }
+}
+
+impl<'a> Iterator for Entry<'a> {
+    type Item = Spec;
+
+    ghost next_gives = { λ s r t. YieldsFirst (λ e. e.specs) s r t × (t ≡ record s { specs = t.specs }) };
+
+    ghost remaining = { item_count (λ e. e.specs) };
+
+    #[tactic(auto, using(crate::proofs::Specs::specs_more, crate::proofs::Specs::specs_less, crate::proofs::Specs::specs_done, crate::proofs::Specs::specs_bad))]
+    fn next(&mut self) -> Option<Spec> {
+        let mut ahead = self.cursor.fork();
+        match spec_from(&mut ahead) {
+            Ok(Some(spec)) => {
+                self.cursor = ahead;
+                Some(spec)
+            }
+            _ => None,
+        }
+    }
+}

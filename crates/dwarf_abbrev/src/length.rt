@@ -1,0 +1,90 @@
+//! Initial lengths (DWARF 5, section 7.4).
+
+ghost use Rattle.std.specs.Prelude.{◌≡◌};
+ghost use Rattle.size_core.specs.Checks.{bad};
+ghost use Rattle.size_core.specs.declared.fault.Fault.TheVariants.{BadUnit};
+ghost use Rattle.dwarf_abbrev.specs.Lengths.{checked_length, initial_length_from, is_reserved, length_behind};
+ghost use Rattle.dwarf_abbrev.specs.Reads.{Reads, Takes};
+
+use crate::constants::{FIRST_RESERVED_LENGTH, WIDE_LENGTH};
+use crate::reads::{u32_from, u64_from};
+use byte_cursor::{Cursor, Order};
+use size_core::{BadFile, Fault};
+
+/// How long the contents of a unit, a table or a set are, and what its offsets are.
+#[derive(Clone, Copy, Debug, PartialEq, Eq, Hash)]
+pub struct InitialLength {
+    /// The bytes behind the length itself.
+    pub len: u64,
+    /// Whether offsets have 8 bytes, as in the 64-bit format, or 4.
+    pub wide: bool,
+}
+
+/// The length behind its first four bytes.
+fn length_behind(cursor: &mut Cursor, first: u32, order: Order) -> Result<InitialLength, BadFile>
+    ensures { Reads (λ x. x) result cursor.new (length_behind order (first, cursor.old)) }
+{
+    if first == WIDE_LENGTH {
+        let len = u64_from(cursor, order)?;
+        Ok(InitialLength { len, wide: true })
+    } else {
+        Ok(InitialLength {
+            len: first as u64,
+            wide: false,
+        })
+    }
+}
+
+/// Whether these first four bytes of a length are reserved.
+fn is_reserved(first: u32) -> bool
+    ensures { result ≡ is_reserved first }
+{
+    first >= FIRST_RESERVED_LENGTH && first != WIDE_LENGTH
+}
+
+/// The fault of a length at this place.
+fn bad_unit(place: u64) -> Result<InitialLength, BadFile>
+    ensures { result ≡ bad BadUnit place }
+{
+    Err(BadFile {
+        fault: Fault::BadUnit,
+        offset: place,
+    })
+}
+
+/// An initial length with its checks.
+#[tactic(auto, unfolding(crate::specs::Lengths::checked_length))]
+fn checked_length(cursor: &mut Cursor, order: Order) -> Result<InitialLength, BadFile>
+    ensures { Reads (λ x. x) result cursor.new (checked_length order cursor.old) }
+{
+    let place = cursor.place();
+    let first = u32_from(cursor, order)?;
+    if is_reserved(first) {
+        return bad_unit(place);
+    }
+    let initial = length_behind(cursor, first, order)?;
+    if cursor.left() < initial.len {
+        return bad_unit(place);
+    }
+    Ok(initial)
+}
+
+/// An initial length, which is passed: 4 bytes, or ffffffff and 8 bytes. Truncated where it isn't whole, and
+/// BadUnit where its first 4 bytes are fffffff0 to fffffffe, or where the contents pass the window's end.
+#[tactic(auto, unfolding(crate::specs::Lengths::initial_length_from))]
+pub fn initial_length(cursor: &mut Cursor, order: Order) -> Result<InitialLength, BadFile>
+    ensures { Takes (λ x. x) result cursor.old cursor.new (initial_length_from order cursor.old) }
+{
+    let place = cursor.place();
+    let mut ahead = cursor.fork();
+    match checked_length(&mut ahead, order) {
+        Ok(initial) => {
+            *cursor = ahead;
+            Ok(initial)
+        }
+        Err(bad) => Err(BadFile {
+            fault: bad.fault,
+            offset: place,
+        }),
+    }
+}

@@ -1,0 +1,153 @@
+//! What is read of a window, with the window behind it: the numbers of DWARF, by which the crates above read,
+//! too. Each call stands its faults at the cursor's place as it began, and leaves it there after one.
+
+ghost use Rattle.std.specs.Int.{w16, w32, w64};
+ghost use Rattle.std.specs.Prelude.{◌≡◌, ◌+◌, ◌*◌};
+ghost use Rattle.byte_cursor.specs.declared.order.Order.TheVariants.{Little};
+ghost use Rattle.dwarf_abbrev.specs.Reads.{Takes, Reads, byte_from, num_from, uleb_from, sleb_from, text_from, skip_from, three_from, number_from, offset_from, address_from, inside};
+
+use crate::form::{Digits, address_digits, offset_digits};
+use byte_cursor::{Cursor, Order};
+use size_core::BadFile;
+
+/// A byte. Truncated where none is left.
+#[tactic(auto, unfolding(crate::specs::Reads::num_from))]
+pub fn u8_from(cursor: &mut Cursor) -> Result<u8, BadFile>
+    ensures { Takes (λ n. n) result cursor.old cursor.new (byte_from cursor.old) }
+{
+    cursor.u8()
+}
+
+/// A number of two bytes. Truncated where fewer are left.
+#[tactic(auto, unfolding(crate::specs::Reads::num_from))]
+pub fn u16_from(cursor: &mut Cursor, order: Order) -> Result<u16, BadFile>
+    ensures { Takes (λ n. n) result cursor.old cursor.new (num_from w16 order cursor.old) }
+{
+    cursor.u16(order)
+}
+
+/// A number of four bytes. Truncated where fewer are left.
+#[tactic(auto, unfolding(crate::specs::Reads::num_from))]
+pub fn u32_from(cursor: &mut Cursor, order: Order) -> Result<u32, BadFile>
+    ensures { Takes (λ n. n) result cursor.old cursor.new (num_from w32 order cursor.old) }
+{
+    cursor.u32(order)
+}
+
+/// A number of eight bytes. Truncated where fewer are left.
+#[tactic(auto, unfolding(crate::specs::Reads::num_from))]
+pub fn u64_from(cursor: &mut Cursor, order: Order) -> Result<u64, BadFile>
+    ensures { Takes (λ n. n) result cursor.old cursor.new (num_from w64 order cursor.old) }
+{
+    cursor.u64(order)
+}
+
+/// An unsigned LEB128 number. Truncated where it has no end, and BadLeb where it is above 2^64 - 1.
+#[tactic(auto, unfolding(crate::specs::Reads::uleb_from))]
+pub fn uleb_from(cursor: &mut Cursor) -> Result<u64, BadFile>
+    ensures { Takes (λ n. n) result cursor.old cursor.new (uleb_from cursor.old) }
+{
+    cursor.uleb()
+}
+
+/// A signed LEB128 number. Truncated where it has no end, and BadLeb where it doesn't fit 64 bits.
+#[tactic(auto, unfolding(crate::specs::Reads::sleb_from))]
+pub fn sleb_from(cursor: &mut Cursor) -> Result<i64, BadFile>
+    ensures { Takes (λ n. n) result cursor.old cursor.new (sleb_from cursor.old) }
+{
+    cursor.sleb()
+}
+
+/// The bytes before the next zero byte, which is passed. Truncated where there is none.
+#[tactic(auto, unfolding(crate::specs::Reads::text_from))]
+pub fn text_from<'a>(cursor: &mut Cursor<'a>) -> Result<&'a [u8], BadFile>
+    ensures { Takes (λ t. t.now) result cursor.old cursor.new (text_from cursor.old) }
+{
+    cursor.cstr()
+}
+
+/// Passes so many bytes. Truncated where fewer are left.
+#[tactic(auto, unfolding(crate::specs::Reads::skip_from))]
+pub fn skip_from(cursor: &mut Cursor, count: u64) -> Result<(), BadFile>
+    ensures { Takes (λ u. u) result cursor.old cursor.new (skip_from count cursor.old) }
+{
+    cursor.skip(count)
+}
+
+/// A number of three bytes.
+#[tactic(auto, unfolding(crate::specs::Reads::three_from))]
+fn three_from(cursor: &mut Cursor, order: Order) -> Result<u64, BadFile>
+    ensures { Reads (λ n. n) result cursor.new (three_from order cursor.old) }
+{
+    match order {
+        Order::Little => {
+            let low = u16_from(cursor, Order::Little)?;
+            let high = u8_from(cursor)?;
+            Ok(low as u64 + 65536 * high as u64)
+        }
+        Order::Big => {
+            let high = u8_from(cursor)?;
+            let low = u16_from(cursor, Order::Big)?;
+            Ok(low as u64 + 65536 * high as u64)
+        }
+    }
+}
+
+/// The same, which leaves the cursor where it was after a fault.
+fn whole_three_from(cursor: &mut Cursor, order: Order) -> Result<u64, BadFile>
+    ensures { Takes (λ n. n) result cursor.old cursor.new (three_from order cursor.old) }
+{
+    let mut ahead = cursor.fork();
+    match three_from(&mut ahead, order) {
+        Ok(number) => {
+            *cursor = ahead;
+            Ok(number)
+        }
+        Err(bad) => Err(bad),
+    }
+}
+
+/// A number in these digits.
+#[tactic(auto, unfolding(crate::specs::Reads::number_from))]
+pub fn number_from(cursor: &mut Cursor, order: Order, digits: Digits) -> Result<u64, BadFile>
+    ensures { Takes (λ n. n) result cursor.old cursor.new (number_from order digits cursor.old) }
+{
+    match digits {
+        Digits::One => Ok(u8_from(cursor)? as u64),
+        Digits::Two => Ok(u16_from(cursor, order)? as u64),
+        Digits::Three => whole_three_from(cursor, order),
+        Digits::Four => Ok(u32_from(cursor, order)? as u64),
+        Digits::Eight => u64_from(cursor, order),
+        Digits::Uleb => uleb_from(cursor),
+    }
+}
+
+/// An offset, which has 8 bytes in the 64-bit format and else 4 (DWARF 5, section 7.4). Truncated where fewer
+/// are left.
+pub fn offset_from(cursor: &mut Cursor, order: Order, wide: bool) -> Result<u64, BadFile>
+    ensures { Takes (λ n. n) result cursor.old cursor.new (offset_from order wide cursor.old) }
+{
+    number_from(cursor, order, offset_digits(wide))
+}
+
+/// An address of 2 or 4 bytes, or else of 8. Truncated where fewer are left.
+pub fn address_from(cursor: &mut Cursor, order: Order, size: u8) -> Result<u64, BadFile>
+    ensures { Takes (λ n. n) result cursor.old cursor.new (address_from order size cursor.old) }
+{
+    number_from(cursor, order, address_digits(size))
+}
+
+/// The window at an offset of a section, which is what the section's cursor has left. `None` where the offset
+/// isn't below its length.
+pub fn inside<'a>(section: &Cursor<'a>, offset: u64) -> Option<Cursor<'a>>
+    ensures { result ≡ inside section.now offset }
+{
+    if offset >= section.left() {
+        return None;
+    }
+    let mut window = section.fork();
+    match window.skip(offset) {
+        Ok(()) => Some(window),
+        Err(_) => None,
+    }
+}

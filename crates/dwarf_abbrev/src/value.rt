@@ -1,0 +1,174 @@
+//! The values of attributes (DWARF 5, sections 7.5.5 and 7.5.6).
+
+ghost use Rattle.std.specs.Prelude.{◌≡◌, pos};
+ghost use Rattle.size_core.specs.Checks.{bad};
+ghost use Rattle.size_core.specs.declared.fault.Fault.TheVariants.{UnknownForm};
+ghost use Rattle.byte_cursor.specs.Window.{place_of};
+ghost use Rattle.dwarf_abbrev.specs.declared.form.Layout.TheVariants.{Indirect};
+ghost use Rattle.dwarf_abbrev.specs.Reads.{Reads, Takes};
+ghost use Rattle.dwarf_abbrev.specs.Values.{meaning, said, shown, plain_from, known_from, layout_of_number, content_by, value_from};
+
+use crate::form::{Layout, Sense, form_of, layout_of};
+use crate::reads::{number_from, skip_from, sleb_from, text_from, uleb_from};
+use crate::shape::UnitShape;
+use crate::spec::Spec;
+use byte_cursor::{Cursor, Order};
+use size_core::{BadFile, Fault};
+
+/// What a value says.
+#[derive(Clone, Copy, Debug, PartialEq, Eq)]
+pub enum Content<'a> {
+    /// An address.
+    Address(u64),
+    /// An index of an address in `.debug_addr`, from the unit's base on.
+    AddrIndex(u64),
+    /// A constant.
+    Constant(u64),
+    /// A constant with a sign.
+    Signed(i64),
+    /// A string, without its zero byte.
+    Text(&'a [u8]),
+    /// The offset of a string in `.debug_str`.
+    StrOffset(u64),
+    /// The offset of a string in `.debug_line_str`.
+    LineStrOffset(u64),
+    /// An index of an offset in `.debug_str_offsets`, from the unit's base on.
+    StrIndex(u64),
+    /// An offset into another section, which the attribute tells.
+    SecOffset(u64),
+    /// An index of a range list in `.debug_rnglists`, from the unit's base on.
+    ListIndex(u64),
+    /// What isn't told apart: blocks, expressions, references, flags.
+    Other,
+}
+
+/// A value of an attribute.
+#[derive(Clone, Copy, Debug, PartialEq, Eq)]
+pub struct Value<'a> {
+    /// Its file offset.
+    pub place: u64,
+    /// What it says.
+    pub content: Content<'a>,
+}
+
+/// What a number says.
+fn said<'a>(sense: Sense, number: u64) -> Content<'a>
+    ensures { meaning result ≡ said sense number }
+{
+    match sense {
+        Sense::Address => Content::Address(number),
+        Sense::AddrIndex => Content::AddrIndex(number),
+        Sense::Constant => Content::Constant(number),
+        Sense::StrOffset => Content::StrOffset(number),
+        Sense::LineStrOffset => Content::LineStrOffset(number),
+        Sense::StrIndex => Content::StrIndex(number),
+        Sense::SectionOffset => Content::SecOffset(number),
+        Sense::ListIndex => Content::ListIndex(number),
+        Sense::Other => Content::Other,
+    }
+}
+
+/// A fault at the cursor's place: a value of this form isn't read here.
+fn unknown_form<'a>(cursor: &Cursor) -> Result<Content<'a>, BadFile>
+    ensures { result ≡ bad UnknownForm (place_of cursor.now) }
+{
+    Err(BadFile {
+        fault: Fault::UnknownForm,
+        offset: cursor.place(),
+    })
+}
+
+/// A value that is neither in the declaration nor behind the number of its form.
+#[tactic(auto, unfolding(crate::specs::Values::plain_from))]
+fn plain<'a>(cursor: &mut Cursor<'a>, order: Order, layout: Layout) -> Result<Content<'a>, BadFile>
+    ensures { Reads meaning result cursor.new (plain_from order layout cursor.old) }
+{
+    match layout {
+        Layout::Number(digits, sense) => {
+            let number = number_from(cursor, order, digits)?;
+            Ok(said(sense, number))
+        }
+        Layout::Signed => {
+            let number = sleb_from(cursor)?;
+            Ok(Content::Signed(number))
+        }
+        Layout::Text => {
+            let text = text_from(cursor)?;
+            Ok(Content::Text(text))
+        }
+        Layout::Counted(digits) => {
+            let count = number_from(cursor, order, digits)?;
+            skip_from(cursor, count)?;
+            Ok(Content::Other)
+        }
+        Layout::Bytes(count) => {
+            skip_from(cursor, count)?;
+            Ok(Content::Other)
+        }
+        Layout::Implicit | Layout::Indirect => unknown_form(cursor),
+    }
+}
+
+/// The layout of the values of a form's number.
+fn layout_of_number(shape: &UnitShape, number: u64) -> Option<Layout>
+    ensures { result ≡ layout_of_number shape.now number }
+{
+    match form_of(number) {
+        Some(form) => Some(layout_of(form, shape)),
+        None => None,
+    }
+}
+
+/// The value behind the number of its form.
+#[tactic(auto, unfolding(crate::specs::Values::content_by))]
+fn indirect<'a>(cursor: &mut Cursor<'a>, shape: &UnitShape) -> Result<Content<'a>, BadFile>
+    ensures { Reads meaning result cursor.new (content_by shape.now (pos 0) (Some Indirect) cursor.old) }
+{
+    let form = uleb_from(cursor)?;
+    match layout_of_number(shape, form) {
+        Some(layout) => plain(cursor, shape.order, layout),
+        None => unknown_form(cursor),
+    }
+}
+
+/// What the value of an attribute says.
+#[tactic(auto, unfolding(crate::specs::Values::content_by))]
+fn content_by<'a>(
+    cursor: &mut Cursor<'a>,
+    spec: &Spec,
+    shape: &UnitShape,
+) -> Result<Content<'a>, BadFile>
+    ensures { Reads meaning result cursor.new (content_by shape.now spec.now.constant (layout_of_number shape.now spec.now.form) cursor.old) }
+{
+    match layout_of_number(shape, spec.form) {
+        None => unknown_form(cursor),
+        Some(Layout::Implicit) => Ok(Content::Signed(spec.constant)),
+        Some(Layout::Indirect) => indirect(cursor, shape),
+        Some(layout) => plain(cursor, shape.order, layout),
+    }
+}
+
+/// The value of an attribute, which is passed. UnknownForm where the form isn't known, and where one that is
+/// read here is that of another such number or of a constant of the declaration; Truncated where the value
+/// doesn't fit the window; BadLeb where a number in it is too large. Each fault stands at the value's place.
+#[tactic(auto, unfolding(crate::specs::Values::value_from))]
+pub fn read_form<'a>(
+    cursor: &mut Cursor<'a>,
+    spec: &Spec,
+    shape: &UnitShape,
+) -> Result<Value<'a>, BadFile>
+    ensures { Takes shown result cursor.old cursor.new (value_from shape.now spec.now cursor.old) }
+{
+    let place = cursor.place();
+    let mut ahead = cursor.fork();
+    match content_by(&mut ahead, spec, shape) {
+        Ok(content) => {
+            *cursor = ahead;
+            Ok(Value { place, content })
+        }
+        Err(bad) => Err(BadFile {
+            fault: bad.fault,
+            offset: place,
+        }),
+    }
+}

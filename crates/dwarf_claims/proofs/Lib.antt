@@ -1,0 +1,5 @@
+pub mod Ascending
+pub mod KnownLemmas
+pub mod Lists
+pub mod RowLemmas
+pub mod TableLemmas

@@ -1,0 +1,5 @@
+pub mod LineClaims
+pub mod RowSteps
+pub mod SetClaims
+pub mod Tables
+pub mod UnitClaims

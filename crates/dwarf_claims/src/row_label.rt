@@ -1,0 +1,75 @@
+//! The labels of rows.
+
+ghost use Rattle.std.specs.Prelude.{◌≡◌, ◌++◌, take, vec_len, codes, decimal, IfOk, OnOk};
+ghost use Rattle.dwarf_lines.specs.Paths.{path_of};
+ghost use Rattle.dwarf_claims.specs.LineClaims.{row_label};
+ghost use Rattle.dwarf_claims.specs.RowSteps.{HasPath};
+
+use claim_sheet::append;
+use dwarf_lines::{LineProgram, LineRow};
+use itoa::Buffer;
+use size_core::NoMemory;
+use std::alloc::Global;
+
+/// The label of a row, which is written over that of the row before. A path is made once for rows of one file that
+/// follow one another.
+#[derive(Drop)]
+pub struct RowLabel {
+    pub text: Vec<u8>,
+    /// How many bytes of it are the path.
+    pub path_len: usize,
+    /// Of which file that is the path.
+    pub file: u64,
+}
+
+impl RowLabel {
+    /// No label yet.
+    pub fn new(alloc: Global) -> RowLabel {
+        RowLabel {
+            text: Vec::new(alloc),
+            path_len: 0,
+            file: 1,
+        }
+    }
+
+    /// The path of a file of a program.
+    pub fn set_file(&mut self, program: &LineProgram<'_>, file: u64) -> Result<(), NoMemory>
+        ensures path { OnOk result (self.new.text.items ≡ path_of program.now file) }
+        ensures has { OnOk result (HasPath program.now self.new) }
+        ensures len { OnOk result (self.new.path_len ≡ vec_len self.new.text) }
+        ensures file { OnOk result (self.new.file ≡ file) }
+    {
+        self.text.clear();
+        program.path(file, &mut self.text)?;
+        self.path_len = self.text.len();
+        self.file = file;
+        Ok(())
+    }
+
+    /// The path of a row's file, which isn't made again where it is there.
+    fn set_path(&mut self, program: &LineProgram<'_>, file: u64) -> Result<(), NoMemory>
+        requires { HasPath program.now self.old }
+        ensures path { OnOk result (self.new.text.items ≡ path_of program.now file) }
+        ensures len { OnOk result (self.new.path_len ≡ vec_len self.new.text) }
+        ensures file { OnOk result (self.new.file ≡ file) }
+    {
+        if self.file != file {
+            return self.set_file(program, file);
+        }
+        self.text.truncate(self.path_len);
+        self.path_len = self.text.len();
+        Ok(())
+    }
+
+    /// The label of a row: the path of its file, a colon and its line.
+    #[tactic(auto, unfolding(crate::specs::LineClaims::row_label))]
+    pub fn set(&mut self, program: &LineProgram<'_>, row: &LineRow) -> Result<(), NoMemory>
+        requires { HasPath program.now self.old }
+        ensures text { OnOk result (self.new.text.items ≡ row_label program.now row.now) }
+        ensures has { OnOk result (HasPath program.now self.new) }
+    {
+        self.set_path(program, row.file)?;
+        append(&mut self.text, b":")?;
+        append(&mut self.text, Buffer::new().format(row.line).as_bytes())
+    }
+}

@@ -1,0 +1,108 @@
+//! The claims of the sets of `.debug_aranges` (DWARF 5, section 6.1.2).
+
+ghost use Rattle.std.specs.Prelude.{◌≡◌, Ok, Err, Option, OnOk, IsErrOf};
+ghost use Rattle.std.specs.List.{flat_map};
+ghost use Rattle.std.specs.Option.{option_copied};
+ghost use Rattle.size_core.specs.declared.fault.BadFile.{BadFile as BadFileSpec};
+ghost use Rattle.claim_sheet.specs.Sheets.{adding, adding_read};
+ghost use Rattle.dwarf_units.specs.Units.{units_of};
+ghost use Rattle.dwarf_claims.specs.SetClaims.{labels_of, named_claims, set_claims, sets_claims, tuple_claim};
+ghost use Rattle.dwarf_claims.specs.Tables.{Ascends, shown_units};
+ghost use Rattle.dwarf_claims.specs.UnitClaims.{bytes_claim};
+
+use crate::known::{KnownUnit, label_at};
+use claim_sheet::{ClaimSheet, Reach, Stop, Wrap, span};
+use dwarf_ranges::{AddressSet, Tuples, arange_sets, claims_nothing};
+use dwarf_units::Sections;
+use size_core::{BadFile, NoMemory};
+
+// Adds the claim of a tuple, if it claims something.
+#[tactic(auto, using(claim_sheet::proofs::SheetLemmas::adding_none))]
+fn add_tuple(
+    size: u8,
+    tuple: (u64, u64),
+    label: &[u8],
+    sheet: &mut ClaimSheet,
+) -> Result<(), NoMemory>
+    ensures made { OnOk result (sheet.new ≡ adding sheet.old (tuple_claim label.now size tuple)) }
+    ensures kept { sheet.new.pool ≡ sheet.old.pool }
+{
+    if claims_nothing(size, tuple.0, tuple.1) {
+        return Ok(());
+    }
+    sheet.add(
+        Reach::in_memory(span(0, tuple.0, tuple.1)),
+        Wrap::Plain,
+        label,
+    )
+}
+
+// Adds the claims of tuples, in order.
+fn add_tuples(
+    size: u8,
+    tuples: Tuples<'_>,
+    label: &[u8],
+    sheet: &mut ClaimSheet,
+) -> Result<(), NoMemory>
+    ensures made { OnOk result (sheet.new ≡ adding sheet.old (flat_map (tuple_claim label.now size) tuples.entry)) }
+    ensures kept { sheet.new.pool ≡ sheet.old.pool }
+{
+    for tuple in tuples {
+        add_tuple(size, tuple, label, sheet)?;
+    }
+    Ok(())
+}
+
+// Adds the claims of a set under the label of its unit, if there is one.
+#[tactic(auto, using(claim_sheet::proofs::SheetLemmas::adding_none, claim_sheet::proofs::SheetLemmas::adding_more), unfolding(crate::specs::SetClaims::named_claims))]
+fn add_named(
+    set: AddressSet<'_>,
+    label: Option<&[u8]>,
+    sheet: &mut ClaimSheet,
+) -> Result<(), NoMemory>
+    ensures made { OnOk result (sheet.new ≡ adding sheet.old (named_claims set.entry (option_copied label.entry))) }
+    ensures kept { sheet.new.pool ≡ sheet.old.pool }
+{
+    let Some(label) = label else {
+        return Ok(());
+    };
+    let bytes = Reach::in_file(span(0, set.place, set.len));
+    add_tuples(set.address, set.tuples, label, sheet)?;
+    sheet.add(bytes, Wrap::Plain, label)
+}
+
+// Adds the claims of a set, or tells the fault that comes in its place.
+fn add_set(
+    units: &[KnownUnit<'_>],
+    set: Result<AddressSet<'_>, BadFile>,
+    sheet: &mut ClaimSheet,
+) -> Result<(), Stop>
+    requires { Ascends 0 (shown_units units.now) }
+    ensures made { OnOk result (adding_read sheet.old (set_claims (shown_units units.now) set.entry) ≡ Ok sheet.new) }
+    ensures bad { (bad : BadFileSpec) → IsErrOf result (Stop.Bad bad) → set_claims (shown_units units.now) set.entry ≡ Err bad }
+    ensures kept { sheet.new.pool ≡ sheet.old.pool }
+{
+    let set = set?;
+    let label = label_at(units, set.info_offset);
+    add_named(set, label, sheet)?;
+    Ok(())
+}
+
+/// Adds the claims of the sets of `.debug_aranges`, in order, each under the label of its unit.
+#[tactic(auto, using(claim_sheet::proofs::LoopLemmas::read_list_goes, claim_sheet::proofs::LoopLemmas::read_list_ends), unfolding(crate::specs::SetClaims::sets_claims))]
+pub fn add_sets(
+    sections: &Sections<'_>,
+    units: &[KnownUnit<'_>],
+    sheet: &mut ClaimSheet,
+) -> Result<(), Stop>
+    requires labels { shown_units units.now ≡ labels_of sections.now (units_of sections.now) }
+    requires ascend { Ascends 0 (shown_units units.now) }
+    ensures made { OnOk result (adding_read sheet.old (sets_claims sections.now) ≡ Ok sheet.new) }
+    ensures bad { (bad : BadFileSpec) → IsErrOf result (Stop.Bad bad) → sets_claims sections.now ≡ Err bad }
+    ensures kept { sheet.new.pool ≡ sheet.old.pool }
+{
+    for set in arange_sets(sections) {
+        add_set(units, set, sheet)?;
+    }
+    Ok(())
+}

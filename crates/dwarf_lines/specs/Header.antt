@@ -1,0 +1,105 @@
+-- The header of a line program (DWARF 2 to 5, section 6.2.4).
+use Rattle.std.specs.Prelude.{ℕ, ◌+◌, ◌-◌, ◌==◌, not, true, List, length, Result, Ok, nat_lt, nat_le, if◌then◌else◌}
+use Rattle.std.specs.Int.{w8, cast_signed}
+use Rattle.size_core.specs.declared.fault.BadFile.{BadFile}
+use Rattle.size_core.specs.declared.fault.Fault.TheVariants.{BadHeader, Truncated}
+use Rattle.size_core.specs.Checks.{◌>>=◌, ◌>>◌, demand}
+use Rattle.byte_cursor.specs.Window.{Window, place_of, moved}
+use Rattle.byte_cursor.specs.Reads.{sub_window}
+use Rattle.dwarf_abbrev.specs.declared.shape.UnitShape.{UnitShape}
+use Rattle.dwarf_abbrev.specs.Reads.{byte_from, offset_from, skip_from}
+use Rattle.dwarf_lines.specs.declared.encoding.AddressSize.{AddressSize}
+use Rattle.dwarf_lines.specs.declared.encoding.AddressSize.TheVariants.{Two, Four, Eight}
+use Rattle.dwarf_lines.specs.declared.encoding.LineEncoding.{LineEncoding}
+use Rattle.dwarf_lines.specs.declared.entry.TableKind.{TableKind}
+use Rattle.dwarf_lines.specs.declared.entry.TableKind.TheVariants.{Directories, Files}
+use Rattle.dwarf_lines.specs.FormattedTables.{formatted_table}
+use Rattle.dwarf_units.specs.declared.sections.Sections.{Sections}
+use Rattle.dwarf_lines.specs.PlainTables.{plain_table}
+use Rattle.dwarf_lines.specs.Tables.{Entry, Reading}
+
+-- the sizes of an address and of a segment selector, which version 5 has
+unfoldable pub sizes_from : ℕ → Window → Reading (Unit {0})
+sizes_from version w = if nat_lt version 5 then Ok (tt, w) else skip_from 2 w
+
+-- the window at the first instruction, which stands header_length bytes behind that field
+unfoldable pub instructions_from : UnitShape → Window → Reading Window
+instructions_from s w = do
+  sizes ← sizes_from s.version w
+  len ← offset_from s.order s.wide sizes.1
+  demand (nat_le (len.1.at + len.0) (length len.1.bytes)) Truncated (place_of len.1)
+  Ok (record len.1 { at = len.1.at + len.0 }, len.1)
+
+-- how many operations an instruction has at most, which version 4 was the first to say: 0 counts as 1
+unfoldable pub max_ops_from : ℕ → Window → Reading ℕ
+max_ops_from version w =
+    if nat_lt version 4 then Ok (1, w)
+    else byte_from w >>= λ n. Ok ((if n.0 == 0 then 1 else n.0), n.1)
+
+-- a number that isn't 0
+unfoldable pub divisor_from : Window → Reading ℕ
+divisor_from w = do
+  n ← byte_from w
+  demand (not (n.0 == 0)) BadHeader (place_of w)
+  Ok n
+
+-- how many bytes an address of this size has: another than 2 and 4 is taken for 8
+abbrev pub address_size : ℕ → AddressSize
+address_size n = if n == 2 then Two else if n == 4 then Four else Eight
+
+-- the numbers by which the instructions are read and run
+unfoldable pub encoding_from : UnitShape → Window → Reading LineEncoding
+encoding_from s w = do
+  min_inst ← byte_from w
+  max_ops ← max_ops_from s.version min_inst.1
+  default_is_stmt ← byte_from max_ops.1
+  line_base ← byte_from default_is_stmt.1
+  line_range ← divisor_from line_base.1
+  opcode_base ← divisor_from line_range.1
+  Ok (
+    record {
+      order = s.order;
+      address_size = address_size s.address;
+      min_inst = min_inst.0;
+      max_ops = max_ops.0;
+      line_base = cast_signed w8 line_base.0;
+      line_range = line_range.0;
+      opcode_base = opcode_base.0;
+    },
+    opcode_base.1,
+  )
+
+-- how many numbers each standard opcode has
+unfoldable pub lengths_from : ℕ → Window → Reading (List ℕ)
+lengths_from count w = sub_window w w.at count >>= λ lengths. Ok (lengths.bytes, moved w true count)
+
+-- a table, in the form that the version has
+unfoldable pub table_from : Sections → UnitShape → TableKind → Window → Reading (List Entry)
+table_from sections s kind w = if nat_lt s.version 5 then plain_table kind w else formatted_table sections s w
+
+-- a line program: its version, the numbers of its header, how many numbers each standard opcode has, its directories
+-- and its files, and the window at its first instruction
+pub record LineHeader : Type 0 where
+  pub version : ℕ
+  pub encoding : LineEncoding
+  pub lengths : List ℕ
+  pub directories : List Entry
+  pub files : List Entry
+  pub instructions : Window
+
+-- the header behind its version
+unfoldable pub header_from : Sections → UnitShape → Window → Result LineHeader BadFile
+header_from sections s w = do
+  instructions ← instructions_from s w
+  encoding ← encoding_from s instructions.1
+  lengths ← lengths_from (encoding.0.opcode_base - 1) encoding.1
+  directories ← table_from sections s Directories lengths.1
+  files ← table_from sections s Files directories.1
+  Ok (record {
+    version = s.version;
+    encoding = encoding.0;
+    lengths = lengths.0;
+    directories = directories.0;
+    files = files.0;
+    instructions = instructions.0;
+  })

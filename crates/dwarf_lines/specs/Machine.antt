@@ -1,0 +1,93 @@
+-- The state machine of a line program (DWARF 5, section 6.2).
+use Rattle.std.specs.Prelude.{ℕ, ℤ, pos, ◌+ℤ◌, ◌+◌, ◌-◌, ◌*◌, ◌/◌, ◌%◌, ◌^◌, ◌<◌, Bool, true, false, List, [], ◌∷◌, ◌++◌, Option, Some, None, option_to_list, unsigned_abs}
+use Rattle.std.specs.Int.{int_rem_euclid}
+use Rattle.dwarf_lines.specs.declared.encoding.LineEncoding.{LineEncoding}
+use Rattle.dwarf_lines.specs.declared.encoding.AddressSize.{AddressSize}
+use Rattle.dwarf_lines.specs.declared.encoding.AddressSize.TheVariants.{Two, Four, Eight}
+use Rattle.dwarf_lines.specs.declared.registers.Registers.{Registers}
+use Rattle.dwarf_lines.specs.declared.registers.LineRow.{LineRow}
+use Rattle.dwarf_lines.specs.declared.instruction.Instruction.{Instruction}
+use Rattle.dwarf_lines.specs.declared.instruction.Instruction.TheVariants.{Special, CopyRow, AdvancePc, AdvanceLine, SetFile, SetColumn, NegateStatement, SetBasicBlock, ConstAddPc, FixedAdvancePc, SetPrologueEnd, SetEpilogueBegin, SetIsa, UnknownStandard, EndSequence, SetAddress, OtherExtended}
+
+-- how many addresses there are
+abbrev pub address_count : AddressSize → ℕ
+address_count Two = 2 ^ 16
+address_count Four = 2 ^ 32
+address_count Eight = 2 ^ 64
+
+-- the numbers by which the machine divides are not 0
+pub record IsUsable (s : LineEncoding) : Type 0 where
+  pub ops : 0 < s.max_ops
+  pub range : 0 < s.line_range
+
+-- the registers at the beginning of a sequence
+abbrev pub start : Registers
+start = record { address = 0; op_index = 0; file = 1; line = 1 }
+
+-- the address so many units further on, which wraps
+abbrev pub address_plus : LineEncoding → ℕ → ℕ → ℕ
+address_plus s address by = (address + by) % address_count s.address_size
+
+-- the line so many lines further on, which wraps
+abbrev pub line_plus : ℕ → ℤ → ℕ
+line_plus line by = unsigned_abs (int_rem_euclid (pos line +ℤ by) (pos (2 ^ 32)))
+
+-- the registers advanced by so many operations
+unfoldable pub advance : LineEncoding → Registers → ℕ → Registers
+advance s r by = record r {
+  address = address_plus s r.address (s.min_inst * ((r.op_index + by) / s.max_ops));
+  op_index = (r.op_index + by) % s.max_ops;
+}
+
+-- how many lines a special opcode goes on
+abbrev pub line_step : LineEncoding → ℕ → ℤ
+line_step s adj = s.line_base +ℤ pos (adj % s.line_range)
+
+-- the registers after an instruction
+unfoldable pub after : LineEncoding → Registers → Instruction → Registers
+after s r (Special adj) = record (advance s r (adj / s.line_range)) { line = line_plus r.line (line_step s adj) }
+after s r CopyRow = r
+after s r (AdvancePc n) = advance s r n
+after s r (AdvanceLine n) = record r { line = line_plus r.line n }
+after s r (SetFile n) = record r { file = n }
+after s r ConstAddPc = advance s r ((255 - s.opcode_base) / s.line_range)
+after s r (FixedAdvancePc n) = record r { address = address_plus s r.address n; op_index = 0 }
+after s r EndSequence = start
+after s r (SetAddress n) = record r { address = n % address_count s.address_size; op_index = 0 }
+after s r (SetColumn n) = r
+after s r NegateStatement = r
+after s r SetBasicBlock = r
+after s r SetPrologueEnd = r
+after s r SetEpilogueBegin = r
+after s r (SetIsa n) = r
+after s r (UnknownStandard opcode) = r
+after s r (OtherExtended opcode) = r
+
+-- the row of the registers
+abbrev pub row : Registers → Bool → LineRow
+row r end = record { address = r.address; file = r.file; line = r.line; end = end }
+
+-- the row that an instruction makes
+unfoldable pub row_of : LineEncoding → Registers → Instruction → Option LineRow
+row_of s r (Special adj) = Some (row (after s r (Special adj)) false)
+row_of s r CopyRow = Some (row r false)
+row_of s r (AdvancePc n) = None
+row_of s r (AdvanceLine n) = None
+row_of s r (SetFile n) = None
+row_of s r ConstAddPc = None
+row_of s r (FixedAdvancePc n) = None
+row_of s r EndSequence = Some (row r true)
+row_of s r (SetAddress n) = None
+row_of s r (SetColumn n) = None
+row_of s r NegateStatement = None
+row_of s r SetBasicBlock = None
+row_of s r SetPrologueEnd = None
+row_of s r SetEpilogueBegin = None
+row_of s r (SetIsa n) = None
+row_of s r (UnknownStandard opcode) = None
+row_of s r (OtherExtended opcode) = None
+
+-- the rows that instructions make
+unfoldable pub run : LineEncoding → Registers → List Instruction → List LineRow
+run s r [] = []
+run s r (i ∷ is) = option_to_list (row_of s r i) ++ run s (after s r i) is

@@ -1,0 +1,61 @@
+//! The numbers of the standard that are told apart in line programs (DWARF 5, sections 6.2.4, 6.2.5 and 7.22).
+
+/// The byte before an extended opcode and its length.
+pub const EXTENDED_OPCODE: u8 = 0;
+
+/// Makes a row (`DW_LNS_copy`).
+pub const DW_LNS_COPY: u8 = 1;
+
+/// Advances the address and the operation (`DW_LNS_advance_pc`).
+pub const DW_LNS_ADVANCE_PC: u8 = 2;
+
+/// Adds to the line (`DW_LNS_advance_line`).
+pub const DW_LNS_ADVANCE_LINE: u8 = 3;
+
+/// Sets the file (`DW_LNS_set_file`).
+pub const DW_LNS_SET_FILE: u8 = 4;
+
+/// Sets the column (`DW_LNS_set_column`).
+pub const DW_LNS_SET_COLUMN: u8 = 5;
+
+/// Says whether statements begin here (`DW_LNS_negate_stmt`).
+pub const DW_LNS_NEGATE_STMT: u8 = 6;
+
+/// A basic block begins (`DW_LNS_set_basic_block`).
+pub const DW_LNS_SET_BASIC_BLOCK: u8 = 7;
+
+/// Advances as the special opcode 255 does (`DW_LNS_const_add_pc`).
+pub const DW_LNS_CONST_ADD_PC: u8 = 8;
+
+/// Adds two bytes to the address (`DW_LNS_fixed_advance_pc`).
+pub const DW_LNS_FIXED_ADVANCE_PC: u8 = 9;
+
+/// A function's prologue ends (`DW_LNS_set_prologue_end`).
+pub const DW_LNS_SET_PROLOGUE_END: u8 = 10;
+
+/// A function's epilogue begins (`DW_LNS_set_epilogue_begin`).
+pub const DW_LNS_SET_EPILOGUE_BEGIN: u8 = 11;
+
+/// Sets the instruction set (`DW_LNS_set_isa`).
+pub const DW_LNS_SET_ISA: u8 = 12;
+
+/// Ends a sequence (`DW_LNE_end_sequence`).
+pub const DW_LNE_END_SEQUENCE: u8 = 1;
+
+/// Sets the address (`DW_LNE_set_address`).
+pub const DW_LNE_SET_ADDRESS: u8 = 2;
+
+/// The path of a directory or a file (`DW_LNCT_path`).
+pub const DW_LNCT_PATH: u64 = 1;
+
+/// The number of a file's directory (`DW_LNCT_directory_index`).
+pub const DW_LNCT_DIRECTORY_INDEX: u64 = 2;
+
+/// A form whose value stands in the declaration (`DW_FORM_implicit_const`), which a line program has not.
+pub const DW_FORM_IMPLICIT_CONST: u64 = 0x21;
+
+/// What stands between a directory and a name.
+pub const SLASH: u8 = b'/';
+
+/// What stands for the path of a file that isn't there.
+pub const UNKNOWN_FILE: &[u8] = b"[Unknown file]";

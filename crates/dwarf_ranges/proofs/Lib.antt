@@ -1,0 +1,5 @@
+pub mod ClaimLemmas
+pub mod ItemLemmas
+pub mod ListLemmas
+pub mod SetLemmas
+pub mod TupleLemmas

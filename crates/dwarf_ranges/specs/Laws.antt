@@ -1,0 +1,23 @@
+-- Range lists are read one entry after another, and each range that is given claims something.
+use Rattle.std.specs.Prelude.{◌≡◌, ℕ, false, All, List, Ok}
+use Rattle.size_core.specs.Checks.{◌>>=◌}
+use Rattle.byte_cursor.specs.Window.{Window}
+use Rattle.dwarf_abbrev.specs.declared.shape.UnitShape.{UnitShape}
+use Rattle.dwarf_units.specs.declared.sections.Sections.{Sections}
+use Rattle.dwarf_units.specs.Roots.{RootRecord}
+use Rattle.dwarf_ranges.specs.Claims.{claims_nothing}
+use Rattle.dwarf_ranges.specs.Entries.{item_from}
+use Rattle.dwarf_ranges.specs.Lists.{behind, list_of}
+use Rattle.dwarf_ranges.specs.Ranges.{ranges_of}
+
+-- behind what an entry says stands what those behind it say
+abbrev pub ListsFollow : Type 0
+ListsFollow = (s : Sections) (shape : UnitShape) (table base : ℕ) (w : Window)
+    → list_of s shape table base w ≡ (item_from s shape table base w >>= λ item. behind shape.address base (list_of s shape table) item.0 item.1)
+
+-- a range claims something
+abbrev pub Claims : ℕ → ℕ × ℕ → Type 0
+Claims size p = claims_nothing size p.0 p.1 ≡ false
+
+abbrev pub RangesClaim : Type 0
+RangesClaim = (s : Sections) (r : RootRecord) (ranges : List (ℕ × ℕ)) → ranges_of s r ≡ Ok ranges → All (Claims r.shape.address) ranges

@@ -1,0 +1,7 @@
+pub mod Claims
+pub mod Entries
+pub mod Laws
+pub mod Lists
+pub mod Ranges
+pub mod Sets
+pub mod Tuples

@@ -1,0 +1,48 @@
+//! The headers of sets of addresses (DWARF 5, section 6.1.2).
+
+ghost use Rattle.std.specs.Prelude.{◌≡◌};
+ghost use Rattle.dwarf_abbrev.specs.Reads.{Reads};
+ghost use Rattle.dwarf_ranges.specs.Sets.{header_from, is_read};
+
+use byte_cursor::{Cursor, Order};
+use dwarf_abbrev::{offset_from, u8_from, u16_from};
+use size_core::BadFile;
+
+/// What stands in a set between its length and its tuples.
+#[derive(Clone, Copy)]
+pub struct SetHeader {
+    /// The version of the section's format.
+    pub version: u16,
+    /// The offset of the set's unit in `.debug_info`.
+    pub info_offset: u64,
+    /// How many bytes an address has.
+    pub address: u8,
+    /// How many bytes a segment selector has.
+    pub segment: u8,
+}
+
+/// The header of a set behind its length.
+#[tactic(auto, unfolding(crate::specs::Sets::header_from))]
+pub fn header_from(cursor: &mut Cursor, order: Order, wide: bool) -> Result<SetHeader, BadFile>
+    ensures { Reads (λ h. h) result cursor.new (header_from order wide cursor.old) }
+{
+    let version = u16_from(cursor, order)?;
+    let info_offset = offset_from(cursor, order, wide)?;
+    let address = u8_from(cursor)?;
+    let segment = u8_from(cursor)?;
+    Ok(SetHeader {
+        version,
+        info_offset,
+        address,
+        segment,
+    })
+}
+
+/// Whether a set of this header is read: it has version 2, no segments, and addresses of 2, 4 or 8 bytes.
+pub fn is_read(header: &SetHeader) -> bool
+    ensures { result ≡ is_read header.now }
+{
+    header.version == 2
+        && (header.address == 2 || header.address == 4 || header.address == 8)
+        && header.segment == 0
+}

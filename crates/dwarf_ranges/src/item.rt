@@ -1,0 +1,158 @@
+//! What the entries of range lists say.
+
+ghost use Rattle.std.specs.Prelude.{◌≡◌};
+ghost use Rattle.dwarf_abbrev.specs.Reads.{Reads};
+ghost use Rattle.dwarf_units.specs.Strings.{address_at};
+ghost use Rattle.dwarf_ranges.specs.Entries.{between, entry_item_from, item_from, item_of, pair_item, pair_item_from};
+
+use crate::claims::{base_sum, greatest};
+use crate::entry::{Entry, bad_list, entry_from};
+use crate::operands::addresses_from;
+use byte_cursor::{Cursor, Order};
+use dwarf_abbrev::{Content, UnitShape, Value};
+use dwarf_units::{Sections, address_by};
+use size_core::{BadFile, Fault};
+
+/// What an entry says.
+#[derive(Clone, Copy)]
+pub enum ListItem {
+    /// The list ends.
+    End,
+    /// From here on offsets count from this base.
+    Base(u64),
+    /// A range: its start and its length.
+    Range(u64, u64),
+}
+
+/// The range from a start to an end.
+fn between(start: u64, end: u64) -> ListItem
+    ensures { result ≡ between start end }
+{
+    ListItem::Range(start, end.saturating_sub(start))
+}
+
+/// The address at an index of the unit's table in `.debug_addr`, which begins at `table`.
+#[tactic(auto, unfolding(dwarf_units::specs::Strings::address_by))]
+fn address_at(
+    sections: &Sections,
+    shape: &UnitShape,
+    table: u64,
+    index: u64,
+    place: u64,
+) -> Result<u64, BadFile>
+    ensures { result ≡ address_at sections.now shape.now table index place }
+{
+    let value = Value {
+        place,
+        content: Content::AddrIndex(index),
+    };
+    match address_by(&value, shape, table, sections) {
+        Ok(Some(address)) => Ok(address),
+        Ok(None) => Err(BadFile {
+            fault: Fault::OffsetOutside,
+            offset: place,
+        }),
+        Err(bad) => Err(bad),
+    }
+}
+
+/// What an entry at this place says over a base.
+#[tactic(auto, unfolding(crate::specs::Entries::item_of))]
+fn item_of(
+    sections: &Sections,
+    shape: &UnitShape,
+    table: u64,
+    place: u64,
+    base: u64,
+    entry: Entry,
+) -> Result<ListItem, BadFile>
+    ensures { result ≡ item_of sections.now shape.now table place base entry }
+{
+    match entry {
+        Entry::EndOfList => Ok(ListItem::End),
+        Entry::BaseAddressx(index) => {
+            let other = address_at(sections, shape, table, index, place)?;
+            Ok(ListItem::Base(other))
+        }
+        Entry::StartxEndx(first, second) => {
+            let start = address_at(sections, shape, table, first, place)?;
+            let end = address_at(sections, shape, table, second, place)?;
+            Ok(between(start, end))
+        }
+        Entry::StartxLength(index, len) => {
+            let start = address_at(sections, shape, table, index, place)?;
+            Ok(ListItem::Range(start, len))
+        }
+        Entry::OffsetPair(first, second) => {
+            let start = base_sum(shape.address, base, first);
+            let end = base_sum(shape.address, base, second);
+            Ok(between(start, end))
+        }
+        Entry::BaseAddress(other) => Ok(ListItem::Base(other)),
+        Entry::StartEnd(start, end) => Ok(between(start, end)),
+        Entry::StartLength(start, len) => Ok(ListItem::Range(start, len)),
+    }
+}
+
+/// What a pair of `.debug_ranges` says over a base.
+fn pair_item(size: u8, base: u64, begin: u64, end: u64) -> ListItem
+    ensures { result ≡ pair_item size base begin end }
+{
+    if begin == 0 && end == 0 {
+        ListItem::End
+    } else if begin == greatest(size) {
+        ListItem::Base(end)
+    } else {
+        between(base_sum(size, base, begin), base_sum(size, base, end))
+    }
+}
+
+/// What the pair at the cursor's place says. BadRangeList at its place where it isn't whole.
+#[tactic(auto, unfolding(crate::specs::Entries::pair_item_from))]
+fn pair_item_from(
+    cursor: &mut Cursor,
+    order: Order,
+    size: u8,
+    base: u64,
+) -> Result<ListItem, BadFile>
+    ensures { Reads (λ i. i) result cursor.new (pair_item_from order size base cursor.old) }
+{
+    let place = cursor.place();
+    match addresses_from(cursor, order, size) {
+        Ok((begin, end)) => Ok(pair_item(size, base, begin, end)),
+        Err(_) => bad_list(place),
+    }
+}
+
+/// What the entry at the cursor's place says.
+#[tactic(auto, unfolding(crate::specs::Entries::entry_item_from))]
+fn entry_item_from(
+    cursor: &mut Cursor,
+    sections: &Sections,
+    shape: &UnitShape,
+    table: u64,
+    base: u64,
+) -> Result<ListItem, BadFile>
+    ensures { Reads (λ i. i) result cursor.new (entry_item_from sections.now shape.now table base cursor.old) }
+{
+    let place = cursor.place();
+    let entry = entry_from(cursor, sections.order, shape.address)?;
+    item_of(sections, shape, table, place, base, entry)
+}
+
+/// What stands at the cursor's place of a list: an entry in DWARF 5, and before a pair of addresses.
+pub fn item_from(
+    cursor: &mut Cursor,
+    sections: &Sections,
+    shape: &UnitShape,
+    table: u64,
+    base: u64,
+) -> Result<ListItem, BadFile>
+    ensures { Reads (λ i. i) result cursor.new (item_from sections.now shape.now table base cursor.old) }
+{
+    if shape.version == 5 {
+        entry_item_from(cursor, sections, shape, table, base)
+    } else {
+        pair_item_from(cursor, sections.order, shape.address, base)
+    }
+}

@@ -1,0 +1,32 @@
+//! The addresses of units, DWARF 2 to 5: `DW_AT_low_pc` and `DW_AT_high_pc`, range lists, and the sets of
+//! `.debug_aranges`. A file is borrowed, and only `unit_ranges` takes memory.
+#![tactic(auto)]
+
+mod answer;
+mod claims;
+mod constants;
+mod entry;
+mod header;
+mod item;
+mod laws;
+mod list;
+mod operands;
+mod place;
+mod ranges;
+mod set;
+mod sets;
+mod tuples;
+
+pub use answer::RangeAnswer;
+pub use claims::claims_nothing;
+pub use laws::{
+    constants_are_those_of_the_standard, each_range_claims_something,
+    lists_are_read_one_entry_after_another,
+};
+pub use ranges::unit_ranges;
+pub use set::AddressSet;
+pub use sets::{AddressSets, arange_sets};
+pub use tuples::Tuples;
+
+#[cfg(test)]
+mod tests;

@@ -1,0 +1,38 @@
+//! Two numbers, one behind the other.
+
+ghost use Rattle.dwarf_abbrev.specs.Reads.{Reads};
+ghost use Rattle.dwarf_ranges.specs.Entries.{addresses_from, address_uleb_from, ulebs_from};
+
+use byte_cursor::{Cursor, Order};
+use dwarf_abbrev::{address_from, uleb_from};
+use size_core::BadFile;
+
+/// Two addresses of this size.
+#[tactic(auto, unfolding(crate::specs::Entries::addresses_from))]
+pub fn addresses_from(cursor: &mut Cursor, order: Order, size: u8) -> Result<(u64, u64), BadFile>
+    ensures { Reads (λ p. p) result cursor.new (addresses_from order size cursor.old) }
+{
+    let first = address_from(cursor, order, size)?;
+    let second = address_from(cursor, order, size)?;
+    Ok((first, second))
+}
+
+/// Two LEB128 numbers.
+#[tactic(auto, unfolding(crate::specs::Entries::ulebs_from))]
+pub fn ulebs_from(cursor: &mut Cursor) -> Result<(u64, u64), BadFile>
+    ensures { Reads (λ p. p) result cursor.new (ulebs_from cursor.old) }
+{
+    let first = uleb_from(cursor)?;
+    let second = uleb_from(cursor)?;
+    Ok((first, second))
+}
+
+/// An address of this size and a LEB128 number.
+#[tactic(auto, unfolding(crate::specs::Entries::address_uleb_from))]
+pub fn address_uleb_from(cursor: &mut Cursor, order: Order, size: u8) -> Result<(u64, u64), BadFile>
+    ensures { Reads (λ p. p) result cursor.new (address_uleb_from order size cursor.old) }
+{
+    let first = address_from(cursor, order, size)?;
+    let second = uleb_from(cursor)?;
+    Ok((first, second))
+}

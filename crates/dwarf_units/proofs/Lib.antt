@@ -1,0 +1,3 @@
+pub mod KnownUnits
+pub mod RootLemmas
+pub mod UnitLemmas

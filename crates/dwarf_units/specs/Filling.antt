@@ -1,0 +1,52 @@
+-- A root while its values are read: what is known of it, and what the rest adds.
+use Rattle.std.specs.Prelude.{ℕ, ◌==◌, List, Option, Some, None, Result, Ok, if◌then◌else◌}
+use Rattle.size_core.specs.declared.fault.BadFile.{BadFile}
+use Rattle.size_core.specs.Checks.{◌>>=◌}
+use Rattle.byte_cursor.specs.Window.{Window}
+use Rattle.dwarf_abbrev.specs.declared.shape.UnitShape.{UnitShape}
+use Rattle.dwarf_abbrev.specs.declared.spec.Spec.{Spec}
+use Rattle.dwarf_abbrev.specs.Values.{ValueRecord}
+use Rattle.dwarf_units.specs.declared.constants.TheConstants.{DW_AT_NAME, DW_AT_STMT_LIST, DW_AT_LOW_PC, DW_AT_HIGH_PC, DW_AT_RANGES, DW_AT_STR_OFFSETS_BASE, DW_AT_ADDR_BASE, DW_AT_RNGLISTS_BASE}
+use Rattle.dwarf_units.specs.Roots.{RootRecord, values_from, first_value}
+
+-- of two values of an attribute the first one, and the root with one more value behind the others
+abbrev pub kept : Option ValueRecord → ValueRecord → Option ValueRecord
+kept None v = Some v
+kept (Some first) v = Some first
+
+abbrev pub slot : ℕ → ℕ → Option ValueRecord → ValueRecord → Option ValueRecord
+slot wanted attribute old v = if attribute == wanted then kept old v else old
+
+abbrev pub with_value : ℕ → ValueRecord → RootRecord → RootRecord
+with_value attribute v r = record r {
+  name = slot DW_AT_NAME attribute r.name v;
+  low = slot DW_AT_LOW_PC attribute r.low v;
+  high = slot DW_AT_HIGH_PC attribute r.high v;
+  ranges = slot DW_AT_RANGES attribute r.ranges v;
+  lines = slot DW_AT_STMT_LIST attribute r.lines v;
+  str_base = slot DW_AT_STR_OFFSETS_BASE attribute r.str_base v;
+  addr_base = slot DW_AT_ADDR_BASE attribute r.addr_base v;
+  list_base = slot DW_AT_RNGLISTS_BASE attribute r.list_base v;
+}
+
+-- what is known of an attribute, and the first value of it behind that
+abbrev pub known : Option ValueRecord → ℕ → List (ℕ × ValueRecord) → Option ValueRecord
+known None attribute vs = first_value attribute vs
+known (Some first) attribute vs = Some first
+
+-- the root with these values behind the others
+abbrev pub filled : RootRecord → List (ℕ × ValueRecord) → RootRecord
+filled r vs = record r {
+  name = known r.name DW_AT_NAME vs;
+  low = known r.low DW_AT_LOW_PC vs;
+  high = known r.high DW_AT_HIGH_PC vs;
+  ranges = known r.ranges DW_AT_RANGES vs;
+  lines = known r.lines DW_AT_STMT_LIST vs;
+  str_base = known r.str_base DW_AT_STR_OFFSETS_BASE vs;
+  addr_base = known r.addr_base DW_AT_ADDR_BASE vs;
+  list_base = known r.list_base DW_AT_RNGLISTS_BASE vs;
+}
+
+-- the same with the values that are still to be read
+unfoldable pub filled_from : UnitShape → List Spec → Window → RootRecord → Result RootRecord BadFile
+filled_from shape specs w r = values_from shape specs w >>= λ vs. Ok (filled r vs)

@@ -1,0 +1,144 @@
+-- The units of `.debug_info` (DWARF 5, section 7.5.1).
+use Rattle.std.specs.Prelude.{ℕ, ◌+◌, ◌-◌, ◌==◌, ◌&&◌, ◌||◌, Bool, true, List, [], ◌∷◌, ◌++◌, Option, Some, None, Result, Ok, Err, nat_lt, nat_le, if◌then◌else◌}
+use Rattle.std.specs.Int.{w16}
+use Rattle.size_core.specs.declared.fault.BadFile.{BadFile}
+use Rattle.size_core.specs.declared.fault.Fault.TheVariants.{BadUnit}
+use Rattle.size_core.specs.Checks.{◌>>=◌, ◌>>◌, bad, demand}
+use Rattle.byte_cursor.specs.declared.order.Order.{Order}
+use Rattle.byte_cursor.specs.Reads.{sub_window}
+use Rattle.byte_cursor.specs.Window.{Window, place_of, moved}
+use Rattle.dwarf_abbrev.specs.declared.length.InitialLength.{InitialLength}
+use Rattle.dwarf_abbrev.specs.Lengths.{initial_length_from}
+use Rattle.dwarf_abbrev.specs.Listing.{left, listing}
+use Rattle.dwarf_abbrev.specs.Reads.{byte_from, num_from, offset_from, skip_from}
+use Rattle.dwarf_units.specs.declared.constants.TheConstants.{DW_UT_COMPILE, DW_UT_TYPE, DW_UT_SKELETON, DW_UT_SPLIT_COMPILE, DW_UT_SPLIT_TYPE}
+use Rattle.dwarf_units.specs.declared.sections.Sections.{Sections}
+use Rattle.dwarf_units.specs.declared.header.Header.{Header}
+use Rattle.dwarf_units.specs.declared.unit.DwarfUnit.{DwarfUnit}
+use Rattle.dwarf_units.specs.declared.unit.Position.{Position}
+
+-- the bytes of this length at a window's place, as a window of their own, and the window behind them
+unfoldable pub contents_from : ℕ → Window → Result (Window × Window) BadFile
+contents_from len w = sub_window w w.at len >>= λ contents. Ok (contents, moved w true len)
+
+-- how many bytes stand behind the offset of the abbreviations, by the type of a unit of version 5
+abbrev pub extra_len : ℕ → Bool → ℕ
+extra_len kind wide =
+    if kind == DW_UT_SKELETON || kind == DW_UT_SPLIT_COMPILE then 8
+    else if kind == DW_UT_TYPE || kind == DW_UT_SPLIT_TYPE then (if wide then 16 else 12)
+    else 0
+
+-- a type of units that the standard names
+abbrev pub is_unit_type : ℕ → Bool
+is_unit_type kind = nat_le DW_UT_COMPILE kind && nat_le kind DW_UT_SPLIT_TYPE
+
+-- the header of a unit of versions 2 to 4 behind its version
+unfoldable pub old_header_from : Order → Bool → Window → Result (Header × Window) BadFile
+old_header_from order wide w = do
+  abbrev_offset ← offset_from order wide w
+  address ← byte_from abbrev_offset.1
+  Ok (record { kind = DW_UT_COMPILE; address = address.0; abbrev_offset = abbrev_offset.0 }, address.1)
+
+-- that of a unit of version 5 behind its type
+unfoldable pub typed_header_from : Order → Bool → ℕ → Window → Result (Header × Window) BadFile
+typed_header_from order wide kind w = do
+  address ← byte_from w
+  abbrev_offset ← offset_from order wide address.1
+  passed ← skip_from (extra_len kind wide) abbrev_offset.1
+  Ok (record { kind = kind; address = address.0; abbrev_offset = abbrev_offset.0 }, passed.1)
+
+-- the header of a unit that isn't skipped
+abbrev pub read_header : Result (Header × Window) BadFile → Result (Option Header × Window) BadFile
+read_header header = header >>= λ x. Ok (Some x.0, x.1)
+
+-- the header of a unit of version 5, which is skipped where the standard doesn't name its type
+unfoldable pub new_header_from : Order → Bool → Window → Result (Option Header × Window) BadFile
+new_header_from order wide w = byte_from w >>= (λ kind.
+    if is_unit_type kind.0 then read_header (typed_header_from order wide kind.0 kind.1) else Ok (None, kind.1))
+
+-- the header of a unit behind its version
+abbrev pub header_from : Order → Bool → ℕ → Window → Result (Option Header × Window) BadFile
+header_from order wide version w = if version == 5 then new_header_from order wide w else read_header (old_header_from order wide w)
+
+-- a header that can't be read is a fault of the unit
+abbrev pub or_bad_unit : {X : Type 0} → ℕ → Result X BadFile → Result X BadFile
+or_bad_unit place (Ok x) = Ok x
+or_bad_unit place (Err e) = bad BadUnit place
+
+-- the versions, and the sizes of an address, that are read
+abbrev pub is_version : ℕ → Bool
+is_version version = nat_le 2 version && nat_le version 5
+
+abbrev pub is_address_size : ℕ → Bool
+is_address_size size = size == 2 || size == 4 || size == 8
+
+-- how many bytes an initial length has
+abbrev pub length_len : Bool → ℕ
+length_len wide = if wide then 12 else 4
+
+-- what a unit is told by beside its header
+abbrev pub position_of : ℕ → Window → InitialLength → Window → Position
+position_of start w initial contents = record {
+  place = place_of w;
+  offset = place_of w - start;
+  len = length_len initial.wide + left contents;
+  wide = initial.wide;
+}
+
+-- the unit of a header whose body begins here
+abbrev pub unit_of : Order → Position → ℕ → Header → Window → DwarfUnit
+unit_of order p version header body = record {
+  place = p.place;
+  len = p.len;
+  offset = p.offset;
+  shape = record { version = version; wide = p.wide; address = header.address; order = order };
+  kind = header.kind;
+  abbrev_offset = header.abbrev_offset;
+  body = body;
+}
+
+abbrev pub headed : Order → Position → ℕ → Option Header → Window → Result (Option DwarfUnit) BadFile
+headed order p version None body = Ok None
+headed order p version (Some header) body = demand (is_address_size header.address) BadUnit p.place >> Ok (Some (unit_of order p version header body))
+
+-- the unit behind its version
+unfoldable pub versioned : Order → Position → ℕ → Window → Result (Option DwarfUnit) BadFile
+versioned order p version w =
+    if is_version version then or_bad_unit p.place (header_from order p.wide version w) >>= (λ header. headed order p version header.0 header.1)
+    else Ok None
+
+-- The unit of these contents. One that is too short for a version, of another version than 2 to 5, or of a type that
+-- the standard doesn't name is skipped. BadUnit at its place where its header doesn't fit, or addresses have another
+-- size than 2, 4 and 8.
+unfoldable pub unit_in : Order → Position → Window → Result (Option DwarfUnit) BadFile
+unit_in order p contents = if nat_lt (left contents) 2 then Ok None else num_from w16 order contents >>= (λ version. versioned order p version.0 version.1)
+
+-- the unit at a window's place, or None where it is skipped
+unfoldable pub unit_from : Order → ℕ → Window → Result (Option DwarfUnit × Window) BadFile
+unit_from order start w = do
+  initial ← initial_length_from order w
+  contents ← contents_from initial.0.len initial.1
+  unit ← unit_in order (position_of start w initial.0 contents.0) contents.0
+  Ok (unit, contents.1)
+
+-- the same, up to the section's end
+unfoldable pub record_from : Order → ℕ → Window → Result (Option (Option DwarfUnit) × Window) BadFile
+record_from order start w = if left w == 0 then Ok (None, w) else unit_from order start w >>= (λ unit. Ok (Some unit.0, unit.1))
+
+-- the units of these that are not skipped
+unfoldable pub handed_out : List (Option DwarfUnit) → List (Result DwarfUnit BadFile)
+handed_out [] = []
+handed_out (None ∷ us) = handed_out us
+handed_out (Some u ∷ us) = Ok u ∷ handed_out us
+
+-- the fault that ends them, if one does
+abbrev pub last_fault : Result Window BadFile → List (Result DwarfUnit BadFile)
+last_fault (Ok next) = []
+last_fault (Err e) = Err e ∷ []
+
+-- the units of a window of `.debug_info`, which begins at start in the file, and then the fault
+unfoldable pub units_from : Order → ℕ → Window → List (Result DwarfUnit BadFile)
+units_from order start w = handed_out (listing (record_from order start) w).items ++ last_fault (listing (record_from order start) w).end
+
+abbrev pub units_of : Sections → List (Result DwarfUnit BadFile)
+units_of s = units_from s.order (place_of s.info) s.info

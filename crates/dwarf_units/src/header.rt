@@ -1,0 +1,99 @@
+//! The headers of units (DWARF 5, section 7.5.1).
+
+ghost use Rattle.std.specs.Prelude.{◌≡◌};
+ghost use Rattle.dwarf_abbrev.specs.Reads.{Reads};
+ghost use Rattle.dwarf_units.specs.Units.{extra_len, header_from, is_unit_type, new_header_from, old_header_from, typed_header_from};
+
+use crate::constants::{
+    DW_UT_COMPILE, DW_UT_SKELETON, DW_UT_SPLIT_COMPILE, DW_UT_SPLIT_TYPE, DW_UT_TYPE,
+};
+use byte_cursor::{Cursor, Order};
+use dwarf_abbrev::{offset_from, skip_from, u8_from};
+use size_core::BadFile;
+
+/// What a unit's header says behind its version.
+#[derive(Clone, Copy, Debug)]
+pub struct Header {
+    pub kind: u8,
+    pub address: u8,
+    pub abbrev_offset: u64,
+}
+
+/// Whether the standard names this type of units.
+fn is_unit_type(kind: u8) -> bool
+    ensures { result ≡ is_unit_type kind }
+{
+    DW_UT_COMPILE <= kind && kind <= DW_UT_SPLIT_TYPE
+}
+
+/// How many bytes stand behind the offset of the abbreviations, by the type of a unit of version 5.
+fn extra_len(kind: u8, wide: bool) -> u64
+    ensures { result ≡ extra_len kind wide }
+{
+    match kind {
+        DW_UT_SKELETON | DW_UT_SPLIT_COMPILE => 8,
+        DW_UT_TYPE | DW_UT_SPLIT_TYPE if wide => 16,
+        DW_UT_TYPE | DW_UT_SPLIT_TYPE => 12,
+        _ => 0,
+    }
+}
+
+/// The header of a unit of versions 2 to 4 behind its version.
+#[tactic(auto, unfolding(crate::specs::Units::old_header_from))]
+fn old_header(cursor: &mut Cursor, order: Order, wide: bool) -> Result<Header, BadFile>
+    ensures { Reads (λ x. x) result cursor.new (old_header_from order wide cursor.old) }
+{
+    let abbrev_offset = offset_from(cursor, order, wide)?;
+    let address = u8_from(cursor)?;
+    Ok(Header {
+        kind: DW_UT_COMPILE,
+        address,
+        abbrev_offset,
+    })
+}
+
+/// The header of a unit of version 5 behind its type.
+#[tactic(auto, unfolding(crate::specs::Units::typed_header_from))]
+fn typed_header(cursor: &mut Cursor, order: Order, wide: bool, kind: u8) -> Result<Header, BadFile>
+    ensures { Reads (λ x. x) result cursor.new (typed_header_from order wide kind cursor.old) }
+{
+    let address = u8_from(cursor)?;
+    let abbrev_offset = offset_from(cursor, order, wide)?;
+    skip_from(cursor, extra_len(kind, wide))?;
+    Ok(Header {
+        kind,
+        address,
+        abbrev_offset,
+    })
+}
+
+/// The header of a unit of version 5 behind its version. `None` where the standard doesn't name its type.
+#[tactic(auto, unfolding(crate::specs::Units::new_header_from))]
+fn new_header(cursor: &mut Cursor, order: Order, wide: bool) -> Result<Option<Header>, BadFile>
+    ensures { Reads (λ x. x) result cursor.new (new_header_from order wide cursor.old) }
+{
+    let kind = u8_from(cursor)?;
+    if is_unit_type(kind) {
+        let header = typed_header(cursor, order, wide, kind)?;
+        Ok(Some(header))
+    } else {
+        Ok(None)
+    }
+}
+
+/// The header of a unit behind its version.
+pub fn header_from(
+    cursor: &mut Cursor,
+    order: Order,
+    wide: bool,
+    version: u16,
+) -> Result<Option<Header>, BadFile>
+    ensures { Reads (λ x. x) result cursor.new (header_from order wide version cursor.old) }
+{
+    if version == 5 {
+        new_header(cursor, order, wide)
+    } else {
+        let header = old_header(cursor, order, wide)?;
+        Ok(Some(header))
+    }
+}

@@ -1,0 +1,23 @@
+//! The units of DWARF 2 to 5, with their roots, names and addresses. A file is borrowed, and nothing here takes
+//! memory.
+#![tactic(auto)]
+
+mod constants;
+mod header;
+mod laws;
+mod root;
+mod roots;
+mod sections;
+mod strings;
+mod unit;
+mod units;
+
+pub use laws::{constants_are_those_of_the_standard, units_are_known};
+pub use root::Root;
+pub use sections::Sections;
+pub use strings::{address_by, base_or, table_header, text_of};
+pub use unit::DwarfUnit;
+pub use units::Units;
+
+#[cfg(test)]
+mod tests;

@@ -1,0 +1,170 @@
+//! Units (DWARF 5, section 7.5.1).
+
+ghost use Rattle.std.specs.Prelude.{◌≡◌};
+ghost use Rattle.size_core.specs.Checks.{bad};
+ghost use Rattle.size_core.specs.declared.fault.Fault.TheVariants.{BadUnit};
+ghost use Rattle.byte_cursor.specs.Window.{Window, place_of};
+ghost use Rattle.dwarf_abbrev.specs.Reads.{Reads, Takes};
+ghost use Rattle.dwarf_units.specs.Units.{contents_from, headed, is_address_size, is_version, position_of, unit_from, unit_in, versioned};
+
+use crate::header::{Header, header_from};
+use byte_cursor::{Cursor, Order};
+use dwarf_abbrev::{InitialLength, UnitShape, initial_length, u16_from};
+use size_core::{BadFile, Fault};
+
+/// A unit of `.debug_info`.
+#[derive(Drop)]
+pub struct DwarfUnit<'a> {
+    /// Its file offset.
+    pub place: u64,
+    /// How many bytes it has, with its length field.
+    pub len: u64,
+    /// Its offset in `.debug_info`.
+    pub offset: u64,
+    /// By which its values are read.
+    pub shape: UnitShape,
+    /// Its type (section 7.5.1, table 7.2), and 1 in DWARF 2 to 4.
+    pub kind: u8,
+    /// The offset of the table of its abbreviations in `.debug_abbrev`.
+    pub abbrev_offset: u64,
+    /// Its entries, from behind its header to its end.
+    pub body: Cursor<'a>,
+}
+
+/// What a unit is told by beside its header: its place in the file, its offset in `.debug_info`,
+/// how many bytes it has, and how many an offset has.
+#[derive(Clone, Copy)]
+pub struct Position {
+    pub place: u64,
+    pub offset: u64,
+    pub len: u64,
+    pub wide: bool,
+}
+
+/// Whether this version of DWARF is read.
+fn is_version(version: u16) -> bool
+    ensures { result ≡ is_version version }
+{
+    2 <= version && version <= 5
+}
+
+/// Whether an address may have this size.
+fn is_address_size(size: u8) -> bool
+    ensures { result ≡ is_address_size size }
+{
+    size == 2 || size == 4 || size == 8
+}
+
+/// The fault of a unit whose header can't be read.
+fn bad_unit<'a>(place: u64) -> Result<Option<DwarfUnit<'a>>, BadFile>
+    ensures { result ≡ bad BadUnit place }
+{
+    Err(BadFile {
+        fault: Fault::BadUnit,
+        offset: place,
+    })
+}
+
+/// Where a unit stands, and how many bytes it has: those of its length field, and its contents.
+fn position_of(start: u64, place: u64, initial: InitialLength, contents: &Cursor) -> Position
+    ensures { (w : Window) → place ≡ place_of w → result ≡ position_of start w initial contents.now }
+{
+    let length_len = if initial.wide { 12 } else { 4 };
+    Position {
+        place,
+        offset: place.saturating_sub(start),
+        len: length_len + contents.left(),
+        wide: initial.wide,
+    }
+}
+
+/// The unit of a header whose body begins at the cursor's place.
+fn headed<'a>(
+    order: Order,
+    position: &Position,
+    version: u16,
+    header: Option<Header>,
+    body: Cursor<'a>,
+) -> Result<Option<DwarfUnit<'a>>, BadFile>
+    ensures { result ≡ headed order position.now version header body.entry }
+{
+    let Some(header) = header else {
+        return Ok(None);
+    };
+    if !is_address_size(header.address) {
+        return bad_unit(position.place);
+    }
+    Ok(Some(DwarfUnit {
+        place: position.place,
+        len: position.len,
+        offset: position.offset,
+        shape: UnitShape {
+            version,
+            wide: position.wide,
+            address: header.address,
+            order,
+        },
+        kind: header.kind,
+        abbrev_offset: header.abbrev_offset,
+        body,
+    }))
+}
+
+/// The unit behind its version.
+#[tactic(auto, unfolding(crate::specs::Units::versioned))]
+fn versioned<'a>(
+    order: Order,
+    position: &Position,
+    version: u16,
+    mut cursor: Cursor<'a>,
+) -> Result<Option<DwarfUnit<'a>>, BadFile>
+    ensures { result ≡ versioned order position.now version cursor.entry }
+{
+    if !is_version(version) {
+        return Ok(None);
+    }
+    match header_from(&mut cursor, order, position.wide, version) {
+        Ok(header) => headed(order, position, version, header, cursor),
+        Err(_) => bad_unit(position.place),
+    }
+}
+
+/// The unit of these contents. `None` where it is skipped.
+#[tactic(auto, unfolding(crate::specs::Units::unit_in))]
+fn unit_in<'a>(
+    order: Order,
+    position: &Position,
+    mut contents: Cursor<'a>,
+) -> Result<Option<DwarfUnit<'a>>, BadFile>
+    ensures { result ≡ unit_in order position.now contents.entry }
+{
+    if contents.left() < 2 {
+        return Ok(None);
+    }
+    let version = u16_from(&mut contents, order)?;
+    versioned(order, position, version, contents)
+}
+
+/// The bytes of this length, as a window of their own, which are passed.
+#[tactic(auto, unfolding(crate::specs::Units::contents_from))]
+fn contents_from<'a>(cursor: &mut Cursor<'a>, len: u64) -> Result<Cursor<'a>, BadFile>
+    ensures { Takes (λ x. x) result cursor.old cursor.new (contents_from len cursor.old) }
+{
+    cursor.take(len)
+}
+
+/// The unit at the cursor's place, or `None` where it is skipped.
+#[tactic(auto, unfolding(crate::specs::Units::unit_from))]
+pub fn unit_from<'a>(
+    cursor: &mut Cursor<'a>,
+    order: Order,
+    start: u64,
+) -> Result<Option<DwarfUnit<'a>>, BadFile>
+    ensures { Reads (λ x. x) result cursor.new (unit_from order start cursor.old) }
+{
+    let place = cursor.place();
+    let initial = initial_length(cursor, order)?;
+    let contents = contents_from(cursor, initial.len)?;
+    let position = position_of(start, place, initial, &contents);
+    unit_in(order, &position, contents)
+}

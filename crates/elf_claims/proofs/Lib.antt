@@ -1,0 +1,2 @@
+pub mod DebugLemmas
+pub mod TableLemmas

@@ -1,0 +1,52 @@
+//! The claims of a file's header and of its two tables (ELF gABI, ELF Header).
+
+ghost use Rattle.std.specs.Prelude.{◌≡◌, OnOk};
+ghost use Rattle.claim_sheet.specs.Sheets.{adding};
+ghost use Rattle.elf_claims.specs.Claims.{header_claims, header_reach, section_table_reach, segment_table_reach};
+
+use claim_sheet::{ClaimSheet, Reach, Wrap, span};
+use elf_file::ElfFile;
+use size_core::NoMemory;
+
+fn header_reach(file: &ElfFile<'_>) -> Reach
+    ensures { result ≡ header_reach file.now }
+{
+    Reach::in_file(span(0, 0, file.encoding().header_len()))
+}
+
+#[tactic(auto, unfolding(elf_file::specs::Tables::header_of))]
+fn segment_table_reach(file: &ElfFile<'_>) -> Reach
+    ensures { result ≡ segment_table_reach file.now }
+{
+    let header = file.header();
+    let len = u64::from(header.segments) * file.encoding().segment_len();
+    Reach::in_file(span(0, header.phoff, len))
+}
+
+#[tactic(auto, unfolding(elf_file::specs::Tables::header_of))]
+fn section_table_reach(file: &ElfFile<'_>) -> Reach
+    ensures { result ≡ section_table_reach file.now }
+{
+    let header = file.header();
+    let len = u64::from(header.sections) * file.encoding().section_len();
+    Reach::in_file(span(0, header.shoff, len))
+}
+
+/// Adds the claims of the header and the two tables.
+#[tactic(auto, using(claim_sheet::proofs::SheetLemmas::adding_three), unfolding(crate::specs::Claims::header_claims))]
+pub fn add_headers(file: &ElfFile<'_>, sheet: &mut ClaimSheet) -> Result<(), NoMemory>
+    ensures made { OnOk result (sheet.new ≡ adding sheet.old (header_claims file.now)) }
+    ensures kept { sheet.new.pool ≡ sheet.old.pool }
+{
+    sheet.add(header_reach(file), Wrap::Plain, b"[ELF Header]")?;
+    sheet.add(
+        segment_table_reach(file),
+        Wrap::Plain,
+        b"[ELF Program Headers]",
+    )?;
+    sheet.add(
+        section_table_reach(file),
+        Wrap::Plain,
+        b"[ELF Section Headers]",
+    )
+}

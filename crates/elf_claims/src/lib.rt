@@ -1,0 +1,22 @@
+//! What an ELF file claims, group by group: its loads, its sections, its headers, its symbols, and its debug
+//! sections.
+#![tactic(auto)]
+
+mod debug;
+mod debug_claims;
+mod headers;
+mod load_claims;
+mod loads;
+mod sections;
+mod symbols;
+
+pub use debug::debug_sections;
+pub use debug_claims::{add_lines, add_units};
+pub use headers::add_headers;
+pub use load_claims::add_loads;
+pub use loads::{load_at, load_slots};
+pub use sections::add_sections;
+pub use symbols::add_symbols;
+
+#[cfg(test)]
+mod tests;

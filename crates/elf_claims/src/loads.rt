@@ -1,0 +1,99 @@
+//! The loads of a file.
+
+ghost use Rattle.std.specs.Prelude.{◌≡◌, ◌<◌, IfSome};
+ghost use Rattle.size_model.specs.Loads.{IsLoad};
+ghost use Rattle.elf_file.specs.Tables.{section_count, segment_count, is_null};
+ghost use Rattle.elf_claims.specs.Loads.{has_addresses, has_flag, is_relocatable, section_load, segment_load, slot_count, slot_load};
+
+use elf_file::{ET_REL, ElfFile, PT_LOAD, SHF_ALLOC, SHF_TLS, SHT_NOBITS, SHT_NULL};
+use size_core::Load;
+
+/// Whether the file is of type ET_REL, in which each section with addresses is a space of its own.
+#[tactic(auto, unfolding(elf_file::specs::Tables::header_of))]
+pub fn is_relocatable(file: &ElfFile<'_>) -> bool
+    ensures { result ≡ is_relocatable file.now }
+{
+    file.header().kind == ET_REL
+}
+
+/// Whether a section stands at addresses.
+#[tactic(auto, unfolding(crate::specs::Loads::has_addresses))]
+pub fn has_addresses(file: &ElfFile<'_>, i: u32) -> bool
+    requires { i < section_count file.now }
+    ensures { result ≡ has_addresses file.now i }
+{
+    let section = file.section(i);
+    let is_null = i == 0 || section.kind == SHT_NULL;
+    let is_empty_tls = section.kind == SHT_NOBITS && section.flags & SHF_TLS != 0;
+    !is_null && section.flags & SHF_ALLOC != 0 && !is_empty_tls
+}
+
+#[tactic(auto, unfolding(crate::specs::Loads::section_load))]
+fn section_load(file: &ElfFile<'_>, i: u32) -> Option<Load>
+    requires { i < section_count file.now }
+    ensures load { result ≡ section_load file.now i }
+    ensures fits { IfSome result IsLoad }
+{
+    if !has_addresses(file, i) {
+        return None;
+    }
+    let section = file.section(i);
+    let filesz = if section.kind == SHT_NOBITS {
+        0
+    } else {
+        section.size
+    };
+    Some(Load {
+        space: i,
+        vaddr: 0,
+        memsz: section.size,
+        offset: section.offset,
+        filesz,
+    })
+}
+
+#[tactic(auto, unfolding(crate::specs::Loads::segment_load))]
+fn segment_load(file: &ElfFile<'_>, i: u32) -> Option<Load>
+    requires { i < segment_count file.now }
+    ensures load { result ≡ segment_load file.now i }
+    ensures fits { IfSome result IsLoad }
+{
+    let segment = file.segment(i);
+    if segment.kind != PT_LOAD {
+        return None;
+    }
+    Some(Load {
+        space: 0,
+        vaddr: segment.vaddr,
+        memsz: segment.memsz,
+        offset: segment.offset,
+        filesz: segment.filesz,
+    })
+}
+
+/// How many slots there are in which a load may stand: the program headers, or the sections of a relocatable file.
+#[tactic(auto, unfolding(crate::specs::Loads::slot_count, elf_file::specs::Tables::header_of))]
+pub fn load_slots(file: &ElfFile<'_>) -> u32
+    ensures { result ≡ slot_count file.now }
+{
+    let header = file.header();
+    if header.kind == ET_REL {
+        header.sections
+    } else {
+        header.segments
+    }
+}
+
+/// The load in a slot, or None where none stands there.
+#[tactic(auto, unfolding(crate::specs::Loads::slot_count, crate::specs::Loads::slot_load))]
+pub fn load_at(file: &ElfFile<'_>, i: u32) -> Option<Load>
+    requires { i < slot_count file.now }
+    ensures load { result ≡ slot_load file.now i }
+    ensures fits { IfSome result IsLoad }
+{
+    if is_relocatable(file) {
+        section_load(file, i)
+    } else {
+        segment_load(file, i)
+    }
+}

@@ -1,0 +1,84 @@
+//! The claims of sections.
+
+ghost use Rattle.std.specs.Prelude.{◌≡◌, ◌<◌, OnOk};
+ghost use Rattle.elf_file.specs.Tables.{section_count};
+ghost use Rattle.claim_sheet.specs.Sheets.{adding};
+ghost use Rattle.elf_claims.specs.Claims.{or_if_empty, section_addresses, section_claim, section_claims, section_reach};
+
+use crate::loads::{has_addresses, is_relocatable};
+use claim_sheet::{ClaimSheet, Reach, Wrap, span};
+use elf_file::{ElfFile, SHF_ALLOC, SHT_NOBITS, SHT_NULL};
+use size_core::{NoMemory, Span};
+
+fn section_addresses(file: &ElfFile<'_>, i: u32) -> Span
+    requires { i < section_count file.now }
+    ensures { result ≡ section_addresses file.now i }
+{
+    let section = file.section(i);
+    if is_relocatable(file) {
+        span(i, 0, section.size)
+    } else {
+        span(0, section.addr, section.size)
+    }
+}
+
+// What the claim of a section covers.
+#[tactic(auto, unfolding(crate::specs::Claims::section_reach))]
+fn section_reach(file: &ElfFile<'_>, i: u32) -> Option<Reach>
+    requires { i < section_count file.now }
+    ensures { result ≡ section_reach file.now i }
+{
+    let section = file.section(i);
+    if i == 0 || section.kind == SHT_NULL {
+        return None;
+    }
+    if section.kind == SHT_NOBITS {
+        if has_addresses(file, i) {
+            return Some(Reach::in_memory(section_addresses(file, i)));
+        }
+        return None;
+    }
+    let bytes = span(0, section.offset, section.size);
+    if section.flags & SHF_ALLOC != 0 {
+        Some(Reach::in_both(section_addresses(file, i), bytes))
+    } else {
+        Some(Reach::in_file(bytes))
+    }
+}
+
+// The label, or the other one where it is empty.
+fn or_if_empty<'a>(label: &'a [u8], other: &'a [u8]) -> &'a [u8]
+    ensures { result.now ≡ or_if_empty label.now other.now }
+{
+    match label {
+        [] => other,
+        _ => label,
+    }
+}
+
+#[tactic(auto, unfolding(crate::specs::Claims::section_claim))]
+fn add_section(
+    file: &ElfFile<'_>,
+    i: u32,
+    wrap: Wrap,
+    sheet: &mut ClaimSheet,
+) -> Result<(), NoMemory>
+    requires { i < section_count file.now }
+    ensures made { OnOk result (sheet.new ≡ adding sheet.old (section_claim wrap file.now i)) }
+    ensures kept { sheet.new.pool ≡ sheet.old.pool }
+{
+    let label = or_if_empty(file.section(i).name, b"[Unnamed section]");
+    sheet.add_some(section_reach(file, i), wrap, label)
+}
+
+/// Adds the claims of the sections, in order.
+#[tactic(auto, using(claim_sheet::proofs::LoopLemmas::gather_goes, claim_sheet::proofs::LoopLemmas::gather_ends), unfolding(crate::specs::Claims::section_claims, elf_file::specs::Tables::header_of))]
+pub fn add_sections(file: &ElfFile<'_>, wrap: Wrap, sheet: &mut ClaimSheet) -> Result<(), NoMemory>
+    ensures made { OnOk result (sheet.new ≡ adding sheet.old (section_claims wrap file.now)) }
+    ensures kept { sheet.new.pool ≡ sheet.old.pool }
+{
+    for i in 1..file.header().sections {
+        add_section(file, i, wrap, sheet)?;
+    }
+    Ok(())
+}

@@ -1,0 +1,162 @@
+//! The claims of symbols (ELF gABI, Symbol Table).
+
+ghost use Rattle.std.specs.Prelude.{◌≡◌, ◌<◌, Ok, Err, OnOk, IsErrOf};
+ghost use Rattle.size_core.specs.declared.fault.BadFile.{BadFile as BadFileSpec};
+ghost use Rattle.elf_file.specs.Tables.{section_at, section_count};
+ghost use Rattle.elf_symbols.specs.Symbols.{SymbolRecord, symbol_count};
+ghost use Rattle.elf_symbols.specs.Shown.{shown};
+ghost use Rattle.claim_sheet.specs.Sheets.{adding_read};
+ghost use Rattle.elf_claims.specs.SymbolClaims.{IsTableType, claims_of_type, has_space, is_data_or_code, is_in_section, names_bytes, symbol_address, symbol_claim, symbol_list, symbol_reach, symbol_space, symbols_claims, tables_claims};
+
+use crate::loads::{has_addresses, is_relocatable};
+use claim_sheet::{ClaimSheet, Reach, Stop, Wrap, span};
+use elf_file::{EM_ARM, ElfFile, SHN_LORESERVE, SHN_XINDEX};
+use elf_symbols::{
+    SHT_DYNSYM, SHT_SYMTAB, STT_FUNC, STT_GNU_IFUNC, STT_NOTYPE, STT_OBJECT, Symbol, SymbolTable,
+};
+
+fn is_data_or_code(kind: u8) -> bool
+    ensures { result ≡ is_data_or_code kind }
+{
+    kind == STT_NOTYPE || kind == STT_OBJECT || kind == STT_FUNC || kind == STT_GNU_IFUNC
+}
+
+fn is_in_section(symbol: &Symbol<'_>) -> bool
+    ensures { result ≡ is_in_section (shown symbol.now) }
+{
+    let is_reserved = symbol.shndx >= SHN_LORESERVE && symbol.shndx < SHN_XINDEX;
+    symbol.section != 0 && !is_reserved
+}
+
+#[tactic(auto, unfolding(crate::specs::SymbolClaims::names_bytes))]
+fn names_bytes(symbol: &Symbol<'_>) -> bool
+    ensures { result ≡ names_bytes (shown symbol.now) }
+{
+    is_data_or_code(symbol.kind)
+        && symbol.size > 0
+        && !symbol.name.is_empty()
+        && is_in_section(symbol)
+}
+
+// The symbol's address, without the bit that tells an Arm function's instruction set.
+fn symbol_address(file: &ElfFile<'_>, symbol: &Symbol<'_>) -> u64
+    ensures { result ≡ symbol_address file.now (shown symbol.now) }
+{
+    if file.header().machine == EM_ARM && symbol.kind == STT_FUNC {
+        symbol.value - symbol.value % 2
+    } else {
+        symbol.value
+    }
+}
+
+fn has_space(file: &ElfFile<'_>, symbol: &Symbol<'_>) -> bool
+    ensures { result ≡ has_space file.now (shown symbol.now) }
+{
+    if !is_relocatable(file) {
+        return true;
+    }
+    symbol.section < file.header().sections && has_addresses(file, symbol.section)
+}
+
+fn symbol_space(file: &ElfFile<'_>, symbol: &Symbol<'_>) -> u32
+    ensures { result ≡ symbol_space file.now (shown symbol.now) }
+{
+    if is_relocatable(file) {
+        symbol.section
+    } else {
+        0
+    }
+}
+
+// What the claim of a symbol covers.
+#[tactic(auto, unfolding(crate::specs::SymbolClaims::symbol_reach))]
+fn symbol_reach(file: &ElfFile<'_>, symbol: &Symbol<'_>) -> Option<Reach>
+    ensures { result ≡ symbol_reach file.now (shown symbol.now) }
+{
+    if names_bytes(symbol) && has_space(file, symbol) {
+        let space = symbol_space(file, symbol);
+        let address = symbol_address(file, symbol);
+        Some(Reach::in_memory(span(space, address, symbol.size)))
+    } else {
+        None
+    }
+}
+
+#[tactic(auto, unfolding(crate::specs::SymbolClaims::symbol_claim))]
+fn add_symbol(
+    file: &ElfFile<'_>,
+    table: &SymbolTable<'_>,
+    k: u32,
+    sheet: &mut ClaimSheet,
+) -> Result<(), Stop>
+    requires file { table.now.file ≡ file.now }
+    requires index { k < symbol_count table.now.file table.now.index }
+    ensures made { OnOk result (adding_read sheet.old (symbol_claim file.now table.now.index k) ≡ Ok sheet.new) }
+    ensures bad { (bad : BadFileSpec) → IsErrOf result (Stop.Bad bad) → symbol_claim file.now table.now.index k ≡ Err bad }
+    ensures kept { sheet.new.pool ≡ sheet.old.pool }
+{
+    let symbol = table.symbol(k)?;
+    sheet.add_some(symbol_reach(file, &symbol), Wrap::Plain, symbol.name)?;
+    Ok(())
+}
+
+// Adds the claims of a table's symbols, in order.
+#[tactic(auto, using(claim_sheet::proofs::LoopLemmas::read_goes, claim_sheet::proofs::LoopLemmas::read_ends), unfolding(crate::specs::SymbolClaims::symbol_list))]
+fn add_table_symbols(
+    file: &ElfFile<'_>,
+    table: &SymbolTable<'_>,
+    sheet: &mut ClaimSheet,
+) -> Result<(), Stop>
+    requires file { table.now.file ≡ file.now }
+    ensures made { OnOk result (adding_read sheet.old (symbol_list file.now table.now.index) ≡ Ok sheet.new) }
+    ensures bad { (bad : BadFileSpec) → IsErrOf result (Stop.Bad bad) → symbol_list file.now table.now.index ≡ Err bad }
+    ensures kept { sheet.new.pool ≡ sheet.old.pool }
+{
+    for k in 0..table.len() {
+        add_symbol(file, table, k, sheet)?;
+    }
+    Ok(())
+}
+
+// Adds the claims of section i, where it is a table of symbols of this type.
+#[tactic(auto, using(claim_sheet::proofs::SheetLemmas::adding_none), unfolding(crate::specs::SymbolClaims::claims_of_type, crate::specs::SymbolClaims::table_claims))]
+fn add_table(file: &ElfFile<'_>, kind: u32, i: u32, sheet: &mut ClaimSheet) -> Result<(), Stop>
+    requires kind { IsTableType kind }
+    requires above { 0 < i }
+    requires index { i < section_count file.now }
+    ensures made { OnOk result (adding_read sheet.old (claims_of_type kind file.now i) ≡ Ok sheet.new) }
+    ensures bad { (bad : BadFileSpec) → IsErrOf result (Stop.Bad bad) → claims_of_type kind file.now i ≡ Err bad }
+    ensures kept { sheet.new.pool ≡ sheet.old.pool }
+{
+    if file.section(i).kind != kind {
+        return Ok(());
+    }
+    let table = SymbolTable::at(file, i)?;
+    add_table_symbols(file, &table, sheet)
+}
+
+// Adds the claims of the tables of symbols of this type, in order.
+#[tactic(auto, using(claim_sheet::proofs::LoopLemmas::read_goes, claim_sheet::proofs::LoopLemmas::read_ends), unfolding(crate::specs::SymbolClaims::tables_claims))]
+fn add_tables(file: &ElfFile<'_>, kind: u32, sheet: &mut ClaimSheet) -> Result<(), Stop>
+    requires kind { IsTableType kind }
+    ensures made { OnOk result (adding_read sheet.old (tables_claims kind file.now) ≡ Ok sheet.new) }
+    ensures bad { (bad : BadFileSpec) → IsErrOf result (Stop.Bad bad) → tables_claims kind file.now ≡ Err bad }
+    ensures kept { sheet.new.pool ≡ sheet.old.pool }
+{
+    for i in 1..file.header().sections {
+        add_table(file, kind, i, sheet)?;
+    }
+    Ok(())
+}
+
+/// Adds the claims of all symbols: those of each table of type SHT_SYMTAB in order, and then of each of type
+/// SHT_DYNSYM. Bad is the first fault of a table or a symbol.
+#[tactic(auto, using(claim_sheet::proofs::LoopLemmas::read_joined, claim_sheet::proofs::LoopLemmas::joined_front, claim_sheet::proofs::LoopLemmas::joined_later), unfolding(crate::specs::SymbolClaims::symbols_claims))]
+pub fn add_symbols(file: &ElfFile<'_>, sheet: &mut ClaimSheet) -> Result<(), Stop>
+    ensures made { OnOk result (adding_read sheet.old (symbols_claims file.now) ≡ Ok sheet.new) }
+    ensures bad { (bad : BadFileSpec) → IsErrOf result (Stop.Bad bad) → symbols_claims file.now ≡ Err bad }
+    ensures kept { sheet.new.pool ≡ sheet.old.pool }
+{
+    add_tables(file, SHT_SYMTAB, sheet)?;
+    add_tables(file, SHT_DYNSYM, sheet)
+}

@@ -1,0 +1,216 @@
+ghost use Rattle.std.specs.Prelude.{◌≡◌, ◌+◌, ◌≤◌, length};
+
+use crate::{
+    add_headers, add_lines, add_loads, add_sections, add_symbols, add_units, debug_sections,
+    load_at, load_slots,
+};
+use claim_sheet::{ClaimSheet, Stop, Wrap};
+use elf_file::ElfFile;
+use size_core::{BadFile, Claim, Fault, LabelPool, Load, Side, Span};
+use std::test::Fail;
+
+/// Writes bytes over those from an offset on.
+fn put(file: &mut [u8], at: usize, bytes: &[u8])
+    requires { at + length bytes.now ≤ length file.old }
+    ensures { length file.new ≡ length file.old }
+{
+    for (i, byte) in bytes.iter().enumerate() {
+        file[at + i] = *byte;
+    }
+}
+
+/// One load, the section `.text`, and a table of symbols whose second one, at 144, is the function `f`.
+fn plain_file() -> [u8; 440] {
+    let mut file = [0; 440];
+    put(&mut file, 0, b"\x7fELF\x02\x01\x01");
+    put(&mut file, 16, b"\x02\0\x3e\0");
+    put(&mut file, 32, b"\x40\0\0\0\0\0\0\0\xb8");
+    put(&mut file, 52, b"\x40\0\x38\0\x01\0\x40\0\x04\0\x03");
+    put(&mut file, 64, b"\x01\0\0\0\x07");
+    put(&mut file, 80, b"\0\0\x40");
+    put(&mut file, 96, b"\x40\0\0\0\0\0\0\0\x50");
+    put(
+        &mut file,
+        144,
+        b"\x01\0\0\0\x12\0\x01\0\x04\0\x40\0\0\0\0\0\x08",
+    );
+    put(&mut file, 168, b"\0f\0.text");
+    put(&mut file, 248, b"\x03\0\0\0\x01\0\0\0\x06");
+    put(&mut file, 264, b"\0\0\x40\0\0\0\0\0\0\0\0\0\0\0\0\0\x10");
+    put(&mut file, 316, b"\x02");
+    put(&mut file, 336, b"\x78\0\0\0\0\0\0\0\x30\0\0\0\0\0\0\0\x03");
+    put(&mut file, 380, b"\x03");
+    put(&mut file, 400, b"\xa8\0\0\0\0\0\0\0\x09");
+    file
+}
+
+#[test]
+fn groups_of_a_plain_file(rt: HostRuntime) -> Result<(), Fail> {
+    let alloc = rt.alloc();
+    let file = plain_file();
+    let elf = ElfFile::parse(&file)?;
+    assert_eq!(rt; load_slots(&elf), 1);
+    let load = Load {
+        space: 0,
+        vaddr: 0x400000,
+        memsz: 80,
+        offset: 0,
+        filesz: 64,
+    };
+    assert_eq!(rt; load_at(&elf, 0), Some(load));
+    let mut pool = LabelPool::new(alloc);
+    let mut sheet = ClaimSheet::begin(alloc, &mut pool, 100);
+    add_loads(alloc, &elf, Wrap::Plain, &mut sheet)?;
+    add_sections(&elf, Wrap::Section, &mut sheet)?;
+    add_headers(&elf, &mut sheet)?;
+    add_symbols(&elf, &mut sheet)?;
+    let Ok(claims) = sheet.finish(&mut pool) else {
+        panic!(rt; "eight claims are within the limit");
+    };
+    for (label, want) in [
+        b"LOAD #0 [RWX]".as_slice(),
+        b"[section .text]",
+        b"[section [Unnamed section]]",
+        b"[ELF Header]",
+        b"[ELF Program Headers]",
+        b"[ELF Section Headers]",
+        b"f",
+    ]
+    .iter()
+    .enumerate()
+    {
+        assert!(rt; label < pool.len() && pool.get(label) == *want);
+    }
+    assert_eq!(rt; claims.len(), 8);
+    let none = Span {
+        space: 0,
+        start: 0,
+        len: 0,
+    };
+    let vm = Span {
+        space: 0,
+        start: 0x400004,
+        len: 8,
+    };
+    let symbol = Claim {
+        side: Side::Vm,
+        vm,
+        file: none,
+        label: 6,
+    };
+    assert_eq!(rt; claims[7], symbol);
+    Ok(())
+}
+
+#[test]
+fn symbols_that_claim_bytes(rt: HostRuntime) -> Result<(), Fail> {
+    let alloc = rt.alloc();
+    // What is written over which bytes, and whether the function's symbol still claims bytes.
+    for (at, bytes, is_claim) in [
+        // Of no type, of data, of a function that gives the one to call, and of a section.
+        (148, b"\x10".as_slice(), true),
+        (148, b"\x11", true),
+        (148, b"\x1a", true),
+        (148, b"\x13", false),
+        // In a table of symbols that are bound at run time.
+        (316, b"\x0b", true),
+        // In the last section that isn't reserved, and in the first that is.
+        (150, b"\xff\xfe", true),
+        (150, b"\0\xff", false),
+    ] {
+        assert!(rt; at < 400 && bytes.len() < 4);
+        let mut file = plain_file();
+        put(&mut file, at, bytes);
+        let elf = ElfFile::parse(&file)?;
+        let mut pool = LabelPool::new(alloc);
+        let mut sheet = ClaimSheet::begin(alloc, &mut pool, 100);
+        add_symbols(&elf, &mut sheet)?;
+        let Ok(claims) = sheet.finish(&mut pool) else {
+            panic!(rt; "a claim is within the limit");
+        };
+        assert_eq!(rt; !claims.is_empty(), is_claim, "{bytes:?} at {at}");
+    }
+    Ok(())
+}
+
+#[test]
+fn a_fault_past_the_limit_is_found(rt: HostRuntime) -> Result<(), Fail> {
+    let alloc = rt.alloc();
+    let mut file = plain_file();
+    // The function's name has no end.
+    put(&mut file, 144, b"\x09");
+    let elf = ElfFile::parse(&file)?;
+    let mut pool = LabelPool::new(alloc);
+    let mut sheet = ClaimSheet::begin(alloc, &mut pool, 0);
+    add_headers(&elf, &mut sheet)?;
+    let bad = BadFile {
+        fault: Fault::NameOutside,
+        offset: 144,
+    };
+    assert_eq!(rt; add_symbols(&elf, &mut sheet), Err(Stop::Bad(bad)));
+    assert!(rt; sheet.finish(&mut pool).is_err());
+    assert_eq!(rt; pool.len(), 0);
+    Ok(())
+}
+
+/// A file whose sections are `.debug_info` at 64, of one unit without a name, `.debug_abbrev` at 76, and names. The
+/// headers of the first two stand at 256 and 320.
+fn debug_file() -> [u8; 448] {
+    let mut file = [0; 448];
+    put(&mut file, 0, b"\x7fELF\x02\x01\x01");
+    put(&mut file, 16, b"\x02\0\x3e");
+    put(&mut file, 40, b"\xc0");
+    put(&mut file, 58, b"\x40\0\x04\0\x03");
+    put(&mut file, 64, b"\x08\0\0\0\x04\0\0\0\0\0\x04");
+    put(&mut file, 80, b"\0.debug_info\0.debug_abbrev");
+    put(&mut file, 256, b"\x01\0\0\0\x01");
+    put(&mut file, 280, b"\x40\0\0\0\0\0\0\0\x0c");
+    put(&mut file, 320, b"\x0d\0\0\0\x01");
+    put(&mut file, 344, b"\x4c\0\0\0\0\0\0\0\x01");
+    put(&mut file, 388, b"\x03");
+    put(&mut file, 408, b"\x50\0\0\0\0\0\0\0\x1b");
+    file
+}
+
+#[test]
+fn debug_sections_by_their_names(rt: HostRuntime) -> Result<(), Fail> {
+    let alloc = rt.alloc();
+    let file = debug_file();
+    let elf = ElfFile::parse(&file)?;
+    let sections = debug_sections(&elf)?;
+    assert_eq!(rt; (sections.info.place(), sections.info.left()), (64, 12));
+    assert_eq!(rt; (sections.abbrev.place(), sections.abbrev.left()), (76, 1));
+    assert_eq!(rt; (sections.lines.place(), sections.lines.left()), (0, 0));
+    let mut pool = LabelPool::new(alloc);
+    let mut sheet = ClaimSheet::begin(alloc, &mut pool, 100);
+    add_units(alloc, &elf, &mut sheet)?;
+    add_lines(alloc, &elf, &mut sheet)?;
+    let Ok(claims) = sheet.finish(&mut pool) else {
+        panic!(rt; "two claims are within the limit");
+    };
+    assert_eq!(rt; claims.len(), 2);
+    assert!(rt; pool.len() == 1 && pool.get(0) == b"[Unnamed unit]".as_slice());
+    Ok(())
+}
+
+#[test]
+fn compressed_debug_sections_are_not_read(rt: HostRuntime) -> Result<(), Fail> {
+    let alloc = rt.alloc();
+    for (at, bytes, fault, offset) in [
+        // SHF_COMPRESSED, the name of old, and a relocatable file.
+        (264, b"\0\x08".as_slice(), Fault::CompressedDebugInfo, 256),
+        (93, b".zdebug_line\0", Fault::CompressedDebugInfo, 320),
+        (16, b"\x01", Fault::SourceNotForFile, 0),
+    ] {
+        assert!(rt; at < 300 && bytes.len() < 20);
+        let mut file = debug_file();
+        put(&mut file, at, bytes);
+        let elf = ElfFile::parse(&file)?;
+        let mut pool = LabelPool::new(alloc);
+        let mut sheet = ClaimSheet::begin(alloc, &mut pool, 0);
+        let bad = BadFile { fault, offset };
+        assert_eq!(rt; add_units(alloc, &elf, &mut sheet), Err(Stop::Bad(bad)));
+        assert_eq!(rt; add_lines(alloc, &elf, &mut sheet), Err(Stop::Bad(bad)));
+    }
+    Ok(())
+}

@@ -1,0 +1,24 @@
+//! What a Mach-O file claims, group by group: its loads, its sections, its link-edit parts, its headers, its
+//! symbols, and the units and lines of its debug sections.
+#![tactic(auto)]
+
+mod debug;
+mod debug_claims;
+mod headers;
+mod link_edit;
+mod load_claims;
+mod loads;
+mod sections;
+mod symbols;
+
+pub use debug::debug_sections;
+pub use debug_claims::{add_lines, add_units};
+pub use headers::add_headers;
+pub use link_edit::add_link_edit;
+pub use load_claims::add_loads;
+pub use loads::{load_at, load_slots, loads_of};
+pub use sections::add_sections;
+pub use symbols::add_symbols;
+
+#[cfg(test)]
+mod tests;

@@ -1,0 +1,61 @@
+//! The claims of the parts that link-edit commands place.
+
+ghost use Rattle.std.specs.Prelude.{◌≡◌, OnOk};
+ghost use Rattle.claim_sheet.specs.Sheets.{adding};
+ghost use Rattle.macho_claims.specs.Claims.{link_edit_claims, part_claim, part_label, part_reach};
+
+use claim_sheet::{ClaimSheet, Reach, Wrap, span};
+use macho_file::{LinkEdit, LinkEditPart, MachoFile};
+use size_core::NoMemory;
+
+fn part_label(kind: LinkEdit) -> &'static [u8]
+    ensures { result.now ≡ part_label kind }
+{
+    match kind {
+        LinkEdit::SymbolTable => b"[Symbol Table]",
+        LinkEdit::StringTable => b"[String Table]",
+        LinkEdit::IndirectSymbols => b"[Indirect Symbols]",
+        LinkEdit::RebaseInfo => b"[Rebase Info]",
+        LinkEdit::BindingInfo => b"[Binding Info]",
+        LinkEdit::WeakBindingInfo => b"[Weak Binding Info]",
+        LinkEdit::LazyBindingInfo => b"[Lazy Binding Info]",
+        LinkEdit::ExportInfo => b"[Export Info]",
+        LinkEdit::CodeSignature => b"[Code Signature]",
+        LinkEdit::SegmentSplitInfo => b"[Segment Split Info]",
+        LinkEdit::FunctionStarts => b"[Function Starts]",
+        LinkEdit::DataInCode => b"[Data in Code]",
+        LinkEdit::CodeSignDrs => b"[Code Sign DRs]",
+        LinkEdit::OptimizationHints => b"[Optimization Hints]",
+        LinkEdit::ExportTrie => b"[Export Trie]",
+        LinkEdit::ChainedFixups => b"[Chained Fixups]",
+    }
+}
+
+// The bytes of a part, up to the end of a file of `len` bytes.
+fn part_reach(len: u64, part: &LinkEditPart) -> Reach
+    ensures { result ≡ part_reach len part.now }
+{
+    let left = len.saturating_sub(part.offset);
+    Reach::in_file(span(0, part.offset, part.len.min(left)))
+}
+
+#[tactic(auto, unfolding(crate::specs::Claims::part_claim))]
+fn add_part(len: u64, part: &LinkEditPart, sheet: &mut ClaimSheet) -> Result<(), NoMemory>
+    ensures made { OnOk result (sheet.new ≡ adding sheet.old (part_claim len part.now)) }
+    ensures kept { sheet.new.pool ≡ sheet.old.pool }
+{
+    sheet.add(part_reach(len, part), Wrap::Plain, part_label(part.kind))
+}
+
+/// Adds the claims of the parts that link-edit commands place, in the order of the commands. A part ends with the file.
+#[tactic(auto, using(claim_sheet::proofs::LoopLemmas::list_goes, claim_sheet::proofs::ListLemmas::none_left), unfolding(crate::specs::Claims::link_edit_claims))]
+pub fn add_link_edit(file: &MachoFile<'_>, sheet: &mut ClaimSheet) -> Result<(), NoMemory>
+    ensures made { OnOk result (sheet.new ≡ adding sheet.old (link_edit_claims file.now)) }
+    ensures kept { sheet.new.pool ≡ sheet.old.pool }
+{
+    let len = file.bytes().len() as u64;
+    for part in file.link_edit_parts() {
+        add_part(len, &part, sheet)?;
+    }
+    Ok(())
+}

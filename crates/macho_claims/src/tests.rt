@@ -1,0 +1,364 @@
+ghost use Rattle.std.specs.Prelude.{◌≡◌, ◌+◌, ◌^◌, ◌<◌, ◌≤◌, length};
+
+use crate::{
+    add_headers, add_lines, add_link_edit, add_loads, add_sections, add_symbols, add_units,
+    debug_sections, load_at, load_slots, loads_of,
+};
+use claim_sheet::{ClaimSheet, Stop, Wrap};
+use macho_file::MachoFile;
+use size_core::{BadFile, Fault, LabelPool, Side, Span};
+use std::alloc::Global;
+use std::process::Abort;
+use std::test::Fail;
+
+/// Writes bytes over those from an offset on.
+fn put(file: &mut [u8], at: usize, bytes: &[u8])
+    requires { at + length bytes.now ≤ length file.old }
+    ensures { length file.new ≡ length file.old }
+{
+    for (i, byte) in bytes.iter().enumerate() {
+        file[at + i] = *byte;
+    }
+}
+
+/// A claim's label and side, its addresses, and its bytes of the file.
+#[derive(Drop)]
+struct Want {
+    label: &'static [u8],
+    side: Side,
+    vm: (u64, u64),
+    file: (u64, u64),
+}
+
+fn made(label: &'static [u8], side: Side, vm: (u64, u64), file: (u64, u64)) -> Want {
+    Want {
+        label,
+        side,
+        vm,
+        file,
+    }
+}
+
+fn is_span(span: Span, want: (u64, u64)) -> bool {
+    span.space == 0 && (span.start, span.len) == want
+}
+
+/// The sheet's claims are these, in this order.
+fn assert_made(rt: &impl Abort, mut pool: LabelPool, sheet: ClaimSheet, wanted: &[Want]) {
+    let Ok(claims) = sheet.finish(&mut pool) else {
+        panic!(rt; "the claims are within the limit");
+    };
+    assert_eq!(rt; claims.len(), wanted.len());
+    for (claim, want) in claims.iter().zip(wanted) {
+        assert!(rt; claim.label < pool.len() && pool.get(claim.label) == want.label);
+        assert_eq!(rt; claim.side, want.side);
+        assert!(rt; is_span(claim.vm, want.vm) && is_span(claim.file, want.file));
+    }
+}
+
+/// A file with a segment that is never mapped, one with a section, one behind the file's tables, and three symbols, of
+/// which the first is for a debugger.
+fn program() -> [u8; 4152] {
+    let mut file = [0; 4152];
+    put(&mut file, 0, b"\xcf\xfa\xed\xfe");
+    put(&mut file, 12, b"\x02\0\0\0\x04\0\0\0\x40\x01");
+    put(&mut file, 32, b"\x19\0\0\0\x48\0\0\0__PAGEZERO");
+    put(&mut file, 68, b"\x01");
+    put(&mut file, 104, b"\x19\0\0\0\x98\0\0\0__TEXT");
+    put(&mut file, 132, b"\x01\0\0\0\0\x10");
+    put(&mut file, 153, b"\x10\0\0\0\0\0\0\x05\0\0\0\x05\0\0\0\x01");
+    put(&mut file, 176, b"__text");
+    put(&mut file, 192, b"__TEXT");
+    put(
+        &mut file,
+        209,
+        b"\x08\0\0\x01\0\0\0\x10\0\0\0\0\0\0\0\0\x08",
+    );
+    put(&mut file, 256, b"\x19\0\0\0\x48\0\0\0__LINKEDIT");
+    put(
+        &mut file,
+        281,
+        b"\x10\0\0\x01\0\0\0\0\x10\0\0\0\0\0\0\0\x10\0\0\0\0\0\0\x38",
+    );
+    put(&mut file, 312, b"\x01\0\0\0\x01");
+    put(
+        &mut file,
+        328,
+        b"\x02\0\0\0\x18\0\0\0\0\x10\0\0\x03\0\0\0\x30\x10\0\0\x08",
+    );
+    put(&mut file, 4096, b"\x04\0\0\0\x24\x01\0\0\x04\x08\0\0\x01");
+    put(&mut file, 4112, b"\x01\0\0\0\x0f\x01\0\0\0\x08\0\0\x01");
+    put(&mut file, 4128, b"\x04\0\0\0\x0f\x01\0\0\x0c\x08\0\0\x01");
+    put(&mut file, 4144, b"\0_a\0_b");
+    file
+}
+
+#[test]
+fn claims_of_a_program(rt: HostRuntime) -> Result<(), Fail> {
+    let alloc = rt.alloc();
+    let file = program();
+    let macho = MachoFile::parse(&file)?;
+    let loads = loads_of(alloc, &macho)?;
+    assert_eq!(rt; (load_slots(&macho), loads.len()), (3, 2));
+    assert_eq!(rt; load_at(&macho, 1), Some(loads[0]));
+    let mut pool = LabelPool::new(alloc);
+    let mut sheet = ClaimSheet::begin(alloc, &mut pool, 100);
+    add_symbols(alloc, &macho, &mut sheet)?;
+    add_sections(alloc, &macho, Wrap::Section, &mut sheet)?;
+    add_link_edit(&macho, &mut sheet)?;
+    add_headers(&macho, &mut sheet)?;
+    add_loads(&macho, Wrap::Brackets, &mut sheet)?;
+    let wanted = [
+        made(b"_a", Side::Vm, (0x1_0000_0800, 12), (0, 0)),
+        made(b"_b", Side::Vm, (0x1_0000_080c, 4), (0, 0)),
+        made(
+            b"[section __TEXT,__text]",
+            Side::Both,
+            (0x1_0000_0800, 16),
+            (2048, 16),
+        ),
+        made(b"[Symbol Table]", Side::File, (0, 0), (4096, 48)),
+        made(b"[String Table]", Side::File, (0, 0), (4144, 8)),
+        made(b"[Mach-O Header]", Side::File, (0, 0), (0, 32)),
+        made(b"[Mach-O Load Commands]", Side::File, (0, 0), (32, 320)),
+        made(b"[__TEXT]", Side::Both, (0x1_0000_0000, 4096), (0, 4096)),
+        made(
+            b"[__LINKEDIT]",
+            Side::Both,
+            (0x1_0000_1000, 4096),
+            (4096, 56),
+        ),
+    ];
+    assert_made(&rt, pool, sheet, &wanted);
+    Ok(())
+}
+
+/// The first fault of a file or its symbols.
+fn fault_of(alloc: Global, file: &[u8]) -> Option<BadFile>
+    requires { length file.now < 2 ^ 32 }
+{
+    let macho = match MachoFile::parse(file) {
+        Ok(macho) => macho,
+        Err(bad) => return Some(bad),
+    };
+    let mut pool = LabelPool::new(alloc);
+    let mut sheet = ClaimSheet::begin(alloc, &mut pool, 100);
+    match add_symbols(alloc, &macho, &mut sheet) {
+        Err(Stop::Bad(bad)) => Some(bad),
+        _ => None,
+    }
+}
+
+/// That of the program's first bytes.
+fn fault_of_first(count: usize) -> BadFile {
+    let (fault, offset) = match count {
+        0..=3 => (Fault::UnknownFormat, 0),
+        4..=31 => (Fault::Truncated, 0),
+        32..=351 => (Fault::TablePastEnd, 32),
+        352..=2063 => (Fault::SectionPastEnd, 176),
+        _ => (Fault::TablePastEnd, 328),
+    };
+    BadFile { fault, offset }
+}
+
+#[test]
+fn a_program_that_is_cut(rt: HostRuntime) {
+    let alloc = rt.alloc();
+    let file = program();
+    for count in 0..file.len() {
+        let fault = fault_of(alloc, &file[..count]);
+        assert_eq!(rt; fault, Some(fault_of_first(count)), "{count}");
+    }
+    assert_eq!(rt; fault_of(alloc, &file), None);
+}
+
+/// An object: a segment without a name, a section with bytes in the file, and one that is filled with zeros.
+fn object() -> [u8; 272] {
+    let mut file = [0; 272];
+    put(&mut file, 0, b"\xcf\xfa\xed\xfe");
+    put(&mut file, 12, b"\x01\0\0\0\x01\0\0\0\xe8");
+    put(&mut file, 32, b"\x19\0\0\0\xe8");
+    put(
+        &mut file,
+        64,
+        b"\x18\0\0\0\0\0\0\0\x08\x01\0\0\0\0\0\0\x08\0\0\0\0\0\0\0\x07",
+    );
+    put(&mut file, 96, b"\x02");
+    put(&mut file, 104, b"__text\0\0\0\0\0\0\0\0\0\0__TEXT");
+    put(&mut file, 144, b"\x08\0\0\0\0\0\0\0\x08\x01");
+    put(&mut file, 184, b"__bss\0\0\0\0\0\0\0\0\0\0\0__DATA");
+    put(
+        &mut file,
+        216,
+        b"\x08\0\0\0\0\0\0\0\x10\0\0\0\0\0\0\0\x08\x01",
+    );
+    put(&mut file, 248, b"\x01");
+    file
+}
+
+/// A file of 32 bits with debug information: the bytes of `__text` are in another file.
+fn debug_file() -> [u8; 280] {
+    let mut file = [0; 280];
+    put(&mut file, 0, b"\xce\xfa\xed\xfe");
+    put(&mut file, 12, b"\x0a\0\0\0\x02\0\0\0\xf8");
+    put(&mut file, 28, b"\x01\0\0\0\x7c\0\0\0__TEXT");
+    put(&mut file, 53, b"\x10\0\0\0\x10");
+    put(&mut file, 68, b"\x05\0\0\0\x05\0\0\0\x01");
+    put(&mut file, 84, b"__text\0\0\0\0\0\0\0\0\0\0__TEXT");
+    put(&mut file, 117, b"\x10\0\0\x10\0\0\0\0\x10");
+    put(&mut file, 152, b"\x01\0\0\0\x7c\0\0\0__DWARF");
+    put(
+        &mut file,
+        177,
+        b"\x20\0\0\0\x10\0\0\x14\x01\0\0\x04\0\0\0\x07\0\0\0\x07\0\0\0\x01",
+    );
+    put(&mut file, 208, b"__debug_info\0\0\0\0__DWARF");
+    put(&mut file, 241, b"\x20\0\0\x04\0\0\0\x14\x01");
+    file
+}
+
+#[test]
+fn sections_in_the_file_and_not(rt: HostRuntime) -> Result<(), Fail> {
+    let alloc = rt.alloc();
+    let (object, debug_file) = (object(), debug_file());
+    let mut pool = LabelPool::new(alloc);
+    let mut sheet = ClaimSheet::begin(alloc, &mut pool, 100);
+    for file in [object.as_slice(), &debug_file] {
+        assert!(rt; file.len() < 300);
+        let macho = MachoFile::parse(file)?;
+        add_loads(&macho, Wrap::Plain, &mut sheet)?;
+        add_sections(alloc, &macho, Wrap::Plain, &mut sheet)?;
+    }
+    let wanted = [
+        made(b"[Unnamed segment]", Side::Both, (0, 24), (264, 8)),
+        made(b"__TEXT,__text", Side::Both, (0, 8), (264, 8)),
+        made(b"__DATA,__bss", Side::Vm, (8, 16), (0, 0)),
+        made(b"__TEXT", Side::Both, (0x1000, 0x1000), (0, 0)),
+        made(b"__DWARF", Side::Both, (0x2000, 0x1000), (276, 4)),
+        made(b"__TEXT,__text", Side::Vm, (0x1000, 16), (0, 0)),
+        made(b"__DWARF,__debug_info", Side::Both, (0x2000, 4), (276, 4)),
+    ];
+    assert_made(&rt, pool, sheet, &wanted);
+    Ok(())
+}
+
+/// A library: its link-edit parts, of which the last passes the file's end.
+fn library() -> [u8; 256] {
+    let mut file = [0; 256];
+    put(&mut file, 0, b"\xcf\xfa\xed\xfe");
+    put(&mut file, 12, b"\x06\0\0\0\x03\0\0\0\x90");
+    put(
+        &mut file,
+        32,
+        b"\x22\0\0\x80\x30\0\0\0\xb0\0\0\0\x08\0\0\0\xb8\0\0\0\x08",
+    );
+    put(&mut file, 64, b"\xc0\0\0\0\x08\0\0\0\xc8\0\0\0\x08");
+    put(&mut file, 80, b"\x0b\0\0\0\x50");
+    put(&mut file, 136, b"\xd0\0\0\0\x02");
+    put(&mut file, 160, b"\x1d\0\0\0\x10\0\0\0\xf0\0\0\0\x40");
+    file
+}
+
+#[test]
+fn parts_of_a_library(rt: HostRuntime) -> Result<(), Fail> {
+    let alloc = rt.alloc();
+    let file = library();
+    let macho = MachoFile::parse(&file)?;
+    let mut pool = LabelPool::new(alloc);
+    let mut sheet = ClaimSheet::begin(alloc, &mut pool, 100);
+    add_link_edit(&macho, &mut sheet)?;
+    add_symbols(alloc, &macho, &mut sheet)?;
+    let wanted = [
+        made(b"[Rebase Info]", Side::File, (0, 0), (176, 8)),
+        made(b"[Binding Info]", Side::File, (0, 0), (184, 8)),
+        made(b"[Lazy Binding Info]", Side::File, (0, 0), (192, 8)),
+        made(b"[Export Info]", Side::File, (0, 0), (200, 8)),
+        made(b"[Indirect Symbols]", Side::File, (0, 0), (208, 8)),
+        made(b"[Code Signature]", Side::File, (0, 0), (240, 16)),
+    ];
+    assert_made(&rt, pool, sheet, &wanted);
+    Ok(())
+}
+
+/// A big-endian file of 32 bits, whose one segment is never mapped.
+fn unmapped() -> [u8; 84] {
+    let mut file = [0; 84];
+    put(&mut file, 0, b"\xfe\xed\xfa\xce");
+    put(&mut file, 15, b"\x02\0\0\0\x01\0\0\0\x38");
+    put(&mut file, 31, b"\x01\0\0\0\x38__ZERO");
+    put(&mut file, 58, b"\x10");
+    file
+}
+
+#[test]
+fn a_segment_that_is_never_mapped(rt: HostRuntime) -> Result<(), Fail> {
+    let alloc = rt.alloc();
+    let file = unmapped();
+    let macho = MachoFile::parse(&file)?;
+    assert_eq!(rt; load_slots(&macho), 1);
+    assert_eq!(rt; load_at(&macho, 0), None);
+    let mut pool = LabelPool::new(alloc);
+    let mut sheet = ClaimSheet::begin(alloc, &mut pool, 100);
+    add_loads(&macho, Wrap::Plain, &mut sheet)?;
+    add_headers(&macho, &mut sheet)?;
+    let wanted = [
+        made(b"[Mach-O Header]", Side::File, (0, 0), (0, 28)),
+        made(b"[Mach-O Load Commands]", Side::File, (0, 0), (28, 56)),
+    ];
+    assert_made(&rt, pool, sheet, &wanted);
+    Ok(())
+}
+
+/// A file of debug information of 32 bits: `__debug_info` at 220, of one unit without a name, and `__debug_abbrev` at
+/// 232.
+fn unit_file() -> [u8; 233] {
+    let mut file = [0; 233];
+    put(&mut file, 0, b"\xce\xfa\xed\xfe");
+    put(&mut file, 12, b"\x0a\0\0\0\x01\0\0\0\xc0");
+    put(&mut file, 28, b"\x01\0\0\0\xc0\0\0\0__DWARF");
+    put(&mut file, 76, b"\x02");
+    put(&mut file, 84, b"__debug_info\0\0\0\0__DWARF");
+    put(&mut file, 120, b"\x0c\0\0\0\xdc");
+    put(&mut file, 152, b"__debug_abbrev\0\0__DWARF");
+    put(&mut file, 188, b"\x01\0\0\0\xe8");
+    put(&mut file, 220, b"\x08\0\0\0\x04\0\0\0\0\0\x04");
+    file
+}
+
+#[test]
+fn units_of_a_debug_file(rt: HostRuntime) -> Result<(), Fail> {
+    let alloc = rt.alloc();
+    let file = unit_file();
+    let macho = MachoFile::parse(&file)?;
+    let sections = debug_sections(&macho)?;
+    assert_eq!(rt; (sections.info.place(), sections.info.left()), (220, 12));
+    assert_eq!(rt; (sections.abbrev.place(), sections.abbrev.left()), (232, 1));
+    assert_eq!(rt; (sections.lines.place(), sections.lines.left()), (0, 0));
+    let mut pool = LabelPool::new(alloc);
+    let mut sheet = ClaimSheet::begin(alloc, &mut pool, 100);
+    add_units(alloc, &macho, &mut sheet)?;
+    add_lines(alloc, &macho, &mut sheet)?;
+    let wanted = [
+        made(b"[Unnamed unit]", Side::File, (0, 0), (220, 12)),
+        made(b"[Unnamed unit]", Side::File, (0, 0), (232, 1)),
+    ];
+    assert_made(&rt, pool, sheet, &wanted);
+    Ok(())
+}
+
+#[test]
+fn debug_sections_of_an_object_are_not_read(rt: HostRuntime) -> Result<(), Fail> {
+    let alloc = rt.alloc();
+    let mut file = unit_file();
+    put(&mut file, 12, b"\x01");
+    let macho = MachoFile::parse(&file)?;
+    let mut pool = LabelPool::new(alloc);
+    let mut sheet = ClaimSheet::begin(alloc, &mut pool, 100);
+    let bad = BadFile {
+        fault: Fault::SourceNotForFile,
+        offset: 0,
+    };
+    assert_eq!(rt; add_units(alloc, &macho, &mut sheet), Err(Stop::Bad(bad)));
+    assert_eq!(rt; add_lines(alloc, &macho, &mut sheet), Err(Stop::Bad(bad)));
+    Ok(())
+}

@@ -1,0 +1,54 @@
+-- The parts of the link-edit data that are still to come.
+use Rattle.std.proofs.Common.{◌≡◌, ℕ, zero, suc, ◌+◌, ◌<◌, ◌≤◌, Option, Some, None, List, [], ◌∷◌, ◌++◌, length, drop, slice_get, refl, arith}
+use Rattle.std.proofs.lemmas.Grind.{common_steps}
+use Rattle.std.proofs.lemmas.Option.{slice_get_within}
+use Rattle.std.specs.List.{flat_map}
+use Rattle.macho_file.specs.declared.command.Command.{Command}
+use Rattle.macho_file.specs.declared.link_edit.LinkEdit.{LinkEdit}
+use Rattle.macho_file.specs.declared.link_edit.LinkEditPart.{LinkEditPart}
+use Rattle.macho_file.specs.Commands.{data_kind}
+use Rattle.macho_file.specs.LinkEdit.{data_parts, parts_of, parts_of_some}
+
+-- those of the command at hand from one on, and then those of the commands that are left
+abbrev pub to_come : List ℕ → Option Command → ℕ → List Command → List LinkEditPart
+to_come file command next cs = drop next (parts_of_some file command) ++ flat_map (parts_of file) cs
+
+some_left : {X : Type 0} (xs : List X) (i : ℕ) (x : X) → slice_get xs i ≡ Some x → drop i xs ≡ x ∷ drop (i + 1) xs
+some_left [] i x h = cc
+some_left (y ∷ ys) zero x h = cc
+some_left (y ∷ ys) (suc i) x h = let k : suc i + 1 ≡ suc (i + 1) = omega arith in rw k (some_left ys i x h)
+
+none_left : {X : Type 0} (xs : List X) (i : ℕ) → slice_get xs i ≡ None → drop i xs ≡ []
+none_left [] zero h = refl
+none_left [] (suc i) h = refl
+none_left (y ∷ ys) zero h = cc
+none_left (y ∷ ys) (suc i) h = none_left ys i h
+
+pub part_next : (file : List ℕ) (command : Option Command) (next : ℕ) (cs : List Command) (part : LinkEditPart)
+    → slice_get (parts_of_some file command) next ≡ Some part → to_come file command next cs ≡ part ∷ to_come file command (next + 1) cs
+part_next file command next cs part h = rw (some_left (parts_of_some file command) next part h) refl
+
+pub part_begins : (file : List ℕ) (command : Option Command) (next : ℕ) (cs : List Command) (c : Command) (rest : List Command)
+    → slice_get (parts_of_some file command) next ≡ None → cs ≡ c ∷ rest → to_come file command next cs ≡ to_come file (Some c) 0 rest
+part_begins file command next cs c rest h is = rw (none_left (parts_of_some file command) next h, is) refl
+
+pub parts_over : (file : List ℕ) (command : Option Command) (next : ℕ) (cs : List Command)
+    → slice_get (parts_of_some file command) next ≡ None → cs ≡ [] → to_come file command next cs ≡ []
+parts_over file command next cs h is = rw (none_left (parts_of_some file command) next h, is) refl
+
+data_few : (file : List ℕ) (c : Command) (kind : Option LinkEdit) → length (data_parts file c kind) ≤ 5
+data_few file c None = omega arith
+data_few file c (Some kind) = omega arith
+
+parts_few : (file : List ℕ) (c : Command) → length (parts_of file c) ≤ 5
+unfolding parts_of
+parts_few file c = grind (arith, common_steps, data_few file c (data_kind c.kind))
+
+some_few : (file : List ℕ) (command : Option Command) → length (parts_of_some file command) ≤ 5
+some_few file None = omega arith
+some_few file (Some c) = parts_few file c
+
+-- a part's number is small
+pub few_parts : (file : List ℕ) (command : Option Command) (next : ℕ) (part : LinkEditPart)
+    → slice_get (parts_of_some file command) next ≡ Some part → next < 5
+few_parts file command next part h = omega (arith, some_few file command, slice_get_within (parts_of_some file command) next part h)

@@ -1,0 +1,81 @@
+-- What a reader knows of a Mach-O file, one step after another.
+use Rattle.std.specs.Prelude.{◌≡◌, ℕ, ◌+◌, ◌*◌, ◌^◌, ◌≤◌, ◌<◌, Option, None, Some, List, length, map, Result, Ok}
+use Rattle.std.specs.List.{flat_map}
+use Rattle.size_core.specs.declared.fault.BadFile.{BadFile}
+use Rattle.size_core.specs.declared.fault.Fault.TheVariants.{BadCommand}
+use Rattle.size_core.specs.Checks.{◌>>◌, Check, demand, first_of}
+use Rattle.macho_file.specs.declared.command.Command.{Command}
+use Rattle.macho_file.specs.declared.encoding.Encoding.{Encoding}
+use Rattle.macho_file.specs.declared.symbol_table.SymbolTable.{SymbolTable}
+use Rattle.macho_file.specs.Layout.{encoding_of, header_len, command_count, commands_end}
+use Rattle.macho_file.specs.Commands.{commands_from, least_size, is_whole}
+use Rattle.macho_file.specs.Tables.{segments, segments_from, sections, sections_from, sections_of}
+use Rattle.macho_file.specs.Checks.{command_checks, section_fits}
+use Rattle.macho_file.specs.Symbols.{symbol_len, symbol_table}
+
+-- the class and the byte order are known, the header is whole, and the commands end in the file
+pub record HasHeader (file : List ℕ) (e : Encoding) : Type 0 where
+  pub encoding_is : e ≡ encoding_of file
+  pub whole : header_len file ≤ length file
+  pub ends : commands_end file ≤ length file
+  pub small : length file < 2 ^ 32
+
+-- the checks that a loop makes of sections and of commands, of which this many follow one another from a place on
+abbrev pub sections_fit : List ℕ → Encoding → ℕ → ℕ → Check
+sections_fit file form place count = first_of (map (section_fits file) (sections_from file form place count))
+
+abbrev pub commands_fit : List ℕ → ℕ → ℕ → Check
+commands_fit file place count = first_of (flat_map (command_checks file) (commands_from file place count))
+
+-- the command, unless it isn't whole
+abbrev pub whole_command : List ℕ → Command → Result Command BadFile
+whole_command file c = demand (is_whole file c) BadCommand c.place >> Ok c
+
+-- this many commands from a place on are checked
+pub record HasCommands (file : List ℕ) (e : Encoding) (place count : ℕ) : Type 0 where
+  pub header : HasHeader file e
+  pub fit : commands_fit file place count ≡ Ok tt
+
+-- a command has its least size, and lies among the commands and so in the file
+pub record IsInside (file : List ℕ) (c : Command) : Type 0 where
+  pub least : least_size file c ≤ c.size
+  pub ends : c.place + c.size ≤ commands_end file
+  pub within : c.place + c.size ≤ length file
+
+-- the same of a command, or of none
+abbrev pub IsSomeInside : List ℕ → Option Command → Type 0
+IsSomeInside file None = Unit {0}
+IsSomeInside file (Some c) = IsInside file c
+
+-- a command that was found to have a table of symbols has its fields in the file
+abbrev pub IsSomeTable : List ℕ → Option Command → Type 0
+IsSomeTable file None = Unit {0}
+IsSomeTable file (Some c) = c.place + 24 ≤ length file
+
+-- the symbols and the names of a table lie in the file
+pub record HasTable (file : List ℕ) (t : SymbolTable) : Type 0 where
+  pub symbols : t.symoff + t.nsyms * symbol_len file ≤ length file
+  pub names : t.stroff + t.strsize ≤ length file
+
+-- the first of two that is there
+abbrev pub or_else : {X : Type 0} → Option X → Option X → Option X
+or_else None y = y
+or_else (Some x) y = Some x
+
+-- a file and the commands that are still to come
+pub record Listing : Type 0 where
+  pub file : List ℕ
+  pub rest : List Command
+
+-- the same segments and sections are among these commands
+pub record SameSegments (file : List ℕ) (cs ds : List Command) : Type 0 where
+  pub segments_are : (first : ℕ) → segments_from file first cs ≡ segments_from file first ds
+  pub sections_are : flat_map (sections_of file) cs ≡ flat_map (sections_of file) ds
+
+-- all that is known of a file that was opened
+pub record IsOpened (file : List ℕ) (e : Encoding) (segment_count section_count : ℕ) (symtab : Option Command) : Type 0 where
+  pub commands : HasCommands file e (header_len file) (command_count file)
+  pub segments_are : segment_count ≡ length (segments file)
+  pub sections_are : section_count ≡ length (sections file)
+  pub symtab_is : symtab ≡ symbol_table file
+  pub symtab_inside : IsSomeTable file symtab

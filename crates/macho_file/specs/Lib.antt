@@ -1,0 +1,12 @@
+pub mod Checks
+pub mod Commands
+pub mod Index
+pub mod Known
+pub mod Layout
+pub mod LinkEdit
+pub mod Shown
+pub mod Spans
+pub mod Symbols
+pub mod Tables
+pub mod Taken
+pub mod WellFormed

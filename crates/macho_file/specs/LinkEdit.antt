@@ -1,0 +1,52 @@
+-- The parts of a file that its link-edit commands place (mach-o/loader.h: symtab_command, dysymtab_command,
+-- dyld_info_command, linkedit_data_command).
+use Rattle.std.specs.Prelude.{ℕ, ◌+◌, ◌*◌, ◌==◌, List, [], ◌∷◌, Option, None, Some, if◌then◌else◌}
+use Rattle.std.specs.List.{flat_map}
+use Rattle.macho_file.specs.declared.command.Command.{Command}
+use Rattle.macho_file.specs.declared.link_edit.LinkEdit.{LinkEdit}
+use Rattle.macho_file.specs.declared.link_edit.LinkEditPart.{LinkEditPart}
+use Rattle.macho_file.specs.declared.link_edit.LinkEdit.TheVariants.{SymbolTable, StringTable, IndirectSymbols, RebaseInfo, BindingInfo, WeakBindingInfo, LazyBindingInfo, ExportInfo}
+use Rattle.macho_file.specs.declared.constants.TheConstants.{LC_SYMTAB, LC_DYSYMTAB}
+use Rattle.macho_file.specs.Layout.{encoding_of, four}
+use Rattle.macho_file.specs.Commands.{commands, data_kind, is_dyld_info}
+use Rattle.macho_file.specs.Symbols.{symbol_len}
+
+-- a part whose offset is a field of a command and whose length is the field behind it, in units of some bytes
+unfoldable pub part_at : List ℕ → Command → LinkEdit → ℕ → ℕ → LinkEditPart
+part_at file c kind field unit = let e = encoding_of file in record {
+  kind = kind;
+  offset = four e file (c.place + field);
+  len = four e file (c.place + field + 4) * unit;
+}
+
+-- the part of a linkedit_data_command (dataoff, datasize)
+abbrev pub data_parts : List ℕ → Command → Option LinkEdit → List LinkEditPart
+data_parts file c None = []
+data_parts file c (Some kind) = part_at file c kind 8 1 ∷ []
+
+-- those of a symtab_command (symoff, nsyms, stroff, strsize)
+abbrev pub table_parts : List ℕ → Command → List LinkEditPart
+table_parts file c = part_at file c SymbolTable 8 (symbol_len file) ∷ part_at file c StringTable 16 1 ∷ []
+
+-- those of a dyld_info_command (an offset and a size for each)
+abbrev pub dyld_parts : List ℕ → Command → List LinkEditPart
+dyld_parts file c =
+    part_at file c RebaseInfo 8 1 ∷ part_at file c BindingInfo 16 1 ∷ part_at file c WeakBindingInfo 24 1
+    ∷ part_at file c LazyBindingInfo 32 1 ∷ part_at file c ExportInfo 40 1 ∷ []
+
+-- the parts that a command places, among them those of a dysymtab_command (indirectsymoff, nindirectsyms)
+unfoldable pub parts_of : List ℕ → Command → List LinkEditPart
+parts_of file c =
+    if c.kind == LC_SYMTAB then table_parts file c
+    else if c.kind == LC_DYSYMTAB then part_at file c IndirectSymbols 56 4 ∷ []
+    else if is_dyld_info c.kind then dyld_parts file c
+    else data_parts file c (data_kind c.kind)
+
+-- those of a command, or of none
+abbrev pub parts_of_some : List ℕ → Option Command → List LinkEditPart
+parts_of_some file None = []
+parts_of_some file (Some c) = parts_of file c
+
+-- the parts that the commands of the file place, in their order
+unfoldable pub link_edit_parts : List ℕ → List LinkEditPart
+link_edit_parts file = flat_map (parts_of file) (commands file)

@@ -1,0 +1,91 @@
+-- The symbols of a Mach-O file (mach-o/loader.h: symtab_command; mach-o/nlist.h: nlist, nlist_64).
+use Rattle.std.specs.Prelude.{ℕ, ◌+◌, ◌*◌, ◌==◌, ◌&&◌, List, [], length, take, drop, Option, None, Some, Result, Ok, nat_le, slice_index, if◌then◌else◌}
+use Rattle.std.specs.List.{find}
+use Rattle.size_core.specs.declared.fault.BadFile.{BadFile}
+use Rattle.size_core.specs.declared.fault.Fault.{Fault}
+use Rattle.size_core.specs.declared.fault.Fault.TheVariants.{TablePastEnd, NameOutside}
+use Rattle.size_core.specs.Checks.{◌>>=◌, ◌>>◌, demand, bad}
+use Rattle.byte_cursor.specs.Numbers.{text}
+use Rattle.macho_file.specs.declared.command.Command.{Command}
+use Rattle.macho_file.specs.declared.symbol_table.SymbolTable.{SymbolTable}
+use Rattle.macho_file.specs.declared.constants.TheConstants.{LC_SYMTAB}
+use Rattle.macho_file.specs.Layout.{encoding_of, four, word, pick}
+use Rattle.macho_file.specs.Commands.{commands}
+
+-- the first command that has a table of symbols
+unfoldable pub symbol_table : List ℕ → Option Command
+symbol_table file = find (λ c. c.kind == LC_SYMTAB) (commands file)
+
+-- the size of a symbol in the file's class
+abbrev pub symbol_len : List ℕ → ℕ
+symbol_len file = pick (encoding_of file) 12 16
+
+-- what a symtab_command at a place says
+unfoldable pub table_at : List ℕ → ℕ → SymbolTable
+table_at file place = let e = encoding_of file in record {
+  symoff = four e file (place + 8);
+  nsyms = four e file (place + 12);
+  stroff = four e file (place + 16);
+  strsize = four e file (place + 20);
+}
+
+-- the table of symbols of a command, or of none, whose symbols and names have to lie in the file
+unfoldable pub table_of : List ℕ → Option Command → Result SymbolTable BadFile
+table_of file None = Ok (record { symoff = 0; nsyms = 0; stroff = 0; strsize = 0 })
+table_of file (Some c) = let t = table_at file c.place in do
+  demand (nat_le (t.symoff + t.nsyms * symbol_len file) (length file) && nat_le (t.stroff + t.strsize) (length file)) TablePastEnd c.place
+  Ok t
+
+-- the file's table of symbols, or its fault
+abbrev pub table : List ℕ → Result SymbolTable BadFile
+table file = table_of file (symbol_table file)
+
+-- how many symbols there are, or the table's fault
+unfoldable pub symbol_count : List ℕ → Result ℕ BadFile
+symbol_count file = do
+  t ← table file
+  Ok t.nsyms
+
+-- a symbol
+pub record SymbolRecord : Type 0 where
+  pub place : ℕ
+  pub name : List ℕ
+  pub kind : ℕ
+  pub sect : ℕ
+  pub value : ℕ
+
+-- the names of a table's symbols
+abbrev pub strings : List ℕ → SymbolTable → List ℕ
+strings file t = take t.strsize (drop t.stroff file)
+
+-- what is there, or this fault
+abbrev pub present : {X : Type 0} → Option X → Fault → ℕ → Result X BadFile
+present None fault place = bad fault place
+present (Some x) fault place = Ok x
+
+-- the name of the symbol at a place: none where n_strx is 0
+unfoldable pub symbol_name : List ℕ → SymbolTable → ℕ → Result (List ℕ) BadFile
+symbol_name file t place = let strx = four (encoding_of file) file place in
+    if strx == 0 then Ok [] else present (text (strings file t) strx) NameOutside place
+
+-- the symbol at a place, with this name
+abbrev pub symbol_named : List ℕ → List ℕ → ℕ → SymbolRecord
+symbol_named file name place = record {
+  place = place;
+  name = name;
+  kind = slice_index file (place + 4);
+  sect = slice_index file (place + 5);
+  value = word (encoding_of file) file place 8 8;
+}
+
+-- symbol k of a table, or its fault
+unfoldable pub symbol_of : List ℕ → SymbolTable → ℕ → Result SymbolRecord BadFile
+symbol_of file t k = let place = t.symoff + k * symbol_len file in do
+  name ← symbol_name file t place
+  Ok (symbol_named file name place)
+
+-- symbol k of the file's table, or its fault
+unfoldable pub symbol_at : List ℕ → ℕ → Result SymbolRecord BadFile
+symbol_at file k = do
+  t ← table file
+  symbol_of file t k

@@ -1,0 +1,32 @@
+-- The symbols of a table that take part.
+use Rattle.std.specs.Prelude.{◌≡◌, ℕ, All, List, ◌++◌, Result, Ok, true}
+use Rattle.std.specs.List.{filter}
+use Rattle.size_core.specs.declared.fault.BadFile.{BadFile}
+use Rattle.size_core.specs.Checks.{◌>>=◌}
+use Rattle.macho_file.specs.declared.answer.SpanAnswer.{SpanAnswer}
+use Rattle.macho_file.specs.declared.answer.SpanAnswer.TheVariants.{Bad, NoMemory}
+use Rattle.macho_file.specs.declared.extent.Extent.{Extent}
+use Rattle.macho_file.specs.declared.symbol_table.SymbolTable.{SymbolTable}
+use Rattle.macho_file.specs.Symbols.{SymbolRecord}
+use Rattle.macho_file.specs.Spans.{symbols_from, takes_part}
+
+-- those of this many symbols from number k on, or the first fault
+unfoldable pub taken_from : List ℕ → SymbolTable → List Extent → ℕ → ℕ → Result (List SymbolRecord) BadFile
+taken_from file t all k count = do
+  read ← symbols_from file t k count
+  Ok (filter (takes_part all) read)
+
+-- those that were taken before, and then these
+unfoldable pub behind : List SymbolRecord → Result (List SymbolRecord) BadFile → Result (List SymbolRecord) BadFile
+behind front reading = do
+  rest ← reading
+  Ok (front ++ rest)
+
+-- what holds of the fault of an answer; want of memory tells nothing
+abbrev pub ForBad : SpanAnswer → (BadFile → Type 0) → Type 0
+ForBad (Bad bad) P = P bad
+ForBad NoMemory P = Unit {0}
+
+-- these symbols take part
+pub record TakePart (all : List Extent) (taking : List SymbolRecord) : Type 0 where
+  pub each : All (λ (s : SymbolRecord). takes_part all s ≡ true) taking

@@ -1,0 +1,27 @@
+-- What is known of a Mach-O file whose checks hold.
+use Rattle.std.specs.Prelude.{◌≡◌, ◌≢◌, ℕ, ◌+◌, ◌^◌, ◌≤◌, All, List, length, true}
+use Rattle.macho_file.specs.declared.command.Command.{Command}
+use Rattle.macho_file.specs.Layout.{header_len, commands_end}
+use Rattle.macho_file.specs.Commands.{commands}
+use Rattle.macho_file.specs.Tables.{SegmentRecord, SectionRecord, segments, sections}
+
+-- a command lies between the header and the end of the commands
+abbrev pub IsAmongCommands : List ℕ → Command → Type 0
+IsAmongCommands file c = c.place + c.size ≤ commands_end file
+
+-- a segment's addresses lie below 2^64
+abbrev pub HasAddresses : SegmentRecord → Type 0
+HasAddresses s = s.vaddr + s.memsz ≤ 2 ^ 64
+
+-- a section's addresses lie below 2^64, and its bytes in the file
+pub record Fits (file : List ℕ) (s : SectionRecord) : Type 0 where
+  pub addresses : s.addr + s.size ≤ 2 ^ 64
+  pub contents : s.in_file ≡ true → s.size ≢ 0 → s.offset + s.size ≤ length file
+
+-- The commands lie in the file behind its header, no address passes 2^64, and sections have their bytes.
+pub record IsWellFormed (file : List ℕ) : Type 0 where
+  pub header : header_len file ≤ length file
+  pub commands_within : commands_end file ≤ length file
+  pub each_command : All (IsAmongCommands file) (commands file)
+  pub each_segment : All HasAddresses (segments file)
+  pub each_section : All (Fits file) (sections file)

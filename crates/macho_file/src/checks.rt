@@ -1,0 +1,187 @@
+//! What is checked of a file, step by step.
+
+ghost use Rattle.std.specs.Prelude.{◌≡◌, ◌+◌, ◌*◌, ◌≤◌, ◌<◌, ◌^◌, length, true, IfOk, nat_lt};
+ghost use Rattle.size_core.specs.Checks.{first_of};
+ghost use Rattle.macho_file.specs.Layout.{encoding_of, header_len, command_count, commands_end};
+ghost use Rattle.macho_file.specs.Commands.{command_at, is_segment, section_len};
+ghost use Rattle.macho_file.specs.Checks.{checked, command_checks, header_checks, section_fits, segment_checks};
+ghost use Rattle.macho_file.specs.Known.{HasHeader, IsInside, commands_fit, sections_fit, whole_command};
+ghost use Rattle.macho_file.specs.Shown.{section_shown};
+
+use crate::command::{Command, command_at};
+use crate::constants::{MH_MAGIC, MH_MAGIC_64};
+use crate::encoding::Encoding;
+use crate::section::{MachoSection, section_at};
+use crate::segment::segment_at;
+use crate::sizes::has_least_size;
+use byte_cursor::{Order, u32_at};
+use size_core::{BadFile, Fault};
+
+/// The class and the byte order, where the file's header is whole and its commands end in the file.
+#[tactic(auto, unfolding(crate::specs::Checks::header_checks, crate::specs::Layout::encoding_of, crate::specs::Layout::has_magic))]
+pub fn encoding(file: &[u8]) -> Result<Encoding, BadFile>
+    requires { length file.now < 2 ^ 32 }
+    ensures value { result ≡ checked (header_checks file.now) (encoding_of file.now) }
+    ensures known { IfOk result (λ e. HasHeader file.now e) }
+{
+    let unknown = BadFile {
+        fault: Fault::UnknownFormat,
+        offset: 0,
+    };
+    if file.len() < 4 {
+        return Err(unknown);
+    }
+    let little = u32_at(file, 0, Order::Little);
+    let big = u32_at(file, 0, Order::Big);
+    let is_little = little == MH_MAGIC || little == MH_MAGIC_64;
+    let is_big = big == MH_MAGIC || big == MH_MAGIC_64;
+    if !is_little && !is_big {
+        return Err(unknown);
+    }
+    let encoding = Encoding {
+        wide: little == MH_MAGIC_64 || big == MH_MAGIC_64,
+        order: if is_big { Order::Big } else { Order::Little },
+    };
+    let size = file.len() as u64;
+    let header = encoding.pick(28, 32);
+    if size < header {
+        return Err(BadFile {
+            fault: Fault::Truncated,
+            offset: 0,
+        });
+    }
+    if size - header < encoding.four(file, 20) as u64 {
+        return Err(BadFile {
+            fault: Fault::TablePastEnd,
+            offset: header,
+        });
+    }
+    Ok(encoding)
+}
+
+/// Whether `size` bytes from a virtual address on pass 2^64.
+fn passes_end(addr: u64, size: u64) -> bool
+    ensures { result ≡ nat_lt (2 ^ 64) (addr + size) }
+{
+    size != 0 && u64::MAX - (size - 1) < addr
+}
+
+/// The addresses of a section lie below 2^64, and its bytes in the file.
+#[tactic(auto, unfolding(crate::specs::Checks::section_fits))]
+fn section_fits(file: &[u8], section: &MachoSection<'_>) -> Result<(), BadFile>
+    ensures { result ≡ section_fits file.now (section_shown section.now) }
+{
+    if passes_end(section.addr, section.size) {
+        return Err(BadFile {
+            fault: Fault::RangeOverflow,
+            offset: section.place,
+        });
+    }
+    let len = file.len() as u64;
+    let missing = section.offset > len || len - section.offset < section.size;
+    if section.in_file && section.size != 0 && missing {
+        return Err(BadFile {
+            fault: Fault::SectionPastEnd,
+            offset: section.place,
+        });
+    }
+    Ok(())
+}
+
+/// Each of `count` sections fits, whose headers follow one another from a place on.
+#[tactic(auto, using(crate::proofs::CheckLemmas::sections_next, crate::proofs::CheckLemmas::sections_bad, crate::proofs::CheckLemmas::sections_end))]
+fn sections_fit(
+    file: &[u8],
+    encoding: Encoding,
+    form: Encoding,
+    place: u64,
+    count: u32,
+) -> Result<(), BadFile>
+    requires header { HasHeader file.now encoding }
+    requires within { place + count * section_len form ≤ length file.now }
+    ensures { result ≡ sections_fit file.now form place count }
+{
+    let mut at = place;
+    'rows: for i in 0..count {
+        section_fits(file, &section_at(file, encoding, form, at))?;
+        at += form.pick(68, 80);
+    }
+    Ok(())
+}
+
+/// The addresses of a segment lie below 2^64, and each of its sections fits.
+#[tactic(auto, unfolding(crate::specs::Checks::segment_checks, crate::specs::Tables::sections_of, crate::specs::Tables::segment_at, crate::specs::Commands::least_size))]
+fn segment_fits(file: &[u8], encoding: Encoding, command: Command) -> Result<(), BadFile>
+    requires header { HasHeader file.now encoding }
+    requires kind { is_segment command ≡ true }
+    requires inside { IsInside file.now command }
+    ensures { result ≡ first_of (segment_checks file.now command) }
+{
+    let segment = segment_at(file, encoding, command, 0);
+    if passes_end(segment.vaddr, segment.memsz) {
+        return Err(BadFile {
+            fault: Fault::RangeOverflow,
+            offset: command.place,
+        });
+    }
+    let form = command.form(encoding);
+    let first = command.place + form.pick(56, 72);
+    sections_fit(file, encoding, form, first, segment.count)
+}
+
+/// Whether the command at a place lies among the commands with its least size.
+#[tactic(auto, unfolding(crate::specs::Commands::is_whole, crate::specs::Commands::command_at))]
+fn whole_command(file: &[u8], encoding: Encoding, end: u64, place: u64) -> Result<Command, BadFile>
+    requires header { HasHeader file.now encoding }
+    requires end { end ≡ commands_end file.now }
+    requires place { place ≤ end }
+    ensures value { result ≡ whole_command file.now (command_at file.now place) }
+    ensures inside { IfOk result (λ c. IsInside file.now c) }
+{
+    let wrong = BadFile {
+        fault: Fault::BadCommand,
+        offset: place,
+    };
+    if end - place < 8 {
+        return Err(wrong);
+    }
+    let command = command_at(file, encoding, place);
+    if end - place < command.size as u64 {
+        return Err(wrong);
+    }
+    if !has_least_size(file, encoding, command) {
+        return Err(wrong);
+    }
+    Ok(command)
+}
+
+/// A command is whole, and where it is a segment that fits. Answers the place of the next one.
+#[tactic(auto, unfolding(crate::specs::Checks::command_checks, crate::specs::Commands::command_at))]
+fn command_fits(file: &[u8], encoding: Encoding, end: u64, place: u64) -> Result<u64, BadFile>
+    requires header { HasHeader file.now encoding }
+    requires end { end ≡ commands_end file.now }
+    requires place { place ≤ end }
+    ensures value { let c = command_at file.now place in result ≡ checked (command_checks file.now c) (place + c.size) }
+    ensures place { IfOk result (λ next. next ≤ end) }
+{
+    let command = whole_command(file, encoding, end, place)?;
+    if command.is_segment() {
+        segment_fits(file, encoding, command)?;
+    }
+    Ok(place + command.size as u64)
+}
+
+/// Each command is whole, and each segment fits.
+#[tactic(auto, using(crate::proofs::CheckLemmas::commands_next, crate::proofs::CheckLemmas::commands_bad, crate::proofs::CheckLemmas::commands_end_here))]
+pub fn commands_fit(file: &[u8], encoding: Encoding) -> Result<(), BadFile>
+    requires { HasHeader file.now encoding }
+    ensures { result ≡ commands_fit file.now (header_len file.now) (command_count file.now) }
+{
+    let count = encoding.four(file, 16);
+    let mut place = encoding.pick(28, 32);
+    let end = place + encoding.four(file, 20) as u64;
+    'rows: for i in 0..count {
+        place = command_fits(file, encoding, end, place)?;
+    }
+    Ok(())
+}

@@ -1,0 +1,53 @@
+//! Load commands.
+
+ghost use Rattle.std.specs.Prelude.{◌≡◌, ◌+◌, ◌≤◌, ◌<◌, ◌^◌, length};
+ghost use Rattle.macho_file.specs.Layout.{encoding_of};
+ghost use Rattle.macho_file.specs.Commands.{command_at, is_segment, form_of};
+
+use crate::constants::{LC_SEGMENT, LC_SEGMENT_64};
+use crate::encoding::Encoding;
+
+/// A load command (`load_command`).
+#[derive(Clone, Copy, Debug, PartialEq, Eq, Hash)]
+pub struct Command {
+    /// Its file offset.
+    pub place: u64,
+    /// `cmd`.
+    pub kind: u32,
+    /// `cmdsize`, in bytes, with the eight bytes of kind and size.
+    pub size: u32,
+}
+
+/// The command at a place whose kind and size lie in the file.
+#[tactic(auto, unfolding(crate::specs::Commands::command_at))]
+pub fn command_at(file: &[u8], encoding: Encoding, place: u64) -> Command
+    requires encoding { encoding ≡ encoding_of file.now }
+    requires within { place + 8 ≤ length file.now }
+    requires small { length file.now < 2 ^ 32 }
+    ensures { result ≡ command_at file.now place }
+{
+    Command {
+        place,
+        kind: encoding.four(file, place),
+        size: encoding.four(file, place + 4),
+    }
+}
+
+impl Command {
+    /// Whether it is a segment, of either class.
+    pub fn is_segment(self) -> bool
+        ensures { result ≡ is_segment self }
+    {
+        self.kind == LC_SEGMENT || self.kind == LC_SEGMENT_64
+    }
+
+    /// The class of a segment and of its sections, which is the command's own, and the file's byte order.
+    pub fn form(self, encoding: Encoding) -> Encoding
+        ensures { result ≡ form_of encoding self }
+    {
+        Encoding {
+            wide: self.kind == LC_SEGMENT_64,
+            order: encoding.order,
+        }
+    }
+}

@@ -1,0 +1,43 @@
+//! The load commands, as an iterator.
+
+ghost use Rattle.std.specs.Prelude.{◌≡◌};
+ghost use Rattle.std.specs.Iterator.{YieldsFirst, item_count};
+
+use crate::command::Command;
+use crate::walk::Walk;
+use std::marker::Model;
+
+/// The load commands that are still to come, in the file's order.
+#[derive(Drop)]
+pub struct Commands<'a> {
+    walk: Walk<'a>,
+}
+
+impl<'a> Model for Commands<'a> {
+    ghost use Rattle.std.specs.Prelude.{List};
+    ghost use Rattle.macho_file.specs.declared.command.Command.{Command};
+
+    ghost Value = { List Command };
+
+    ghost view = { λ c. c.walk.rest };
+}
+
+impl<'a> Commands<'a> {
+    pub(crate) fn new(walk: Walk<'a>) -> Commands<'a>
+        ensures { result ≡ walk.entry.rest }
+    {
+        Commands { walk }
+    }
+}
+
+impl<'a> Iterator for Commands<'a> {
+    type Item = Command;
+
+    ghost next_gives = { YieldsFirst (λ s. s) };
+
+    ghost remaining = { item_count (λ s. s) };
+
+    fn next(&mut self) -> Option<Command> {
+        self.walk.next()
+    }
+}

@@ -1,0 +1,300 @@
+//! A file that was opened.
+
+ghost use Rattle.std.specs.Prelude.{◌≡◌, ◌<◌, ◌^◌, length, map, MatchResult, OnOk, IfOk, IsOkAnd, Some, Ok, Err, slice_get};
+ghost use Rattle.size_core.specs.Checks.{AllHold, Gives, IsFirstFault};
+ghost use Rattle.macho_file.specs.Layout.{command_count, commands_size, encoding_of, file_type, header_len};
+ghost use Rattle.macho_file.specs.Commands.{command_bytes_at, commands};
+ghost use Rattle.macho_file.specs.Tables.{section_bytes_at, sections, segments};
+ghost use Rattle.macho_file.specs.LinkEdit.{link_edit_parts};
+ghost use Rattle.macho_file.specs.Symbols.{symbol_at, symbol_count, table};
+ghost use Rattle.macho_file.specs.Checks.{macho_checks, opened};
+ghost use Rattle.macho_file.specs.Known.{HasTable};
+ghost use Rattle.macho_file.specs.WellFormed.{IsWellFormed};
+ghost use Rattle.macho_file.specs.Shown.{section_shown, segment_shown, span_shown, symbol_shown};
+ghost use Rattle.macho_file.specs.Spans.{spans};
+ghost use Rattle.macho_file.specs.Taken.{ForBad};
+
+use crate::answer::SpanAnswer;
+use crate::checks::{commands_fit, encoding};
+use crate::command::Command;
+use crate::commands::Commands;
+use crate::encoding::Encoding;
+use crate::extent::extents_of;
+use crate::link_edit_parts::LinkEditParts;
+use crate::places::{command_of, section_of, segment_of};
+use crate::section::MachoSection;
+use crate::sections::Sections;
+use crate::segment::MachoSegment;
+use crate::segments::Segments;
+use crate::spans::{SymbolSpan, spans_of};
+use crate::survey::{Survey, count_tables};
+use crate::symbol::MachoSymbol;
+use crate::symbol_table::{SymbolTable, symbol_of, table_of};
+use crate::taking::taking_part;
+use crate::walk::Walk;
+use byte_cursor::Order;
+use size_core::BadFile;
+use std::alloc::Global;
+use std::marker::Model;
+
+/// A thin Mach-O file whose checks hold.
+#[derive(Drop)]
+pub struct MachoFile<'a> {
+    file: &'a [u8],
+    encoding: Encoding,
+    found: Survey,
+}
+
+impl<'a> Model for MachoFile<'a> {
+    ghost use Rattle.std.specs.Prelude.{ℕ, List};
+    ghost use Rattle.macho_file.specs.Known.{IsOpened};
+
+    ghost Value = { List ℕ };
+
+    ghost view = { λ m. m.file.now };
+
+    ghost invariant = { λ m. IsOpened m.file.now m.encoding m.found.segments m.found.sections m.found.symtab };
+}
+
+impl<'a> MachoFile<'a> {
+    /// Opens a file of fewer than 2^32 bytes. These are checked in turn, and the first fault is the answer:
+    /// that it begins with one of the four magic numbers of a thin file, which tell its class and byte order
+    /// (UnknownFormat at 0, also for fewer than four bytes), the header (Truncated), the end of the load
+    /// commands (TablePastEnd), and for each command its size (BadCommand), the addresses of a segment
+    /// (RangeOverflow) and the addresses and bytes of each of its sections (RangeOverflow, SectionPastEnd).
+    #[tactic(auto, using(crate::proofs::OpenedLemmas::opened_is, crate::proofs::OpenedLemmas::means_opened, crate::proofs::WellFormedLemmas::is_well_formed))]
+    pub fn parse(file: &'a [u8]) -> Result<MachoFile<'a>, BadFile>
+        requires { length file.now < 2 ^ 32 }
+        ensures file { result ≡ opened file.now }
+        ensures first { MatchResult result (λ _. AllHold (macho_checks file.now)) (IsFirstFault (macho_checks file.now)) }
+        ensures well_formed { OnOk result (IsWellFormed file.now) }
+    {
+        let encoding = encoding(file)?;
+        commands_fit(file, encoding)?;
+        Ok(MachoFile {
+            file,
+            encoding,
+            found: count_tables(file, encoding),
+        })
+    }
+
+    /// The same file.
+    pub fn fork(&self) -> MachoFile<'a>
+        ensures { result ≡ self.now }
+    {
+        MachoFile {
+            file: self.file,
+            encoding: self.encoding,
+            found: self.found,
+        }
+    }
+
+    /// The whole file.
+    #[tactic(auto, using(crate::proofs::WellFormedLemmas::is_well_formed))]
+    pub fn bytes(&self) -> &'a [u8]
+        ensures value { result.now ≡ self.now }
+        ensures small { length self.now < 2 ^ 32 }
+        ensures well_formed { IsWellFormed self.now }
+    {
+        self.file
+    }
+
+    /// The file's class and byte order.
+    pub fn encoding(&self) -> Encoding
+        ensures { result ≡ encoding_of self.now }
+    {
+        self.encoding
+    }
+
+    /// Whether the file's class is the one of 64 bits.
+    pub fn wide(&self) -> bool
+        ensures { result ≡ (encoding_of self.now).wide }
+    {
+        self.encoding.wide
+    }
+
+    /// The order of a number's bytes.
+    pub fn order(&self) -> Order
+        ensures { result ≡ (encoding_of self.now).order }
+    {
+        self.encoding.order
+    }
+
+    /// The file's type (`filetype`).
+    pub fn kind(&self) -> u32
+        ensures { result ≡ file_type self.now }
+    {
+        self.encoding.four(self.file, 12)
+    }
+
+    /// The length of the header, which is that of its class.
+    pub fn header_len(&self) -> u64
+        ensures { result ≡ header_len self.now }
+    {
+        self.encoding.pick(28, 32)
+    }
+
+    /// How many bytes the load commands take, behind the header (`sizeofcmds`).
+    pub fn commands_size(&self) -> u32
+        ensures { result ≡ commands_size self.now }
+    {
+        self.encoding.four(self.file, 20)
+    }
+
+    /// How many load commands there are.
+    #[tactic(auto, using(crate::proofs::TableLemmas::length_commands))]
+    pub fn command_count(&self) -> u32
+        ensures value { result ≡ command_count self.now }
+        ensures commands { result ≡ length (commands self.now) }
+    {
+        self.encoding.four(self.file, 16)
+    }
+
+    /// How many segments there are.
+    pub fn segment_count(&self) -> u32
+        ensures { result ≡ length (segments self.now) }
+    {
+        self.found.segments
+    }
+
+    /// How many sections there are, over all segments.
+    pub fn section_count(&self) -> u32
+        ensures { result ≡ length (sections self.now) }
+    {
+        self.found.sections
+    }
+
+    /// All commands, of which few have sections.
+    #[tactic(auto, using(crate::proofs::TableLemmas::sections_small))]
+    fn walk(&self) -> Walk<'a>
+        ensures file { result.file ≡ self.now }
+        ensures rest { result.rest ≡ commands self.now }
+        ensures few { length (sections self.now) < 2 ^ 32 }
+    {
+        Walk::new(self.file, self.encoding)
+    }
+
+    /// All load commands, in order.
+    pub fn commands(&self) -> Commands<'a>
+        ensures { result ≡ commands self.now }
+    {
+        Commands::new(self.walk())
+    }
+
+    /// All segments, in order.
+    #[tactic(auto, unfolding(crate::specs::Tables::segments))]
+    pub fn segments(&self) -> Segments<'a>
+        ensures { result ≡ segments self.now }
+    {
+        Segments::new(self.walk())
+    }
+
+    /// All sections, over all segments in order.
+    #[tactic(auto, unfolding(crate::specs::Tables::sections))]
+    pub fn sections(&self) -> Sections<'a>
+        ensures { result ≡ sections self.now }
+    {
+        Sections::new(self.walk())
+    }
+
+    /// The parts of the link-edit data that commands place, in the order of the commands.
+    #[tactic(auto, unfolding(crate::specs::LinkEdit::link_edit_parts))]
+    pub fn link_edit_parts(&self) -> LinkEditParts<'a>
+        ensures { result ≡ link_edit_parts self.now }
+    {
+        LinkEditParts::new(self.walk())
+    }
+
+    /// A load command.
+    #[tactic(auto, using(crate::proofs::TableLemmas::length_commands))]
+    pub fn command(&self, k: u32) -> Command
+        requires { k < command_count self.now }
+        ensures { slice_get (commands self.now) k ≡ Some result }
+    {
+        command_of(self.walk(), k)
+    }
+
+    /// The whole of a load command, with its kind and its size.
+    #[tactic(auto, using(crate::proofs::TableLemmas::length_commands))]
+    pub fn command_bytes(&self, k: u32) -> &'a [u8]
+        requires { k < command_count self.now }
+        ensures { result.now ≡ command_bytes_at self.now k }
+    {
+        let command = command_of(self.walk(), k);
+        let place = command.place as usize;
+        &self.file[place..place + command.size as usize]
+    }
+
+    /// A segment.
+    pub fn segment(&self, k: u32) -> MachoSegment<'a>
+        requires { k < length (segments self.now) }
+        ensures { slice_get (segments self.now) k ≡ Some (segment_shown result) }
+    {
+        segment_of(self.segments(), k)
+    }
+
+    /// A section, by its number over all segments.
+    #[tactic(auto, unfolding(crate::specs::Tables::sections))]
+    pub fn section(&self, k: u32) -> MachoSection<'a>
+        requires { k < length (sections self.now) }
+        ensures { slice_get (sections self.now) k ≡ Some (section_shown result) }
+    {
+        section_of(self.walk(), k)
+    }
+
+    /// The bytes of a section, by its number over all segments: none where they aren't in the file.
+    #[tactic(auto, unfolding(crate::specs::Tables::sections, crate::specs::Checks::section_fits))]
+    pub fn section_bytes(&self, k: u32) -> &'a [u8]
+        requires { k < length (sections self.now) }
+        ensures { result.now ≡ section_bytes_at self.now k }
+    {
+        let section = section_of(self.walk(), k);
+        if !section.in_file || section.size == 0 {
+            return &[];
+        }
+        &self.file[section.offset as usize..(section.offset + section.size) as usize]
+    }
+
+    fn table(&self) -> Result<SymbolTable, BadFile>
+        ensures value { result ≡ table self.now }
+        ensures known { IfOk result (λ t. HasTable self.now t) }
+    {
+        table_of(self.file, self.encoding, self.found.symtab)
+    }
+
+    /// How many symbols there are: those of the first LC_SYMTAB, or none. TablePastEnd at the command where its
+    /// symbols or their names pass the file's end.
+    #[tactic(auto, unfolding(crate::specs::Symbols::symbol_count))]
+    pub fn symbol_count(&self) -> Result<u32, BadFile>
+        ensures { result ≡ symbol_count self.now }
+    {
+        let table = self.table()?;
+        Ok(table.nsyms)
+    }
+
+    /// A symbol. NameOutside at the symbol where its name has no end in the table of names.
+    #[tactic(auto, unfolding(crate::specs::Symbols::symbol_count, crate::specs::Symbols::symbol_at))]
+    pub fn symbol(&self, k: u32) -> Result<MachoSymbol<'a>, BadFile>
+        requires { IsOkAnd (symbol_count self.now) (λ n. k < n) }
+        ensures { Gives symbol_shown result (symbol_at self.now k) }
+    {
+        let table = self.table()?;
+        symbol_of(self.file, self.encoding, table, k)
+    }
+
+    /// The spans of symbols, in the order of their table. A symbol takes part that is no debugger's, is defined
+    /// in a section that has its value, and has a name; its span reaches to the next greater value of those that
+    /// take part in its section, or to the section's end, and of several at one value the first has it. Bad where
+    /// the table has a fault (TablePastEnd), and else at the first symbol with one (NameOutside), also where that
+    /// takes no part.
+    #[tactic(auto, using(crate::proofs::SpanLemmas::spans_is, crate::proofs::SpanLemmas::taken_part))]
+    pub fn spans(&self, alloc: Global) -> Result<Vec<SymbolSpan<'a>>, SpanAnswer>
+        ensures { MatchResult result (λ v. spans self.now ≡ Ok (map span_shown v.items)) (λ e. ForBad e (λ bad. spans self.now ≡ Err bad)) }
+    {
+        let table = self.table()?;
+        let extents = extents_of(alloc, self.sections())?;
+        let taking = taking_part(alloc, self.file, self.encoding, table, &extents)?;
+        let spans = spans_of(alloc, &extents, &taking)?;
+        Ok(spans)
+    }
+}

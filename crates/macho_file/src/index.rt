@@ -1,0 +1,72 @@
+//! Symbols by their positions.
+
+ghost use Rattle.std.specs.Prelude.{◌≡◌, ◌+◌, ◌*◌, ◌≤◌, ◌<◌, ◌^◌, IfOk, length, map, nat_lt, nat_le, true, false};
+ghost use Rattle.std.specs.List.Sorted.{IsNonDecreasingBy, IsPartitionPoint};
+ghost use Rattle.macho_file.specs.declared.index.Key.{Key as KeySpec};
+ghost use Rattle.macho_file.specs.Index.{AreAddresses, IsIndex, keys_from, position};
+ghost use Rattle.macho_file.specs.Shown.{symbol_shown};
+
+use crate::symbol::MachoSymbol;
+use size_core::NoMemory;
+use std::alloc::Global;
+
+/// A symbol's position, in which sections lie 2^64 apart, and its number.
+#[derive(Clone, Copy, Debug)]
+pub struct Key {
+    pub position: u128,
+    pub number: u32,
+}
+
+/// The position of a symbol.
+pub fn position(symbol: &MachoSymbol<'_>) -> u128
+    ensures value { result ≡ position (symbol_shown symbol.now) }
+    ensures address { symbol.now.value < 2 ^ 64 }
+{
+    symbol.sect as u128 * (1 << 64) + symbol.value as u128
+}
+
+/// The keys of symbols, in their order.
+#[tactic(auto, using(crate::proofs::IndexLemmas::key_next, crate::proofs::IndexLemmas::keys_over, crate::proofs::IndexLemmas::addresses_more, crate::proofs::IndexLemmas::addresses_whole))]
+fn keys_of(alloc: Global, symbols: &[MachoSymbol<'_>]) -> Result<Vec<Key>, NoMemory>
+    requires { length symbols.now < 2 ^ 32 }
+    ensures keys { IfOk result (λ v. v.items ≡ keys_from 0 (map symbol_shown symbols.now)) }
+    ensures addresses { IfOk result (λ _. AreAddresses (map symbol_shown symbols.now)) }
+{
+    let mut keys = Vec::new(alloc);
+    'rows: for (i, symbol) in symbols.iter().enumerate() {
+        keys.push(Key {
+            position: position(symbol),
+            number: i as u32,
+        })?;
+    }
+    Ok(keys)
+}
+
+/// The keys of symbols by position, and those of one position in the symbols' order.
+pub fn index_of(alloc: Global, symbols: &[MachoSymbol<'_>]) -> Result<Vec<Key>, NoMemory>
+    requires { length symbols.now < 2 ^ 32 }
+    ensures index { IfOk result (λ v. IsIndex (map symbol_shown symbols.now) v.items) }
+    ensures addresses { IfOk result (λ _. AreAddresses (map symbol_shown symbols.now)) }
+{
+    let mut keys = keys_of(alloc, symbols)?;
+    keys.sort_by_key(|key| key.position)?;
+    Ok(keys)
+}
+
+/// How many keys stand before a position.
+pub fn keys_before(keys: &[Key], position: u128) -> usize
+    requires { IsNonDecreasingBy (λ (k : KeySpec). k.position) keys.now }
+    ensures bound { result ≤ length keys.now }
+    ensures point { IsPartitionPoint (λ (k : KeySpec). nat_lt k.position position ≡ true) (λ (k : KeySpec). nat_lt k.position position ≡ false) keys.now result }
+{
+    keys.partition_point(|key| key.position < position)
+}
+
+/// How many keys stand before a position or at it.
+pub fn keys_up_to(keys: &[Key], position: u128) -> usize
+    requires { IsNonDecreasingBy (λ (k : KeySpec). k.position) keys.now }
+    ensures bound { result ≤ length keys.now }
+    ensures point { IsPartitionPoint (λ (k : KeySpec). nat_le k.position position ≡ true) (λ (k : KeySpec). nat_le k.position position ≡ false) keys.now result }
+{
+    keys.partition_point(|key| key.position <= position)
+}

@@ -1,0 +1,47 @@
+//! Mach-O files: the header, the load commands, segments, sections and symbols of thin files, for both
+//! classes and both byte orders. A file is borrowed, and all but the symbols' spans takes no memory.
+#![tactic(auto)]
+
+mod answer;
+mod checks;
+mod command;
+mod commands;
+mod constants;
+mod encoding;
+mod extent;
+mod file;
+mod index;
+mod laws;
+mod link_edit;
+mod link_edit_parts;
+mod places;
+mod section;
+mod sections;
+mod segment;
+mod segments;
+mod sizes;
+mod spans;
+mod survey;
+mod symbol;
+mod symbol_table;
+mod taking;
+mod walk;
+
+pub use answer::SpanAnswer;
+pub use command::Command;
+pub use commands::Commands;
+pub use constants::{LC_UUID, MH_OBJECT};
+pub use encoding::Encoding;
+pub use file::MachoFile;
+pub use laws::constants_are_the_standards;
+pub use link_edit::{LinkEdit, LinkEditPart};
+pub use link_edit_parts::LinkEditParts;
+pub use section::MachoSection;
+pub use sections::Sections;
+pub use segment::MachoSegment;
+pub use segments::Segments;
+pub use spans::SymbolSpan;
+pub use symbol::MachoSymbol;
+
+#[cfg(test)]
+mod tests;

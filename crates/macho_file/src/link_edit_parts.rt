@@ -1,0 +1,171 @@
+//! The parts of the link-edit data, as an iterator.
+
+ghost use Rattle.std.specs.Prelude.{◌≡◌, ◌+◌, ◌≤◌, ◌<◌, ◌^◌, length, slice_get};
+ghost use Rattle.std.specs.Iterator.{YieldsFirst, item_count};
+ghost use Rattle.std.specs.List.{flat_map};
+ghost use Rattle.macho_file.specs.Layout.{encoding_of};
+ghost use Rattle.macho_file.specs.LinkEdit.{dyld_parts, part_at, parts_of, parts_of_some, table_parts};
+ghost use Rattle.macho_file.specs.Known.{HasHeader, IsInside, IsSomeInside};
+
+use crate::command::Command;
+use crate::constants::{LC_DYSYMTAB, LC_SYMTAB};
+use crate::encoding::Encoding;
+use crate::link_edit::{LinkEdit, LinkEditPart, data_kind};
+use crate::sizes::is_dyld_info;
+use crate::walk::Walk;
+use std::marker::Model;
+
+/// The part whose offset is a field of a command and whose length is the field behind it, in units of some
+/// bytes.
+#[tactic(auto, unfolding(crate::specs::LinkEdit::part_at))]
+fn part_at(
+    file: &[u8],
+    encoding: Encoding,
+    command: Command,
+    kind: LinkEdit,
+    field: u64,
+    unit: u64,
+) -> LinkEditPart
+    requires encoding { encoding ≡ encoding_of file.now }
+    requires within { command.place + field + 8 ≤ length file.now }
+    requires small { length file.now < 2 ^ 32 }
+    requires unit { unit ≤ 16 }
+    ensures { result ≡ part_at file.now command kind field unit }
+{
+    let at = command.place + field;
+    LinkEditPart {
+        kind,
+        offset: encoding.four(file, at) as u64,
+        len: encoding.four(file, at + 4) as u64 * unit,
+    }
+}
+
+/// Part `i` of a `symtab_command`.
+fn table_part(file: &[u8], encoding: Encoding, command: Command, i: u32) -> Option<LinkEditPart>
+    requires encoding { encoding ≡ encoding_of file.now }
+    requires within { command.place + 24 ≤ length file.now }
+    requires small { length file.now < 2 ^ 32 }
+    ensures { result ≡ slice_get (table_parts file.now command) i }
+{
+    let unit = encoding.pick(12, 16);
+    match i {
+        0 => Some(part_at(file, encoding, command, LinkEdit::SymbolTable, 8, unit)),
+        1 => Some(part_at(file, encoding, command, LinkEdit::StringTable, 16, 1)),
+        _ => None,
+    }
+}
+
+/// Part `i` of a `dyld_info_command`.
+fn dyld_part(file: &[u8], encoding: Encoding, command: Command, i: u32) -> Option<LinkEditPart>
+    requires encoding { encoding ≡ encoding_of file.now }
+    requires within { command.place + 48 ≤ length file.now }
+    requires small { length file.now < 2 ^ 32 }
+    ensures { result ≡ slice_get (dyld_parts file.now command) i }
+{
+    let kind = match i {
+        0 => LinkEdit::RebaseInfo,
+        1 => LinkEdit::BindingInfo,
+        2 => LinkEdit::WeakBindingInfo,
+        3 => LinkEdit::LazyBindingInfo,
+        4 => LinkEdit::ExportInfo,
+        _ => return None,
+    };
+    Some(part_at(file, encoding, command, kind, 8 + 8 * i as u64, 1))
+}
+
+/// Part `i` of what a command places.
+#[tactic(auto, unfolding(crate::specs::LinkEdit::parts_of, crate::specs::Commands::least_size, crate::specs::Commands::least_by_kind))]
+fn part_of(file: &[u8], encoding: Encoding, command: Command, i: u32) -> Option<LinkEditPart>
+    requires header { HasHeader file.now encoding }
+    requires inside { IsInside file.now command }
+    ensures { result ≡ slice_get (parts_of file.now command) i }
+{
+    if command.kind == LC_SYMTAB {
+        return table_part(file, encoding, command, i);
+    }
+    if is_dyld_info(command.kind) {
+        return dyld_part(file, encoding, command, i);
+    }
+    if i != 0 {
+        return None;
+    }
+    if command.kind == LC_DYSYMTAB {
+        return Some(part_at(file, encoding, command, LinkEdit::IndirectSymbols, 56, 4));
+    }
+    let kind = data_kind(command.kind)?;
+    Some(part_at(file, encoding, command, kind, 8, 1))
+}
+
+/// The parts of the link-edit data that are still to come, in the order of the commands.
+#[derive(Drop)]
+pub struct LinkEditParts<'a> {
+    walk: Walk<'a>,
+    command: Option<Command>,
+    next: u32,
+}
+
+impl<'a> Model for LinkEditParts<'a> {
+    ghost use Rattle.std.specs.Prelude.{List, ◌++◌, drop};
+    ghost use Rattle.std.specs.List.{flat_map};
+    ghost use Rattle.macho_file.specs.declared.link_edit.LinkEditPart.{LinkEditPart};
+    ghost use Rattle.macho_file.specs.LinkEdit.{parts_of, parts_of_some};
+    ghost use Rattle.macho_file.specs.Known.{IsSomeInside};
+
+    ghost Value = { List LinkEditPart };
+
+    ghost view = { λ p. drop p.next (parts_of_some p.walk.file p.command) ++ flat_map (parts_of p.walk.file) p.walk.rest };
+
+    ghost invariant = { λ p. IsSomeInside p.walk.file p.command };
+}
+
+impl<'a> LinkEditParts<'a> {
+    pub(crate) fn new(walk: Walk<'a>) -> LinkEditParts<'a>
+        ensures { result ≡ flat_map (parts_of walk.entry.file) walk.entry.rest }
+    {
+        LinkEditParts {
+            walk,
+            command: None,
+            next: 0,
+        }
+    }
+}
+
+/// Part `i` of what a command places, or of none.
+fn part_of_some(
+    file: &[u8],
+    encoding: Encoding,
+    command: Option<Command>,
+    i: u32,
+) -> Option<LinkEditPart>
+    requires header { HasHeader file.now encoding }
+    requires inside { IsSomeInside file.now command }
+    ensures { result ≡ slice_get (parts_of_some file.now command) i }
+{
+    match command {
+        Some(command) => part_of(file, encoding, command, i),
+        None => None,
+    }
+}
+
+impl<'a> Iterator for LinkEditParts<'a> {
+    type Item = LinkEditPart;
+
+    ghost next_gives = { YieldsFirst (λ s. s) };
+
+    ghost remaining = { item_count (λ s. s) };
+
+    #[tactic(auto, using(crate::proofs::PartLemmas::part_next, crate::proofs::PartLemmas::part_begins, crate::proofs::PartLemmas::parts_over, crate::proofs::PartLemmas::few_parts))]
+    fn next(&mut self) -> Option<LinkEditPart> {
+        let file = self.walk.bytes();
+        let encoding = self.walk.encoding();
+        'rows: loop {
+            if let Some(part) = part_of_some(file, encoding, self.command, self.next) {
+                self.next += 1;
+                return Some(part);
+            }
+            let command = self.walk.next()?;
+            self.command = Some(command);
+            self.next = 0;
+        }
+    }
+}

@@ -1,0 +1,82 @@
+//! Sections.
+
+ghost use Rattle.std.specs.Prelude.{◌≡◌, ◌+◌, ◌≤◌, ◌<◌, ◌^◌, length};
+ghost use Rattle.macho_file.specs.Layout.{encoding_of, header_len};
+ghost use Rattle.macho_file.specs.Commands.{section_len};
+ghost use Rattle.macho_file.specs.Tables.{is_in_file, is_zero_filled, section_at};
+ghost use Rattle.macho_file.specs.Shown.{section_shown};
+
+use crate::constants::{MH_DSYM, S_GB_ZEROFILL, S_THREAD_LOCAL_ZEROFILL, S_ZEROFILL, SECTION_TYPE};
+use crate::encoding::Encoding;
+use crate::segment::name_16;
+
+/// A section (`section`, `section_64`).
+#[derive(Clone, Copy, Debug)]
+pub struct MachoSection<'a> {
+    /// The file offset of its header.
+    pub place: u64,
+    /// The name of its segment, as its own header has it, without the zeros behind it.
+    pub segment: &'a [u8],
+    /// Its name, without the zeros behind it.
+    pub name: &'a [u8],
+    /// Its virtual address.
+    pub addr: u64,
+    /// In bytes.
+    pub size: u64,
+    /// The file offset of its bytes.
+    pub offset: u64,
+    /// `flags`, with its type in the low byte.
+    pub flags: u32,
+    /// Whether its bytes are in this file.
+    pub in_file: bool,
+}
+
+/// Whether the type in a section's flags says that it is filled with zeros.
+fn is_zero_filled(flags: u32) -> bool
+    ensures { result ≡ is_zero_filled flags }
+{
+    let kind = flags & SECTION_TYPE;
+    kind == S_ZEROFILL || kind == S_GB_ZEROFILL || kind == S_THREAD_LOCAL_ZEROFILL
+}
+
+/// Whether the bytes of a section are in the file.
+#[tactic(auto, unfolding(crate::specs::Tables::is_in_file))]
+fn is_in_file(file: &[u8], encoding: Encoding, segment: &[u8], offset: u32, flags: u32) -> bool
+    requires encoding { encoding ≡ encoding_of file.now }
+    requires header { header_len file.now ≤ length file.now }
+    ensures { result ≡ is_in_file file.now segment.now offset flags }
+{
+    if is_zero_filled(flags) || offset == 0 {
+        return false;
+    }
+    encoding.four(file, 12) != MH_DSYM || segment == b"__DWARF".as_slice()
+}
+
+/// The section whose header stands at a place, in its class.
+#[tactic(auto, unfolding(crate::specs::Tables::section_at))]
+pub fn section_at<'a>(
+    file: &'a [u8],
+    encoding: Encoding,
+    form: Encoding,
+    place: u64,
+) -> MachoSection<'a>
+    requires encoding { encoding ≡ encoding_of file.now }
+    requires header { header_len file.now ≤ length file.now }
+    requires within { place + section_len form ≤ length file.now }
+    requires small { length file.now < 2 ^ 32 }
+    ensures { section_shown result ≡ section_at file.now form place }
+{
+    let segment = name_16(file, place + 16);
+    let offset = form.four(file, place + form.pick(40, 48));
+    let flags = form.four(file, place + form.pick(56, 64));
+    MachoSection {
+        place,
+        segment,
+        name: name_16(file, place),
+        addr: form.word(file, place, 32, 32),
+        size: form.word(file, place, 36, 40),
+        offset: offset as u64,
+        flags,
+        in_file: is_in_file(file, encoding, segment, offset, flags),
+    }
+}

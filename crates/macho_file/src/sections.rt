@@ -1,0 +1,74 @@
+//! The sections, as an iterator.
+
+ghost use Rattle.std.specs.Prelude.{◌≡◌, ◌+◌, ◌*◌, ◌≤◌, ◌<◌, ◌++◌, length};
+ghost use Rattle.std.specs.Iterator.{YieldsFirstBy, item_count};
+ghost use Rattle.std.specs.List.{flat_map};
+ghost use Rattle.macho_file.specs.Tables.{sections_of};
+ghost use Rattle.macho_file.specs.Shown.{section_shown};
+
+use crate::encoding::Encoding;
+use crate::section::{MachoSection, section_at};
+use crate::segment::section_count_of;
+use crate::segments::next_segment;
+use crate::walk::Walk;
+use std::marker::Model;
+
+/// The sections that are still to come, over all segments in the file's order.
+#[derive(Drop)]
+pub struct Sections<'a> {
+    walk: Walk<'a>,
+    form: Encoding,
+    place: u64,
+    left: u32,
+}
+
+impl<'a> Model for Sections<'a> {
+    ghost use Rattle.std.specs.Prelude.{List, length, ◌++◌, ◌+◌, ◌*◌, ◌≤◌};
+    ghost use Rattle.std.specs.List.{flat_map};
+    ghost use Rattle.macho_file.specs.Commands.{section_len};
+    ghost use Rattle.macho_file.specs.Tables.{SectionRecord, sections_from, sections_of};
+
+    ghost Value = { List SectionRecord };
+
+    ghost view = { λ s. sections_from s.walk.file s.form s.place s.left ++ flat_map (sections_of s.walk.file) s.walk.rest };
+
+    ghost invariant = { λ s. s.place + s.left * section_len s.form ≤ length s.walk.file };
+}
+
+impl<'a> Sections<'a> {
+    #[tactic(auto, unfolding(crate::specs::Tables::sections_from))]
+    pub(crate) fn new(walk: Walk<'a>) -> Sections<'a>
+        ensures { result ≡ flat_map (sections_of walk.entry.file) walk.entry.rest }
+    {
+        Sections {
+            form: walk.encoding(),
+            walk,
+            place: 0,
+            left: 0,
+        }
+    }
+}
+
+impl<'a> Iterator for Sections<'a> {
+    type Item = MachoSection<'a>;
+
+    ghost next_gives = { YieldsFirstBy section_shown (λ s. s) };
+
+    ghost remaining = { item_count (λ s. s) };
+
+    #[tactic(auto, using(crate::proofs::SectionLemmas::section_next, crate::proofs::SectionLemmas::sections_begin, crate::proofs::SectionLemmas::sections_none, crate::proofs::TableLemmas::segment_within, crate::proofs::TableLemmas::segment_inside))]
+    fn next(&mut self) -> Option<MachoSection<'a>> {
+        let file = self.walk.bytes();
+        let encoding = self.walk.encoding();
+        'rows: while self.left == 0 {
+            let command = next_segment(&mut self.walk)?;
+            self.form = command.form(encoding);
+            self.place = command.place + self.form.pick(56, 72);
+            self.left = section_count_of(file, encoding, command);
+        }
+        let section = section_at(file, encoding, self.form, self.place);
+        self.place += self.form.pick(68, 80);
+        self.left -= 1;
+        Some(section)
+    }
+}

@@ -1,0 +1,59 @@
+//! The sizes that load commands have at least.
+
+ghost use Rattle.std.specs.Prelude.{◌≡◌, ◌+◌, ◌≤◌, ◌<◌, ◌^◌, length, nat_le};
+ghost use Rattle.macho_file.specs.Layout.{encoding_of};
+ghost use Rattle.macho_file.specs.Commands.{is_dyld_info, least_by_kind, least_size};
+
+use crate::command::Command;
+use crate::constants::{LC_DYLD_INFO, LC_DYLD_INFO_ONLY, LC_DYSYMTAB, LC_SYMTAB, LC_UUID};
+use crate::encoding::Encoding;
+use crate::link_edit::data_kind;
+use crate::segment::section_count_of;
+
+/// Whether a command of this kind has the form `dyld_info_command`.
+pub fn is_dyld_info(kind: u32) -> bool
+    ensures { result ≡ is_dyld_info kind }
+{
+    kind == LC_DYLD_INFO || kind == LC_DYLD_INFO_ONLY
+}
+
+/// The size of a command that isn't a segment, by its kind.
+#[tactic(auto, unfolding(crate::specs::Commands::least_by_kind))]
+fn least_by_kind(kind: u32) -> u64
+    ensures { result ≡ least_by_kind kind }
+{
+    if kind == LC_SYMTAB {
+        24
+    } else if kind == LC_DYSYMTAB {
+        80
+    } else if kind == LC_UUID {
+        24
+    } else if is_dyld_info(kind) {
+        48
+    } else if data_kind(kind).is_some() {
+        16
+    } else {
+        8
+    }
+}
+
+/// Whether a command that lies in the file has the least size of its kind.
+#[tactic(auto, unfolding(crate::specs::Commands::least_size))]
+pub fn has_least_size(file: &[u8], encoding: Encoding, command: Command) -> bool
+    requires encoding { encoding ≡ encoding_of file.now }
+    requires within { command.place + command.size ≤ length file.now }
+    requires small { length file.now < 2 ^ 32 }
+    ensures { result ≡ nat_le (least_size file.now command) command.size }
+{
+    let size = command.size as u64;
+    if !command.is_segment() {
+        return least_by_kind(command.kind) <= size;
+    }
+    let form = command.form(encoding);
+    let len = form.pick(56, 72);
+    if size < len {
+        return false;
+    }
+    let count = section_count_of(file, encoding, command) as u64;
+    len + count * form.pick(68, 80) <= size
+}

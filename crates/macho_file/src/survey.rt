@@ -1,0 +1,87 @@
+//! What a file's commands have, counted once.
+
+ghost use Rattle.std.specs.Prelude.{◌≡◌, ◌+◌, ◌<◌, ◌^◌, ◌==◌, None, Some, length, true, if◌then◌else◌};
+ghost use Rattle.macho_file.specs.Layout.{encoding_of, header_len, command_count};
+ghost use Rattle.macho_file.specs.Commands.{is_segment};
+ghost use Rattle.macho_file.specs.Tables.{sections, sections_of, segments};
+ghost use Rattle.macho_file.specs.Symbols.{symbol_table};
+ghost use Rattle.macho_file.specs.Known.{HasCommands, HasHeader, IsInside, IsSomeTable, or_else};
+
+use crate::command::Command;
+use crate::constants::LC_SYMTAB;
+use crate::encoding::Encoding;
+use crate::segment::section_count_of;
+use crate::walk::Walk;
+
+/// How many segments and sections there are, and the first command with a table of symbols.
+#[derive(Clone, Copy, Debug)]
+pub struct Survey {
+    pub segments: u32,
+    pub sections: u32,
+    pub symtab: Option<Command>,
+}
+
+/// How many sections a command has.
+#[tactic(auto, using(crate::proofs::TableLemmas::sections_of_segment, crate::proofs::TableLemmas::sections_of_other, crate::proofs::TableLemmas::segment_within))]
+fn sections_in(file: &[u8], encoding: Encoding, command: Command) -> u32
+    requires header { HasHeader file.now encoding }
+    requires inside { IsInside file.now command }
+    ensures { result ≡ length (sections_of file.now command) }
+{
+    if command.is_segment() {
+        section_count_of(file, encoding, command)
+    } else {
+        0
+    }
+}
+
+impl Survey {
+    /// With one more command.
+    #[tactic(auto, using(crate::proofs::TableLemmas::table_inside))]
+    fn with(self, file: &[u8], encoding: Encoding, command: Command) -> Survey
+        requires header { HasHeader file.now encoding }
+        requires inside { IsInside file.now command }
+        requires segments { self.segments + 1 < 2 ^ 32 }
+        requires sections { self.sections + length (sections_of file.now command) < 2 ^ 32 }
+        ensures segments { result.segments ≡ self.segments + (if is_segment command then 1 else 0) }
+        ensures sections { result.sections ≡ self.sections + length (sections_of file.now command) }
+        ensures symtab { result.symtab ≡ or_else self.symtab (if command.kind == LC_SYMTAB then Some command else None) }
+        ensures table { IsSomeTable file.now self.symtab → IsSomeTable file.now result.symtab }
+    {
+        let segments = if command.is_segment() { 1 } else { 0 };
+        let symtab = if command.kind == LC_SYMTAB {
+            Some(command)
+        } else {
+            None
+        };
+        Survey {
+            segments: self.segments + segments,
+            sections: self.sections + sections_in(file, encoding, command),
+            symtab: match self.symtab {
+                Some(first) => Some(first),
+                None => symtab,
+            },
+        }
+    }
+}
+
+/// What the commands of a file have.
+#[tactic(auto, using(crate::proofs::TableLemmas::sections_small, crate::proofs::TableLemmas::commands_small, crate::proofs::TableLemmas::sections_begin, crate::proofs::TableLemmas::segments_begin, crate::proofs::TableLemmas::table_begins, crate::proofs::TableLemmas::segments_more, crate::proofs::TableLemmas::sections_more, crate::proofs::TableLemmas::found_more))]
+pub fn count_tables(file: &[u8], encoding: Encoding) -> Survey
+    requires { HasCommands file.now encoding (header_len file.now) (command_count file.now) }
+    ensures segments { result.segments ≡ length (segments file.now) }
+    ensures sections { result.sections ≡ length (sections file.now) }
+    ensures symtab { result.symtab ≡ symbol_table file.now }
+    ensures table { IsSomeTable file.now result.symtab }
+{
+    let mut walk = Walk::new(file, encoding);
+    let mut found = Survey {
+        segments: 0,
+        sections: 0,
+        symtab: None,
+    };
+    'rows: while let Some(command) = walk.next() {
+        found = found.with(file, encoding, command);
+    }
+    found
+}

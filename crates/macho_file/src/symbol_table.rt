@@ -1,0 +1,128 @@
+//! The table of symbols.
+
+ghost use Rattle.std.specs.Prelude.{◌≡◌, ◌+◌, ◌*◌, ◌≤◌, ◌<◌, ◌^◌, IfOk, length};
+ghost use Rattle.size_core.specs.Checks.{Gives};
+ghost use Rattle.macho_file.specs.Layout.{encoding_of};
+ghost use Rattle.macho_file.specs.Symbols.{strings, symbol_name, symbol_len, symbol_of, table_at, table_of};
+ghost use Rattle.macho_file.specs.Known.{HasHeader, HasTable, IsSomeTable};
+ghost use Rattle.macho_file.specs.Shown.{symbol_shown};
+
+use crate::command::Command;
+use crate::encoding::Encoding;
+use crate::symbol::MachoSymbol;
+use byte_cursor::text_at;
+use size_core::{BadFile, Fault};
+
+/// Where the symbols and their names stand (`symtab_command`).
+#[derive(Clone, Copy, Debug, PartialEq, Eq, Hash)]
+pub struct SymbolTable {
+    /// The file offset of the symbols.
+    pub symoff: u32,
+    /// How many symbols there are.
+    pub nsyms: u32,
+    /// The file offset of their names.
+    pub stroff: u32,
+    /// How many bytes the names have.
+    pub strsize: u32,
+}
+
+/// What a `symtab_command` at a place says.
+#[tactic(auto, unfolding(crate::specs::Symbols::table_at))]
+fn table_at(file: &[u8], encoding: Encoding, place: u64) -> SymbolTable
+    requires encoding { encoding ≡ encoding_of file.now }
+    requires within { place + 24 ≤ length file.now }
+    requires small { length file.now < 2 ^ 32 }
+    ensures { result ≡ table_at file.now place }
+{
+    SymbolTable {
+        symoff: encoding.four(file, place + 8),
+        nsyms: encoding.four(file, place + 12),
+        stroff: encoding.four(file, place + 16),
+        strsize: encoding.four(file, place + 20),
+    }
+}
+
+/// The table of a command, whose symbols and names have to lie in the file, or an empty one.
+#[tactic(auto, unfolding(crate::specs::Symbols::table_of))]
+pub fn table_of(
+    file: &[u8],
+    encoding: Encoding,
+    symtab: Option<Command>,
+) -> Result<SymbolTable, BadFile>
+    requires header { HasHeader file.now encoding }
+    requires inside { IsSomeTable file.now symtab }
+    ensures value { result ≡ table_of file.now symtab }
+    ensures known { IfOk result (λ t. HasTable file.now t) }
+{
+    let Some(command) = symtab else {
+        return Ok(SymbolTable {
+            symoff: 0,
+            nsyms: 0,
+            stroff: 0,
+            strsize: 0,
+        });
+    };
+    let table = table_at(file, encoding, command.place);
+    let len = file.len() as u64;
+    let symbols_end = table.symoff as u64 + table.nsyms as u64 * encoding.pick(12, 16);
+    let names_end = table.stroff as u64 + table.strsize as u64;
+    if symbols_end > len || names_end > len {
+        return Err(BadFile {
+            fault: Fault::TablePastEnd,
+            offset: command.place,
+        });
+    }
+    Ok(table)
+}
+
+/// The name of the symbol at a place.
+#[tactic(auto, unfolding(crate::specs::Symbols::symbol_name))]
+fn symbol_name<'a>(
+    file: &'a [u8],
+    encoding: Encoding,
+    table: SymbolTable,
+    place: u64,
+) -> Result<&'a [u8], BadFile>
+    requires header { HasHeader file.now encoding }
+    requires table { HasTable file.now table }
+    requires within { place + 4 ≤ length file.now }
+    ensures { Gives (λ name. name.now) result (symbol_name file.now table place) }
+{
+    let strx = encoding.four(file, place);
+    if strx == 0 {
+        return Ok(&[]);
+    }
+    let first = table.stroff as usize;
+    let strings = &file[first..first + table.strsize as usize];
+    match text_at(strings, strx as usize) {
+        Some(name) => Ok(name),
+        None => Err(BadFile {
+            fault: Fault::NameOutside,
+            offset: place,
+        }),
+    }
+}
+
+/// Symbol `k` of a table.
+#[tactic(auto, unfolding(crate::specs::Symbols::symbol_of), using(crate::proofs::SymbolLemmas::symbol_within))]
+pub fn symbol_of<'a>(
+    file: &'a [u8],
+    encoding: Encoding,
+    table: SymbolTable,
+    k: u32,
+) -> Result<MachoSymbol<'a>, BadFile>
+    requires header { HasHeader file.now encoding }
+    requires table { HasTable file.now table }
+    requires number { k < table.nsyms }
+    ensures { Gives symbol_shown result (symbol_of file.now table k) }
+{
+    let place = table.symoff as u64 + k as u64 * encoding.pick(12, 16);
+    let name = symbol_name(file, encoding, table, place)?;
+    Ok(MachoSymbol {
+        place,
+        name,
+        kind: file[place as usize + 4],
+        sect: file[place as usize + 5],
+        value: encoding.word(file, place, 8, 8),
+    })
+}

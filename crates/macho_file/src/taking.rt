@@ -1,0 +1,80 @@
+//! The symbols that take part in the spans.
+
+ghost use Rattle.std.specs.Prelude.{◌≡◌, ◌+◌, ◌≤◌, ◌<◌, ◌^◌, ◌++◌, ◌∷◌, [], IfOk, MatchResult, OnOk, Ok, Err, length, map, if◌then◌else◌};
+ghost use Rattle.macho_file.specs.Known.{HasHeader, HasTable};
+ghost use Rattle.macho_file.specs.Shown.{symbol_shown};
+ghost use Rattle.macho_file.specs.Spans.{extent_numbered, lies_in, takes_part};
+ghost use Rattle.macho_file.specs.Taken.{ForBad, taken_from};
+
+use crate::answer::SpanAnswer;
+use crate::constants::{N_SECT, N_STAB, N_TYPE};
+use crate::encoding::Encoding;
+use crate::extent::Extent;
+use crate::symbol::MachoSymbol;
+use crate::symbol_table::{SymbolTable, symbol_of};
+use size_core::NoMemory;
+use std::alloc::Global;
+
+/// Whether an address lies in the section of a number.
+fn lies_in(extents: &[Extent], sect: u8, value: u64) -> bool
+    ensures { result ≡ lies_in value (extent_numbered extents.now sect) }
+{
+    if sect == 0 {
+        return false;
+    }
+    match extents.get(sect as usize - 1) {
+        Some(extent) => extent.addr <= value && value - extent.addr < extent.size,
+        None => false,
+    }
+}
+
+/// Whether a symbol takes part: it is no debugger's, it is defined in a section, it has a name, and its value
+/// lies in its section.
+#[tactic(auto, unfolding(crate::specs::Spans::takes_part))]
+fn takes_part(extents: &[Extent], symbol: &MachoSymbol<'_>) -> bool
+    ensures { result ≡ takes_part extents.now (symbol_shown symbol.now) }
+{
+    if symbol.kind & N_STAB != 0 || symbol.kind & N_TYPE != N_SECT {
+        return false;
+    }
+    if symbol.name.is_empty() {
+        return false;
+    }
+    lies_in(extents, symbol.sect, symbol.value)
+}
+
+/// Adds a symbol that takes part.
+fn push_taking<'a>(
+    taking: &mut Vec<MachoSymbol<'a>>,
+    extents: &[Extent],
+    symbol: MachoSymbol<'a>,
+) -> Result<(), NoMemory>
+    ensures { OnOk result (map symbol_shown taking.new.items ≡ map symbol_shown taking.old.items ++ (if takes_part extents.now (symbol_shown symbol.entry) then symbol_shown symbol.entry ∷ [] else [])) }
+{
+    if takes_part(extents, &symbol) {
+        taking.push(symbol)?;
+    }
+    Ok(())
+}
+
+/// The symbols of a table that take part, in its order. Each symbol of the table is read.
+#[tactic(auto, using(crate::proofs::TakenLemmas::taken_next, crate::proofs::TakenLemmas::taken_bad, crate::proofs::TakenLemmas::taken_end, crate::proofs::TakenLemmas::taken_none, crate::proofs::TakenLemmas::few_more))]
+pub fn taking_part<'a>(
+    alloc: Global,
+    file: &'a [u8],
+    encoding: Encoding,
+    table: SymbolTable,
+    extents: &[Extent],
+) -> Result<Vec<MachoSymbol<'a>>, SpanAnswer>
+    requires header { HasHeader file.now encoding }
+    requires table { HasTable file.now table }
+    ensures value { MatchResult result (λ v. taken_from file.now table extents.now 0 table.nsyms ≡ Ok (map symbol_shown v.items)) (λ e. ForBad e (λ bad. taken_from file.now table extents.now 0 table.nsyms ≡ Err bad)) }
+    ensures few { IfOk result (λ v. length (map symbol_shown v.items) ≤ table.nsyms) }
+{
+    let mut taking = Vec::new(alloc);
+    'rows: for k in 0..table.nsyms {
+        let symbol = symbol_of(file, encoding, table, k)?;
+        push_taking(&mut taking, extents, symbol)?;
+    }
+    Ok(taking)
+}

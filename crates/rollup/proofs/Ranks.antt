@@ -1,0 +1,195 @@
+-- Labels by their ranks, and paths by the ranks of their labels.
+use Rattle.std.proofs.Common.{◌≡◌, ◌+◌, ◌<◌, ℕ, zero, suc, false, List, [], ◌∷◌, ◌++◌, length, get_or, set, map, eqb, inl, inr, ◌⊎◌, refl, sym, ap, subst, ◌∙◌, arith, is_lt}
+use Rattle.std.specs.Prelude.{All}
+use Rattle.std.specs.List.{IsDistinct, range_with_len}
+use Rattle.std.specs.List.Sorted.{IsPermutation, IsSorted, IsStrictlySortedBy}
+use Rattle.std.specs.Cmp.{IsTotalOrder}
+use Rattle.std.specs.Cmp.Lexicographic.{slice_cmp}
+use Rattle.std.specs.Ordering.{is_eq, nat_cmp, ordering_reverse, ordering_then}
+use Rattle.std.specs.Str.{bytes_eq}
+use Rattle.std.specs.declared.cmp.Ordering.{Ordering}
+use Rattle.std.specs.declared.cmp.Ordering.TheVariants.{Less, Equal, Greater}
+use Rattle.std.proofs.lemmas.Bool.Decides.{nat_tests}
+use Rattle.std.proofs.lemmas.Cmp.{nat_list_cmp_total}
+use Rattle.std.proofs.lemmas.Bool.{cases_eq}
+use Rattle.std.proofs.lemmas.List.{get_or-map, get_or-set_other, get_or-set_same, length-map}
+use Rattle.std.proofs.lemmas.List.FromFn.{fill_by_all, get_or-range_with_len, length-range_with_len}
+use Rattle.std.proofs.lemmas.List.Sorted.{All-permutation, Contains-permutation, IsPermutation-map, length_permutation}
+use Rattle.std.proofs.lemmas.Map.Keys.{IsDistinct-IsPermutation, IsDistinct-from_apart, Less-from_sorted, apart_from_distinct, sorted_from_all_adjacent}
+use Rattle.std.proofs.lemmas.Map.Text.{is_eq-slice_cmp}
+use Rattle.std.proofs.lemmas.Option.{get_or_from_slice_get, slice_get-get_or}
+use Rattle.size_model.specs.Numbered.{text_of}
+use Rattle.rollup.specs.declared.fresh.Ranked.{Ranked}
+use Rattle.rollup.specs.declared.table.RollupRow.{RollupRow}
+use Rattle.rollup.specs.Order.{ArePlaces, IsRanked, RankLabels, falling_ranks, label_cmp, rank_in, ranked_row}
+use Rattle.rollup.specs.Rows.{falling}
+use Rattle.rollup.specs.Sizes.{Entry, no_entry, row_of}
+use Rattle.rollup.specs.Totals.{path_cmp}
+use Rattle.rollup.proofs.Paths.{same_number}
+
+-- one number more
+suc_more : (a n : ℕ) → range_with_len a (suc n) ≡ range_with_len a n ++ (a + n) ∷ []
+suc_more a zero = let same : a ≡ a + zero = omega arith in ap (λ x. x ∷ []) same
+suc_more a (suc n) =
+    let next : a + 1 + n ≡ a + suc n = omega arith in
+    ap (λ l. a ∷ l) (suc_more (a + 1) n ∙ ap (λ x. range_with_len (a + 1) n ++ x ∷ []) next)
+
+pub range_more : (n : ℕ) → range_with_len 0 (n + 1) ≡ range_with_len 0 n ++ n ∷ []
+range_more n =
+    let one : n + 1 ≡ suc n = omega arith in
+    let none : 0 + n ≡ n = omega arith in
+    ap (range_with_len 0) one ∙ (suc_more 0 n ∙ ap (λ x. range_with_len 0 n ++ x ∷ []) none)
+
+range_get : (n k d : ℕ) → k < n → get_or (range_with_len 0 n) k d ≡ k
+range_get n k d lt = let none : 0 + k ≡ k = omega arith in get_or-range_with_len 0 n k d lt ∙ none
+
+pub label_total : (pool : List (List ℕ)) → IsTotalOrder (label_cmp pool)
+label_total pool = record {
+  antisymm = λ x y. nat_list_cmp_total.antisymm (text_of pool x) (text_of pool y);
+  trans = λ x y z. nat_list_cmp_total.trans (text_of pool x) (text_of pool y) (text_of pool z);
+  congr = λ x y z. nat_list_cmp_total.congr (text_of pool x) (text_of pool y) (text_of pool z);
+}
+
+-- all numbers below one, in some order
+module _ (n : ℕ) (numbers : List ℕ) (all : IsPermutation (range_with_len 0 n) numbers) where
+  pub numbers_length : length numbers ≡ n
+  numbers_length = length_permutation (range_with_len 0 n) numbers all ∙ length-range_with_len 0 n
+
+  pub numbers_below : All (λ k. k < n) numbers
+  numbers_below = All-permutation (λ k. k < n) (range_with_len 0 n) numbers all (λ k d lt.
+      let within : k < n = omega (arith, length-range_with_len 0 n) in
+      subst (λ m. m < n) (sym (range_get n k d within)) within)
+
+  pub numbers_differ : (i j d : ℕ) → i < j → j < length numbers → eqb (get_or numbers i d) (get_or numbers j d) ≡ false
+  numbers_differ i j d = apart_from_distinct eqb numbers i j d (IsDistinct-IsPermutation eqb flips (range_with_len 0 n) numbers all (IsDistinct-from_apart eqb (range_with_len 0 n) apart))
+    where
+      flips : (x y : ℕ) → eqb x y ≡ eqb y x
+      flips x y = grind (arith, nat_tests)
+
+      differ : (x y : ℕ) → x < y → eqb x y ≡ false
+      differ x y lt = grind (arith, nat_tests)
+
+      apart : (i j d : ℕ) → i < j → j < length (range_with_len 0 n) → eqb (get_or (range_with_len 0 n) i d) (get_or (range_with_len 0 n) j d) ≡ false
+      apart i j d lt within =
+          let below : j < n = omega (arith, length-range_with_len 0 n) in
+          ap (λ x. eqb x (get_or (range_with_len 0 n) j d)) (range_get n i d (omega arith)) ∙ (ap (eqb i) (range_get n j d below) ∙ differ i j lt)
+
+  numbers_found : (a : ℕ) → a < n → (k : ℕ) × (k < length numbers) × (get_or numbers k 0 ≡ a)
+  numbers_found a lt = by_place (Contains-permutation (range_with_len 0 n) numbers a all (a, omega (arith, length-range_with_len 0 n), range_get n a a lt))
+    where
+      by_place : ((k : ℕ) × (k < length numbers) × (get_or numbers k a ≡ a)) → (k : ℕ) × (k < length numbers) × (get_or numbers k 0 ≡ a)
+      by_place (k, within, is) = (k, within, get_or_from_slice_get numbers k (get_or numbers k a) 0 (slice_get-get_or numbers k a within) ∙ is)
+
+-- one more of the numbers has its place
+pub place_more : (numbers places : List ℕ) (i : ℕ) → IsPermutation (range_with_len 0 (length numbers)) numbers → length places ≡ length numbers → i < length numbers
+    → ((k : ℕ) → k < i → rank_in places (get_or numbers k 0) ≡ k) → (k : ℕ) → k < i + 1 → rank_in (set places (get_or numbers i 0) i) (get_or numbers k 0) ≡ k
+place_more numbers places i all count lt so_far k within = by_place (cases_eq k i)
+  where
+    unlike : (m n : ℕ) → eqb m n ≡ false → m ≡ n → ⊥
+    unlike m n e h = grind (arith, nat_tests)
+
+    by_place : ((k ≡ i) ⊎ (k ≡ i → ⊥)) → rank_in (set places (get_or numbers i 0) i) (get_or numbers k 0) ≡ k
+    by_place (inl e) =
+        let below = numbers_below (length numbers) numbers all i 0 lt in
+        ap (λ j. rank_in (set places (get_or numbers i 0) i) (get_or numbers j 0)) e ∙ (get_or-set_same places (get_or numbers i 0) i 0 (omega arith) ∙ sym e)
+    by_place (inr n) =
+        let other = unlike (get_or numbers k 0) (get_or numbers i 0) (numbers_differ (length numbers) numbers all k i 0 (omega arith) lt) in
+        get_or-set_other places (get_or numbers i 0) (get_or numbers k 0) i 0 other ∙ so_far k (omega arith)
+
+-- labels differ, so that those in order ascend
+module _ (pool : List (List ℕ)) (numbers : List ℕ) (all : IsPermutation (range_with_len 0 (length pool)) numbers) where
+  labels_differ : (a b : ℕ) → IsDistinct bytes_eq pool → a < b → b < length pool → label_cmp pool a b ≡ Equal → ⊥
+  labels_differ a b distinct lt within e =
+      let other = apart_from_distinct bytes_eq pool a b [] distinct lt within in
+      let same : is_eq Equal ≡ false = ap is_eq (sym e) ∙ (is_eq-slice_cmp (text_of pool a) (text_of pool b) ∙ other) in
+      cc
+
+  ascends : (a b : ℕ) → IsDistinct bytes_eq pool → a < length pool → b < length pool → eqb a b ≡ false → is_lt (label_cmp pool b a) ≡ false → label_cmp pool a b ≡ Less
+  ascends a b distinct la lb differ up = by_order (label_cmp pool a b) refl
+    where
+      unlike : eqb a b ≡ false → (a < b → ⊥) → b < a
+      unlike e h = grind (arith, nat_tests)
+
+      back : (o : Ordering) → label_cmp pool a b ≡ o → label_cmp pool b a ≡ ordering_reverse o
+      back o e = (label_total pool).antisymm b a ∙ ap ordering_reverse e
+
+      by_order : (o : Ordering) → label_cmp pool a b ≡ o → o ≡ Less
+      by_order Less e = refl
+      by_order Equal e = absurd (labels_differ b a distinct (unlike differ (λ lt. labels_differ a b distinct lt lb e)) la (back Equal e))
+      by_order Greater e = absurd (let less : is_lt Less ≡ false = ap is_lt (sym (back Greater e)) ∙ up in cc)
+
+  pub numbers_ascend : IsDistinct bytes_eq pool → IsSorted (label_cmp pool) numbers → IsStrictlySortedBy (label_cmp pool) numbers
+  numbers_ascend distinct sorted = sorted_from_all_adjacent (label_total pool) numbers 0 (λ k lt.
+      ascends (get_or numbers k 0) (get_or numbers (k + 1) 0) distinct (numbers_below (length pool) numbers all k 0 (omega arith)) (numbers_below (length pool) numbers all (k + 1) 0 lt)
+      (numbers_differ (length pool) numbers all k (k + 1) 0 (omega arith) lt) (sorted k 0 (omega arith) lt))
+
+  at_places : (i j : ℕ) → IsStrictlySortedBy (label_cmp pool) numbers → i < length numbers → j < length numbers → nat_cmp i j ≡ label_cmp pool (get_or numbers i 0) (get_or numbers j 0)
+  at_places i j strict li lj = by_order (nat_cmp i j) refl
+    where
+      below : (m n : ℕ) → nat_cmp m n ≡ Less → m < n
+      below m n e = grind (arith, nat_tests)
+
+      above : (m n : ℕ) → nat_cmp m n ≡ Greater → n < m
+      above m n e = grind (arith, nat_tests)
+
+      itself : (o : Ordering) → o ≡ ordering_reverse o → o ≡ Equal
+      itself Less e = cc
+      itself Equal e = refl
+      itself Greater e = cc
+
+      by_order : (o : Ordering) → nat_cmp i j ≡ o → o ≡ label_cmp pool (get_or numbers i 0) (get_or numbers j 0)
+      by_order Less e = sym (Less-from_sorted (label_cmp pool) numbers i j 0 strict (below i j e) lj)
+      by_order Equal e =
+          let a = get_or numbers i 0 in
+          sym (itself (label_cmp pool a a) ((label_total pool).antisymm a a)) ∙ ap (λ k. label_cmp pool a (get_or numbers k 0)) (same_number i j e)
+      by_order Greater e =
+          let less = Less-from_sorted (label_cmp pool) numbers j i 0 strict (above i j e) li in
+          sym ((label_total pool).antisymm (get_or numbers i 0) (get_or numbers j 0) ∙ ap ordering_reverse less)
+
+  pub ranks_are : (places : List ℕ) → IsStrictlySortedBy (label_cmp pool) numbers → ArePlaces numbers places → RankLabels pool places
+  ranks_are places strict h = record { same = λ a b la lb. by_found a b (numbers_found (length pool) numbers all a la) (numbers_found (length pool) numbers all b lb) }
+    where
+      by_found : (a b : ℕ) → ((k : ℕ) × (k < length numbers) × (get_or numbers k 0 ≡ a)) → ((k : ℕ) × (k < length numbers) × (get_or numbers k 0 ≡ b)) → nat_cmp (rank_in places a) (rank_in places b) ≡ label_cmp pool a b
+      by_found a b (i, li, ai) (j, lj, bj) =
+          let rank_a : rank_in places a ≡ i = subst (λ x. rank_in places x ≡ i) ai (h.place i li) in
+          let rank_b : rank_in places b ≡ j = subst (λ x. rank_in places x ≡ j) bj (h.place j lj) in
+          ap (λ x. nat_cmp x (rank_in places b)) rank_a ∙ (ap (nat_cmp i) rank_b ∙ (at_places i j strict li lj ∙ (ap (λ x. label_cmp pool x (get_or numbers j 0)) ai ∙ ap (label_cmp pool a) bj)))
+
+-- paths compare as the ranks of their labels do
+module _ (pool : List (List ℕ)) (ranks : List ℕ) (h : RankLabels pool ranks) where
+  path_by_ranks : (xs ys : List ℕ) → All (λ n. n < length pool) xs → All (λ n. n < length pool) ys → path_cmp (map (text_of pool) xs) (map (text_of pool) ys) ≡ slice_cmp nat_cmp (map (rank_in ranks) xs) (map (rank_in ranks) ys)
+  path_by_ranks [] [] hx hy = refl
+  path_by_ranks [] (y ∷ ys) hx hy = refl
+  path_by_ranks (x ∷ xs) [] hx hy = refl
+  path_by_ranks (x ∷ xs) (y ∷ ys) hx hy =
+      ap (λ o. ordering_then o (path_cmp (map (text_of pool) xs) (map (text_of pool) ys))) (sym (h.same x y (hx 0 x (omega arith)) (hy 0 y (omega arith))))
+      ∙ ap (ordering_then (nat_cmp (rank_in ranks x) (rank_in ranks y))) (path_by_ranks xs ys (λ k d lt. hx (suc k) d (omega arith)) (λ k d lt. hy (suc k) d (omega arith)))
+
+  rows_by_ranks : (es : List Entry) (x y : Ranked) → All (λ (e : Entry). All (λ n. n < length pool) e.numbers) es → IsRanked ranks es x → IsRanked ranks es y → falling (ranked_row pool es y) (ranked_row pool es x) ≡ falling_ranks y x
+  rows_by_ranks es x y below hx hy =
+      path_by_ranks (get_or es x.entry no_entry).numbers (get_or es y.entry no_entry).numbers (below x.entry no_entry hx.within) (below y.entry no_entry hy.within)
+      ∙ (ap (λ l. slice_cmp nat_cmp l (map (rank_in ranks) (get_or es y.entry no_entry).numbers)) (sym hx.along) ∙ ap (slice_cmp nat_cmp x.ranks.items) (sym hy.along))
+
+  pub rows_fall : (es : List Entry) (ranked : List Ranked) → All (λ (e : Entry). All (λ n. n < length pool) e.numbers) es → All (IsRanked ranks es) ranked → IsSorted falling_ranks ranked → IsSorted falling (map (ranked_row pool es) ranked)
+  rows_fall es [] below each sorted = λ k d low lt. absurd (omega arith)
+  rows_fall es (r ∷ rs) below each sorted = λ k d low lt.
+      let f = ranked_row pool es in
+      let count = length-map (r ∷ rs) f in
+      let x = get_or (r ∷ rs) k r in
+      let y = get_or (r ∷ rs) (k + 1) r in
+      ap (λ q. is_lt (falling q (get_or (map f (r ∷ rs)) k d))) (get_or-map f (r ∷ rs) (k + 1) r d (omega arith))
+      ∙ (ap (λ q. is_lt (falling (f y) q)) (get_or-map f (r ∷ rs) k r d (omega arith))
+      ∙ (ap is_lt (rows_by_ranks es x y below (each k r (omega arith)) (each (k + 1) r (omega arith))) ∙ sorted k r low (omega arith)))
+
+map_map : {X Y Z : Type 0} (f : X → Y) (g : Y → Z) (xs : List X) → map (λ x. g (f x)) xs ≡ map g (map f xs)
+map_map f g [] = refl
+map_map f g (x ∷ xs) = ap (λ l. g (f x) ∷ l) (map_map f g xs)
+
+-- the rows of all entries, in another order
+pub same_rows : (pool : List (List ℕ)) (es : List Entry) (ranked sorted : List Ranked) → map (λ (r : Ranked). r.entry) ranked ≡ range_with_len 0 (length es) → IsPermutation ranked sorted
+    → IsPermutation (map (row_of pool) es) (map (ranked_row pool es) sorted)
+same_rows pool es ranked sorted numbered moved =
+    let row_at : ℕ → RollupRow = λ k. row_of pool (get_or es k no_entry) in
+    let in_order : map (row_of pool) es ≡ map row_at (range_with_len 0 (length es)) =
+    fill_by_all row_at (map (row_of pool) es) (length es) (row_of pool no_entry) (length-map es (row_of pool)) (λ k lt. get_or-map (row_of pool) es k no_entry (row_of pool no_entry) lt) in
+    subst (λ l. IsPermutation l (map (ranked_row pool es) sorted)) (map_map (λ (r : Ranked). r.entry) row_at ranked ∙ (ap (map row_at) numbered ∙ sym in_order)) (IsPermutation-map (ranked_row pool es) ranked sorted moved)

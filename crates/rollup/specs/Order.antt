@@ -1,0 +1,36 @@
+-- Labels and paths by their ranks.
+use Rattle.std.specs.Prelude.{◌≡◌, ◌<◌, ℕ, List, map, length, slice_index_or}
+use Rattle.std.specs.Cmp.Lexicographic.{slice_cmp}
+use Rattle.std.specs.Ordering.{nat_cmp}
+use Rattle.std.specs.declared.cmp.Ordering.{Ordering}
+use Rattle.size_model.specs.Numbered.{text_of}
+use Rattle.rollup.specs.declared.fresh.Ranked.{Ranked}
+use Rattle.rollup.specs.declared.table.RollupRow.{RollupRow}
+use Rattle.rollup.specs.Sizes.{Entry, no_entry, row_of}
+
+-- the labels of two numbers, byte by byte
+abbrev pub label_cmp : List (List ℕ) → ℕ → ℕ → Ordering
+label_cmp pool a b = slice_cmp nat_cmp (text_of pool a) (text_of pool b)
+
+abbrev pub rank_in : List ℕ → ℕ → ℕ
+rank_in ranks n = slice_index_or ranks n 0
+
+-- at each number stands its place in a list
+pub record ArePlaces (numbers places : List ℕ) : Type 0 where
+  pub count : length places ≡ length numbers
+  pub place : (k : ℕ) → k < length numbers → rank_in places (slice_index_or numbers k 0) ≡ k
+
+-- the ranks of labels compare as the labels do
+pub record RankLabels (pool : List (List ℕ)) (ranks : List ℕ) : Type 0 where
+  pub same : (a b : ℕ) → a < length pool → b < length pool → nat_cmp (rank_in ranks a) (rank_in ranks b) ≡ label_cmp pool a b
+
+-- an entry with the ranks of its numbers
+pub record IsRanked (ranks : List ℕ) (es : List Entry) (r : Ranked) : Type 0 where
+  pub within : r.entry < length es
+  pub along : r.ranks.items ≡ map (rank_in ranks) (slice_index_or es r.entry no_entry).numbers
+
+abbrev pub falling_ranks : Ranked → Ranked → Ordering
+falling_ranks a b = slice_cmp nat_cmp b.ranks.items a.ranks.items
+
+abbrev pub ranked_row : List (List ℕ) → List Entry → Ranked → RollupRow
+ranked_row pool es r = row_of pool (slice_index_or es r.entry no_entry)

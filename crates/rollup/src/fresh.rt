@@ -1,0 +1,132 @@
+//! The rows of one file.
+
+ghost use Rattle.std.specs.Prelude.{◌≡◌, ◌^◌, ◌<◌, [], IfOk, All, length, map, slice_index_or};
+ghost use Rattle.std.specs.List.{range_with_len};
+ghost use Rattle.std.specs.List.Sorted.{IsPermutation, IsSorted};
+ghost use Rattle.size_model.specs.Numbered.{text_of};
+ghost use Rattle.rollup.specs.Order.{IsRanked, falling_ranks, rank_in, ranked_row};
+ghost use Rattle.rollup.specs.Rows.{FitTogether, falling};
+ghost use Rattle.rollup.specs.Sizes.{Entry, IsTable, entries_of, no_entry, row_of};
+
+use crate::order::{rank_at, ranks_of};
+use crate::sizes::PathSizes;
+use crate::table::RollupRow;
+use size_core::{Bytes, LabelPool, NoMemory, Path};
+use std::alloc::{AllocError, Global};
+
+/// An entry of a file's sizes, and the ranks of its labels.
+#[derive(Drop)]
+pub struct Ranked {
+    pub ranks: Vec<usize>,
+    pub entry: usize,
+}
+
+fn ranks_along(alloc: Global, ranks: &[usize], numbers: &[usize]) -> Result<Vec<usize>, AllocError>
+    ensures { IfOk result (λ v. v.items ≡ map (rank_in ranks.now) numbers.now) }
+{
+    let mut along = Vec::with_capacity(alloc, numbers.len())?;
+    for number in numbers {
+        along.push(rank_at(ranks, *number))?;
+    }
+    Ok(along)
+}
+
+fn ranked_entries(
+    alloc: Global,
+    ranks: &[usize],
+    sizes: &PathSizes,
+) -> Result<Vec<Ranked>, AllocError>
+    requires { IsTable sizes.now }
+    ensures entries { IfOk result (λ v. map (λ (r : Ranked). r.entry) v.items ≡ range_with_len 0 (length (entries_of sizes.now))) }
+    ensures ranks { IfOk result (λ v. All (IsRanked ranks.now (entries_of sizes.now)) v.items) }
+{
+    let mut ranked = Vec::with_capacity(alloc, sizes.sizes.len())?;
+    for entry in 0..sizes.sizes.len() {
+        let along = ranks_along(alloc, ranks, sizes.paths.get(entry))?;
+        ranked.push(Ranked {
+            ranks: along,
+            entry,
+        })?;
+    }
+    Ok(ranked)
+}
+
+// Puts the greatest path first.
+fn sort_falling(ranked: &mut Vec<Ranked>)
+    ensures same { IsPermutation ranked.old.items ranked.new.items }
+    ensures sorted { IsSorted falling_ranks ranked.new.items }
+{
+    ranked.sort_unstable_by(|a, b| b.ranks.as_slice().cmp(&a.ranks.as_slice()));
+}
+
+// The path that the labels of these numbers spell.
+fn spell(alloc: Global, pool: &LabelPool, numbers: &[usize]) -> Result<Path, NoMemory>
+    requires { All (λ n. n < length pool.now) numbers.now }
+    ensures { IfOk result (λ p. p ≡ map (text_of pool.now) numbers.now) }
+{
+    let mut path = Path::new(alloc);
+    for number in numbers {
+        path.push(Bytes::of(alloc, pool.get(*number))?)?;
+    }
+    Ok(path)
+}
+
+// The row of an entry.
+fn row_at(
+    alloc: Global,
+    pool: &LabelPool,
+    sizes: &PathSizes,
+    i: usize,
+) -> Result<RollupRow, NoMemory>
+    requires table { IsTable sizes.now }
+    requires within { i < length sizes.now.sizes.items }
+    requires below { All (λ n. n < length pool.now) (slice_index_or (entries_of sizes.now) i no_entry).numbers }
+    requires vm { (slice_index_or (entries_of sizes.now) i no_entry).vm < 2 ^ 64 }
+    requires file { (slice_index_or (entries_of sizes.now) i no_entry).file < 2 ^ 64 }
+    ensures { IfOk result (λ r. r ≡ row_of pool.now (slice_index_or (entries_of sizes.now) i no_entry)) }
+{
+    let size = sizes.sizes[i];
+    Ok(RollupRow {
+        path: spell(alloc, pool, sizes.paths.get(i))?,
+        vm: size.vm as u64,
+        file: size.file as u64,
+    })
+}
+
+fn rows_of(
+    alloc: Global,
+    pool: &LabelPool,
+    sizes: &PathSizes,
+    ranked: &[Ranked],
+) -> Result<Vec<RollupRow>, NoMemory>
+    requires table { IsTable sizes.now }
+    requires within { All (λ (r : Ranked). r.entry < length (entries_of sizes.now)) ranked.now }
+    requires below { All (λ (e : Entry). All (λ n. n < length pool.now) e.numbers) (entries_of sizes.now) }
+    requires vm { All (λ (e : Entry). e.vm < 2 ^ 64) (entries_of sizes.now) }
+    requires file { All (λ (e : Entry). e.file < 2 ^ 64) (entries_of sizes.now) }
+    ensures { IfOk result (λ v. v.items ≡ map (ranked_row pool.now (entries_of sizes.now)) ranked.now) }
+{
+    let mut rows = Vec::with_capacity(alloc, ranked.len())?;
+    for entry in ranked {
+        rows.push(row_at(alloc, pool, sizes, entry.entry)?)?;
+    }
+    Ok(rows)
+}
+
+/// The rows of a file, the greatest path first.
+pub fn new_rows(
+    alloc: Global,
+    pool: &LabelPool,
+    sizes: &PathSizes,
+) -> Result<Vec<RollupRow>, NoMemory>
+    requires table { IsTable sizes.now }
+    requires below { All (λ (e : Entry). All (λ n. n < length pool.now) e.numbers) (entries_of sizes.now) }
+    requires fits { FitTogether [] (map (row_of pool.now) (entries_of sizes.now)) }
+    ensures same { IfOk result (λ v. IsPermutation (map (row_of pool.now) (entries_of sizes.now)) v.items) }
+    ensures falls { IfOk result (λ v. IsSorted falling v.items) }
+{
+    let ranks = ranks_of(alloc, pool)?;
+    let mut ranked = ranked_entries(alloc, ranks.as_slice(), sizes)?;
+    sort_falling(&mut ranked);
+    rows_of(alloc, pool, sizes, ranked.as_slice())
+}

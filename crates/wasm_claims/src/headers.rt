@@ -1,0 +1,24 @@
+//! The claim of a module's header (WebAssembly core 2.0, 5.5.16 Modules).
+
+ghost use Rattle.std.specs.Prelude.{◌≡◌, OnOk};
+ghost use Rattle.claim_sheet.specs.Sheets.{adding};
+ghost use Rattle.wasm_claims.specs.Claims.{header_claims, header_reach};
+
+use claim_sheet::{ClaimSheet, Reach, Wrap, span};
+use size_core::NoMemory;
+use wasm_file::WasmFile;
+
+#[tactic(auto, unfolding(crate::specs::Claims::header_reach))]
+fn header_reach() -> Reach
+    ensures { result ≡ header_reach }
+{
+    Reach::in_file(span(0, 0, 8))
+}
+
+/// Adds the claim of the magic number and the version: the eight bytes that every module has.
+pub fn add_headers(_file: &WasmFile<'_>, sheet: &mut ClaimSheet) -> Result<(), NoMemory>
+    ensures made { OnOk result (sheet.new ≡ adding sheet.old (header_claims _file.now)) }
+    ensures kept { sheet.new.pool ≡ sheet.old.pool }
+{
+    sheet.add(header_reach(), Wrap::Plain, b"[WASM Header]")
+}

@@ -1,0 +1,113 @@
+//! The claims of sections (WebAssembly core 2.0, 5.5.2 Sections).
+
+ghost use Rattle.std.specs.Prelude.{◌≡◌, ◌++◌, codes, decimal, IfOk, OnOk};
+ghost use Rattle.std.specs.Option.{option_copied};
+ghost use Rattle.claim_sheet.specs.Reaches.{claim_on, wrapped};
+ghost use Rattle.claim_sheet.specs.Sheets.{adding};
+ghost use Rattle.wasm_file.specs.Shown.{section as section_of};
+ghost use Rattle.wasm_claims.specs.Claims.{or_else, section_claim, section_claims, standard_name};
+
+use claim_sheet::{ClaimSheet, Reach, Wrap, append, span};
+use itoa::Buffer;
+use size_core::NoMemory;
+use std::alloc::Global;
+use wasm_file::{
+    CODE, CUSTOM, DATA, DATA_COUNT, ELEMENT, EXPORT, FUNCTION, GLOBAL, IMPORT, MEMORY, START,
+    TABLE, TYPE, WasmFile, WasmSection,
+};
+
+// What the standard calls the sections of an id.
+fn standard_name(id: u8) -> Option<&'static [u8]>
+    ensures { option_copied result ≡ standard_name id }
+{
+    match id {
+        TYPE => Some(b"Type"),
+        IMPORT => Some(b"Import"),
+        FUNCTION => Some(b"Function"),
+        TABLE => Some(b"Table"),
+        MEMORY => Some(b"Memory"),
+        GLOBAL => Some(b"Global"),
+        EXPORT => Some(b"Export"),
+        START => Some(b"Start"),
+        ELEMENT => Some(b"Element"),
+        CODE => Some(b"Code"),
+        DATA => Some(b"Data"),
+        DATA_COUNT => Some(b"DataCount"),
+        _ => None,
+    }
+}
+
+/// The name, or the other one where there is none.
+pub fn or_else<'a>(name: Option<&'a [u8]>, other: &'a [u8]) -> &'a [u8]
+    ensures { result.now ≡ or_else (option_copied name.entry) other.now }
+{
+    match name {
+        Some(name) => name,
+        None => other,
+    }
+}
+
+// The label of a section whose id the standard doesn't name.
+fn numbered_label(alloc: Global, id: u8) -> Result<Vec<u8>, NoMemory>
+    ensures { IfOk result (λ v. v.items ≡ codes "[Section #" ++ decimal id ++ codes "]") }
+{
+    let mut text = Vec::new(alloc);
+    append(&mut text, b"[Section #")?;
+    append(&mut text, Buffer::new().format(id).as_bytes())?;
+    append(&mut text, b"]")?;
+    Ok(text)
+}
+
+// Adds the claim of a section of an id other than that of custom ones.
+fn add_standard(
+    alloc: Global,
+    reach: Reach,
+    id: u8,
+    wrap: Wrap,
+    sheet: &mut ClaimSheet,
+) -> Result<(), NoMemory>
+    ensures made { OnOk result (sheet.new ≡ adding sheet.old (claim_on reach (wrapped wrap (or_else (standard_name id) (codes "[Section #" ++ decimal id ++ codes "]"))))) }
+    ensures kept { sheet.new.pool ≡ sheet.old.pool }
+{
+    match standard_name(id) {
+        Some(name) => sheet.add(reach, wrap, name),
+        None => {
+            let label = numbered_label(alloc, id)?;
+            sheet.add(reach, wrap, &label)
+        }
+    }
+}
+
+#[tactic(auto, unfolding(crate::specs::Claims::section_claim))]
+fn add_section(
+    alloc: Global,
+    section: &WasmSection<'_>,
+    wrap: Wrap,
+    sheet: &mut ClaimSheet,
+) -> Result<(), NoMemory>
+    ensures made { OnOk result (sheet.new ≡ adding sheet.old (section_claim wrap (section_of section.now))) }
+    ensures kept { sheet.new.pool ≡ sheet.old.pool }
+{
+    let reach = Reach::in_file(span(0, section.place, section.len));
+    if section.id == CUSTOM {
+        return sheet.add(reach, wrap, or_else(section.name, b"[Custom]"));
+    }
+    add_standard(alloc, reach, section.id, wrap, sheet)
+}
+
+/// Adds the claims of the sections, in order.
+#[tactic(auto, using(claim_sheet::proofs::LoopLemmas::list_goes, claim_sheet::proofs::ListLemmas::none_left), unfolding(crate::specs::Claims::section_claims))]
+pub fn add_sections(
+    alloc: Global,
+    file: &WasmFile<'_>,
+    wrap: Wrap,
+    sheet: &mut ClaimSheet,
+) -> Result<(), NoMemory>
+    ensures made { OnOk result (sheet.new ≡ adding sheet.old (section_claims wrap file.now)) }
+    ensures kept { sheet.new.pool ≡ sheet.old.pool }
+{
+    for section in file.sections() {
+        add_section(alloc, &section, wrap, sheet)?;
+    }
+    Ok(())
+}

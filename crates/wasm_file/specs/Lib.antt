@@ -1,0 +1,10 @@
+pub mod Functions
+pub mod Imports
+pub mod Laws
+pub mod Module
+pub mod Names
+pub mod Numbers
+pub mod Records
+pub mod Sections
+pub mod Shown
+pub mod Steps

@@ -1,0 +1,139 @@
+//! The bodies of functions, with their indices and names.
+
+ghost use Rattle.std.specs.Prelude.{◌≡◌, ℕ, ◌+◌, ◌<◌, ◌^◌, ◌==◌, length, None, Some, IfOk, OnOk, MatchOption, if◌then◌else◌, nat_eq};
+ghost use Rattle.std.specs.Option.{option_copied};
+ghost use Rattle.std.specs.HashMap.{get};
+ghost use Rattle.wasm_file.specs.Functions.{bodies_in, body_at, first_with, numbered};
+ghost use Rattle.wasm_file.specs.Module.{checked};
+ghost use Rattle.wasm_file.specs.Names.{first_of_index, some_name};
+ghost use Rattle.wasm_file.specs.Records.{IsRead, checks_of, fault_in, under, values, values_in};
+ghost use Rattle.wasm_file.specs.Shown.{Answers};
+ghost use Rattle.wasm_file.specs.Steps.{or_else};
+
+use crate::answer::WasmAnswer;
+use crate::body::{Body, Extent};
+use crate::imports::bad_wasm;
+use crate::names::some_name;
+use crate::pairs::FunctionNames;
+use crate::reads::{number, piece};
+use crate::sections::WasmSections;
+use byte_cursor::Cursor;
+use size_core::NoMemory;
+use std::alloc::Global;
+use std::collections::HashMap;
+
+/// The contents of the first section with this id.
+pub fn first_with<'a>(sections: WasmSections<'a>, id: u8) -> Option<Cursor<'a>>
+    ensures { result ≡ first_with id sections.entry }
+{
+    for section in sections {
+        if section.id == id {
+            return Some(section.contents);
+        }
+    }
+    None
+}
+
+/// Keeps a name for an index that has none yet.
+fn keep<'a>(table: &mut HashMap<u32, &'a [u8]>, index: u32, name: &'a [u8]) -> Result<(), NoMemory>
+    ensures { OnOk result ((k : ℕ) → option_copied (get nat_eq table.new k) ≡ or_else (option_copied (get nat_eq table.old k)) (if index == k then Some name.now else None)) }
+{
+    if table.contains_key(&index) {
+        return Ok(());
+    }
+    table.insert(index, name)?;
+    Ok(())
+}
+
+/// The names by index: that of the first pair of each.
+fn name_table<'a>(
+    alloc: Global,
+    names: FunctionNames<'a>,
+) -> Result<HashMap<u32, &'a [u8]>, NoMemory>
+    ensures { IfOk result (λ t. (k : ℕ) → option_copied (get nat_eq t k) ≡ first_of_index k names.entry) }
+{
+    let mut table = HashMap::new(alloc);
+    for (index, name) in names {
+        keep(&mut table, index, name)?;
+    }
+    Ok(table)
+}
+
+/// The name of an index in the table: none where it is empty.
+fn name_at<'a>(table: &HashMap<u32, &'a [u8]>, index: u32) -> Option<&'a [u8]>
+    ensures { option_copied result ≡ some_name (option_copied (get nat_eq table.now index)) }
+{
+    match table.get(&index) {
+        Some(name) => some_name(name),
+        None => None,
+    }
+}
+
+/// The body at the cursor's place, which is passed.
+#[tactic(auto, unfolding(crate::specs::Functions::body_at), using(crate::proofs::NameLemmas::piece_forward))]
+fn extent(cursor: &mut Cursor) -> Option<Extent>
+    ensures { MatchOption result (body_at cursor.old ≡ None) (λ e. IsRead (body_at cursor.old) cursor.old e cursor.new) }
+{
+    let place = cursor.place();
+    piece(cursor)?;
+    Some(Extent {
+        place,
+        len: cursor.place() - place,
+    })
+}
+
+/// So many bodies from the cursor's place on, with the indices from a first one on and their names. BadWasm at
+/// the first that can't be read.
+#[tactic(auto, using(crate::proofs::RecordLemmas::fault_end, crate::proofs::RecordLemmas::fault_here, crate::proofs::RecordLemmas::values_end))]
+fn numbered<'a>(
+    alloc: Global,
+    cursor: Cursor<'a>,
+    count: u32,
+    first: u32,
+    names: FunctionNames<'a>,
+) -> Result<Vec<Body<'a>>, WasmAnswer>
+    requires { first + length (values_in body_at count cursor) < 2 ^ 32 }
+    ensures { Answers result (under (fault_in body_at count cursor.entry) (numbered names.entry first (values_in body_at count cursor.entry))) }
+{
+    let table = name_table(alloc, names)?;
+    let mut rest = cursor;
+    let mut bodies = Vec::new(alloc);
+    for i in 0..count {
+        let place = rest.place();
+        match extent(&mut rest) {
+            Some(extent) => {
+                let index = first + i;
+                bodies.push(Body {
+                    index,
+                    place: extent.place,
+                    len: extent.len,
+                    name: name_at(&table, index),
+                })?;
+            }
+            None => return Err(WasmAnswer::Bad(bad_wasm(place))),
+        }
+    }
+    Ok(bodies)
+}
+
+/// The bodies of a Code section's contents, none where there is no such section. BadWasm where the count or a
+/// body can't be read.
+#[tactic(auto, unfolding(crate::specs::Functions::bodies_in, crate::specs::Records::vector, crate::specs::Records::fault_in, crate::specs::Records::values_in))]
+pub fn numbered_bodies<'a>(
+    alloc: Global,
+    section: Option<Cursor<'a>>,
+    first: u32,
+    names: FunctionNames<'a>,
+) -> Result<Vec<Body<'a>>, WasmAnswer>
+    requires { first + length (values (bodies_in section)) < 2 ^ 32 }
+    ensures { Answers result (checked (checks_of (bodies_in section.entry)) (numbered names.entry first (values (bodies_in section.entry)))) }
+{
+    let Some(mut cursor) = section else {
+        return Ok(Vec::new(alloc));
+    };
+    let place = cursor.place();
+    match number(&mut cursor) {
+        Some(count) => numbered(alloc, cursor, count, first, names),
+        None => Err(WasmAnswer::Bad(bad_wasm(place))),
+    }
+}
