@@ -4,7 +4,6 @@ use Rattle.std.specs.Prelude.{IsOk, if◌then◌else◌, slice_get}
 use Rattle.std.specs.List.{sum_by}
 use Rattle.std.proofs.lemmas.Bool.Decides.{nat_tests}
 use Rattle.std.proofs.lemmas.List.{take-append-drop, take_all}
-use Rattle.std.proofs.lemmas.Option.{none-some, same_Some}
 use Rattle.std.proofs.lemmas.List.Sums.{sum_by-append, sum_by-cons}
 use Rattle.size_core.specs.declared.fault.BadFile.{BadFile}
 use Rattle.size_core.specs.declared.limits.Limits.{Limits}
@@ -27,9 +26,10 @@ use Rattle.bloaty_engine.specs.declared.outcome.Outcome.TheVariants.{Done, Usage
 use Rattle.bloaty_engine.specs.Counts.{file_size_where, vm_size_where}
 use Rattle.bloaty_engine.specs.Named.{AreHeld}
 use Rattle.bloaty_engine.specs.Sources.{Chosen}
-use Rattle.bloaty_engine.specs.Steps.{EndsAs, EndsFiles, Finds, HasCounted}
+use Rattle.bloaty_engine.specs.Steps.{Batch, EndsAs, EndsFiles, Finds, HasCounted, batch_of}
 use Rattle.bloaty_engine.specs.Verdict.{◌>>=◌, counted_file, counted_from, end_at, file_limit, if_viewed, total_limit}
 use Rattle.bloaty_engine.specs.Views.{Answers, as_view, file_view, of_opened, view_within, viewed, views_of}
+use Rattle.bloaty_engine.proofs.ReadLemmas.{take-next, take-none}
 
 -- One file.
 
@@ -187,18 +187,18 @@ same-counted limits sources old new i lengths mapped (n ∷ names) same =
 
 -- Bytes that are read.
 
--- bytes of files, as they hold them where they tell
-pub some-held : (held : Option Pairs) (names : List (List ℕ)) → (bytes : ℕ → List ℕ) × AreHeld held names bytes
-some-held None names = (λ j. [], tt)
-some-held (Some pairs) names = (λ j. held-at pairs (slice_get names (j - 1)), λ k name at. found pairs k name at)
+-- bytes of files, the first of which has this number, as they hold them where they tell
+pub some-held : (held : Option Pairs) (first : ℕ) (names : List (List ℕ)) → (bytes : ℕ → List ℕ) × AreHeld held first names bytes
+some-held None first names = (λ j. [], tt)
+some-held (Some pairs) first names = (λ j. held-at pairs (slice_get names (j - first)), λ k name at. found pairs k name at)
   where
     held-at : Pairs → Option (List ℕ) → List ℕ
     held-at pairs None = []
     held-at pairs (Some name) = held_bytes pairs name
 
-    found : (pairs : Pairs) (k : ℕ) (name : List ℕ) → slice_get names k ≡ Some name → held-at pairs (slice_get names (k + 1 - 1)) ≡ held_bytes pairs name
+    found : (pairs : Pairs) (k : ℕ) (name : List ℕ) → slice_get names k ≡ Some name → held-at pairs (slice_get names (first + k - first)) ≡ held_bytes pairs name
     found pairs k name at =
-        let p : k + 1 - 1 ≡ k = omega arith in
+        let p : first + k - first ≡ k = omega arith in
         rw (p, at) refl
 
 set-at : (ℕ → List ℕ) → ℕ → List ℕ → ℕ → List ℕ
@@ -213,24 +213,26 @@ unfolding set-at
 set-other bytes i j b lt = ap (λ t. cond t b (bytes j)) (let p : (j == i) ≡ false = grind (arith, nat_tests) in p)
 
 -- the bytes so far and those of one file more
-pub record Extends (held : Option Pairs) (names : List (List ℕ)) (old : ℕ → List ℕ) (i : ℕ) (b : List ℕ) : Type 0 where
+pub record Extends (held : Option Pairs) (first : ℕ) (names : List (List ℕ)) (old : ℕ → List ℕ) (i : ℕ) (b : List ℕ) : Type 0 where
   pub bytes : ℕ → List ℕ
-  pub are : AreHeld held names bytes
+  pub are : AreHeld held first names bytes
   pub here : bytes i ≡ b
   pub before : (j : ℕ) → j < i → old j ≡ bytes j
 
-pub extended : (held : Option Pairs) (names : List (List ℕ)) (old : ℕ → List ℕ) (k : ℕ) (name b : List ℕ) → AreHeld held names old → slice_get names k ≡ Some name → IsHeld held name b → Extends held names old (k + 1) b
-extended None names old k name b are at is = record { bytes = set-at old (k + 1) b; are = tt; here = set-same old (k + 1) b; before = λ j lt. sym (set-other old (k + 1) j b lt) }
-extended (Some pairs) names old k name b are at is = record { bytes = old; are = are; here = are k name at ∙ sym is; before = λ j lt. refl }
+pub extended : (held : Option Pairs) (first : ℕ) (names : List (List ℕ)) (old : ℕ → List ℕ) (k : ℕ) (name b : List ℕ) → AreHeld held first names old → slice_get names k ≡ Some name → IsHeld held name b
+    → Extends held first names old (first + k) b
+extended None first names old k name b are at is =
+    record { bytes = set-at old (first + k) b; are = tt; here = set-same old (first + k) b; before = λ j lt. sym (set-other old (first + k) j b lt) }
+extended (Some pairs) first names old k name b are at is = record { bytes = old; are = are; here = are k name at ∙ sym is; before = λ j lt. refl }
 
--- the files before number k are counted
-pub record AreCountedTo (held : Option Pairs) (limits : Limits) (sources : List Chosen) (filter : Option (List ℕ → Bool)) (names : List (List ℕ)) (k lengths : ℕ) (t : Totals) : Type 0 where
+-- the files of a batch before place k are counted
+pub record AreCountedTo (held : Option Pairs) (limits : Limits) (sources : List Chosen) (filter : Option (List ℕ → Bool)) (batch : Batch) (k lengths : ℕ) (t : Totals) : Type 0 where
   pub bytes : ℕ → List ℕ
-  pub are : AreHeld held names bytes
+  pub are : AreHeld held batch.first batch.names bytes
   pub files : List FileView
-  pub counted : counted_from limits sources bytes 1 0 0 (take k names) ≡ Ok files
+  pub counted : counted_from limits sources bytes batch.first batch.before 0 (take k batch.names) ≡ Ok files
   pub has : HasCounted filter (length sources) files t
-  pub lengths_are : lengths ≡ t.lengths
+  pub lengths_are : lengths ≡ batch.before + t.lengths
 
 take-length : (names : List (List ℕ)) (k : ℕ) → k ≤ length names → length (take k names) ≡ k
 take-length [] zero le = refl
@@ -238,68 +240,66 @@ take-length [] (suc k) le = absurd (omega arith)
 take-length (n ∷ names) zero le = refl
 take-length (n ∷ names) (suc k) le = omega (arith, take-length names k (omega arith))
 
-take-next : (names : List (List ℕ)) (k : ℕ) (name : List ℕ) → slice_get names k ≡ Some name → take (k + 1) names ≡ take k names ++ name ∷ []
-take-next [] k name at = absurd (none-some name at)
-take-next (n ∷ names) zero name at = ap (λ m. m ∷ []) (same_Some n name at)
-take-next (n ∷ names) (suc k) name at =
-    let p : suc k + 1 ≡ suc (k + 1) = omega arith in
-    rw p (ap (λ ms. n ∷ ms) (take-next names k name at))
-
 take-rest : (names : List (List ℕ)) (k : ℕ) (name : List ℕ) → slice_get names k ≡ Some name → take k names ++ name ∷ drop (suc k) names ≡ names
 take-rest names k name at = ap (λ ms. take k names ++ ms) (sym (drop-get names k name at)) ∙ take-append-drop k names
 
-module _ (held : Option Pairs) (limits : Limits) (sources : List Chosen) (filter : Option (List ℕ → Bool)) (names : List (List ℕ)) where
+module _ (held : Option Pairs) (limits : Limits) (sources : List Chosen) (filter : Option (List ℕ → Bool)) (batch : Batch) where
   -- the files so far, with the bytes of one more
-  pub recounted : (k lengths : ℕ) (t : Totals) (b : List ℕ) (to : AreCountedTo held limits sources filter names k lengths t) (more : Extends held names to.bytes (k + 1) b) → k ≤ length names
-      → counted_from limits sources more.bytes 1 0 0 (take k names) ≡ Ok to.files
+  pub recounted : (k lengths : ℕ) (t : Totals) (b : List ℕ) (to : AreCountedTo held limits sources filter batch k lengths t) (more : Extends held batch.first batch.names to.bytes (batch.first + k) b)
+      → k ≤ length batch.names → counted_from limits sources more.bytes batch.first batch.before 0 (take k batch.names) ≡ Ok to.files
   recounted k lengths t b to more le =
-      sym (same-counted limits sources to.bytes more.bytes 1 0 0 (take k names) (λ j low high. more.before j (omega (arith, take-length names k le)))) ∙ to.counted
+      sym (same-counted limits sources to.bytes more.bytes batch.first batch.before 0 (take k batch.names) (λ j low high. more.before j (omega (arith, take-length batch.names k le)))) ∙ to.counted
 
-  behind : (k lengths : ℕ) (t : Totals) (b : List ℕ) (rest : List (List ℕ)) (to : AreCountedTo held limits sources filter names k lengths t) (more : Extends held names to.bytes (k + 1) b) → k ≤ length names
-      → counted_from limits sources more.bytes 1 0 0 (take k names ++ rest) ≡ (counted_from limits sources more.bytes (k + 1) lengths t.mapped rest >>= λ gs. Ok (to.files ++ gs))
+  behind : (k lengths : ℕ) (t : Totals) (b : List ℕ) (rest : List (List ℕ)) (to : AreCountedTo held limits sources filter batch k lengths t) (more : Extends held batch.first batch.names to.bytes (batch.first + k) b)
+      → k ≤ length batch.names
+      → counted_from limits sources more.bytes batch.first batch.before 0 (take k batch.names ++ rest) ≡ (counted_from limits sources more.bytes (batch.first + k) lengths t.mapped rest >>= λ gs. Ok (to.files ++ gs))
   behind k lengths t b rest to more le =
-      let p : 1 + length (take k names) ≡ k + 1 = omega (arith, take-length names k le) in
-      let q : 0 + lens to.files ≡ lengths = omega (arith, to.has.lengths, to.lengths_are) in
+      let p : batch.first + length (take k batch.names) ≡ batch.first + k = omega (arith, take-length batch.names k le) in
+      let q : batch.before + lens to.files ≡ lengths = omega (arith, to.has.lengths, to.lengths_are) in
       let r : 0 + maps to.files ≡ t.mapped = omega (arith, to.has.mapped) in
-      counted-append limits sources more.bytes 1 0 0 (take k names) rest to.files (recounted k lengths t b to more le)
-      ∙ (ap (λ i. counted_from limits sources more.bytes i (0 + lens to.files) (0 + maps to.files) rest >>= λ gs. Ok (to.files ++ gs)) p
-      ∙ (ap (λ n. counted_from limits sources more.bytes (k + 1) n (0 + maps to.files) rest >>= λ gs. Ok (to.files ++ gs)) q
-      ∙ ap (λ n. counted_from limits sources more.bytes (k + 1) lengths n rest >>= λ gs. Ok (to.files ++ gs)) r))
+      counted-append limits sources more.bytes batch.first batch.before 0 (take k batch.names) rest to.files (recounted k lengths t b to more le)
+      ∙ (ap (λ i. counted_from limits sources more.bytes i (batch.before + lens to.files) (0 + maps to.files) rest >>= λ gs. Ok (to.files ++ gs)) p
+      ∙ (ap (λ n. counted_from limits sources more.bytes (batch.first + k) n (0 + maps to.files) rest >>= λ gs. Ok (to.files ++ gs)) q
+      ∙ ap (λ n. counted_from limits sources more.bytes (batch.first + k) lengths n rest >>= λ gs. Ok (to.files ++ gs)) r))
 
   -- one file more is counted
-  pub counted-next : (k lengths more_lengths : ℕ) (old new : Totals) (name b : List ℕ) (f : FileView) (to : AreCountedTo held limits sources filter names k lengths old) (more : Extends held names to.bytes (k + 1) b)
-      → slice_get names k ≡ Some name → k ≤ length names → counted_file limits sources (k + 1) lengths old.mapped name b ≡ Ok f → HasCounted filter (length sources) (to.files ++ f ∷ []) new → more_lengths ≡ new.lengths
-      → AreCountedTo held limits sources filter names (k + 1) more_lengths new
+  pub counted-next : (k lengths more_lengths : ℕ) (old new : Totals) (name b : List ℕ) (f : FileView) (to : AreCountedTo held limits sources filter batch k lengths old)
+      (more : Extends held batch.first batch.names to.bytes (batch.first + k) b)
+      → slice_get batch.names k ≡ Some name → k ≤ length batch.names → counted_file limits sources (batch.first + k) lengths old.mapped name b ≡ Ok f
+      → HasCounted filter (length sources) (to.files ++ f ∷ []) new → more_lengths ≡ batch.before + new.lengths → AreCountedTo held limits sources filter batch (k + 1) more_lengths new
   counted-next k lengths more_lengths old new name b f to more at le is has lengths_are =
-      let file : counted_file limits sources (k + 1) lengths old.mapped name (more.bytes (k + 1)) ≡ Ok f = rw more.here is in
+      let file : counted_file limits sources (batch.first + k) lengths old.mapped name (more.bytes (batch.first + k)) ≡ Ok f = rw more.here is in
       record {
         bytes = more.bytes;
         are = more.are;
         files = to.files ++ f ∷ [];
-        counted = ap (counted_from limits sources more.bytes 1 0 0) (take-next names k name at) ∙ (behind k lengths old b (name ∷ []) to more le ∙ rw file refl);
+        counted = ap (counted_from limits sources more.bytes batch.first batch.before 0) (take-next batch.names k name at) ∙ (behind k lengths old b (name ∷ []) to more le ∙ rw file refl);
         has = has;
         lengths_are = lengths_are;
       }
 
   -- the run ends at one file
-  pub counted-stop : (k lengths : ℕ) (t : Totals) (name b : List ℕ) (end : Outcome) (to : AreCountedTo held limits sources filter names k lengths t) (more : Extends held names to.bytes (k + 1) b)
-      → slice_get names k ≡ Some name → k ≤ length names → counted_file limits sources (k + 1) lengths t.mapped name b ≡ Err end → counted_from limits sources more.bytes 1 0 0 names ≡ Err end
+  pub counted-stop : (k lengths : ℕ) (t : Totals) (name b : List ℕ) (end : Outcome) (to : AreCountedTo held limits sources filter batch k lengths t)
+      (more : Extends held batch.first batch.names to.bytes (batch.first + k) b)
+      → slice_get batch.names k ≡ Some name → k ≤ length batch.names → counted_file limits sources (batch.first + k) lengths t.mapped name b ≡ Err end
+      → counted_from limits sources more.bytes batch.first batch.before 0 batch.names ≡ Err end
   counted-stop k lengths t name b end to more at le is =
-      let file : counted_file limits sources (k + 1) lengths t.mapped name (more.bytes (k + 1)) ≡ Err end = rw more.here is in
-      ap (counted_from limits sources more.bytes 1 0 0) (sym (take-rest names k name at)) ∙ (behind k lengths t b (name ∷ drop (suc k) names) to more le ∙ rw file refl)
+      let file : counted_file limits sources (batch.first + k) lengths t.mapped name (more.bytes (batch.first + k)) ≡ Err end = rw more.here is in
+      ap (counted_from limits sources more.bytes batch.first batch.before 0) (sym (take-rest batch.names k name at)) ∙ (behind k lengths t b (name ∷ drop (suc k) batch.names) to more le ∙ rw file refl)
 
   ok-is : {X E : Type 0} (r : Result X E) (x : X) → r ≡ Ok x → IsOk r
   ok-is (Ok y) x e = refl
   ok-is (Err y) x e = cc
 
   -- how a run ends at a read
-  pub read-ends : (k lengths limit : ℕ) (t : Totals) (name b : List ℕ) (end : Outcome) (to : AreCountedTo held limits sources filter names k lengths t) (more : Extends held names to.bytes (k + 1) b)
-      → slice_get names k ≡ Some name → k < length names → lengths ≤ total_limit limits → limit ≡ min (file_limit limits) (total_limit limits - lengths) → Finds (k + 1) limit b (Err end)
-      → (bytes : ℕ → List ℕ) × AreHeld held names bytes × EndsFiles limits sources filter names bytes (Err end)
+  pub read-ends : (k lengths limit : ℕ) (t : Totals) (name b : List ℕ) (end : Outcome) (to : AreCountedTo held limits sources filter batch k lengths t)
+      (more : Extends held batch.first batch.names to.bytes (batch.first + k) b)
+      → slice_get batch.names k ≡ Some name → k < length batch.names → lengths ≤ total_limit limits → limit ≡ min (file_limit limits) (total_limit limits - lengths) → Finds (batch.first + k) limit b (Err end)
+      → (bytes : ℕ → List ℕ) × AreHeld held batch.first batch.names bytes × EndsFiles limits sources filter batch bytes (Err end)
   read-ends k lengths limit t name b (ReadFailed i) to more at lt le is e = (more.bytes, more.are, (k, e, lt, ok-is _ to.files (recounted k lengths t b to more (omega arith))))
   read-ends k lengths limit t name b (TooLong i) to more at lt le is e =
-      let long : counted_file limits sources (k + 1) lengths t.mapped name b ≡ Err (TooLong (k + 1)) = counted-long limits sources (k + 1) lengths t.mapped name b (rw (← is) e.1) le in
-      (more.bytes, more.are, rw e.0 (counted-stop k lengths t name b (TooLong (k + 1)) to more at (omega arith) long))
+      let long : counted_file limits sources (batch.first + k) lengths t.mapped name b ≡ Err (TooLong (batch.first + k)) = counted-long limits sources (batch.first + k) lengths t.mapped name b (rw (← is) e.1) le in
+      (more.bytes, more.are, rw e.0 (counted-stop k lengths t name b (TooLong (batch.first + k)) to more at (omega arith) long))
   read-ends k lengths limit t name b NoMemory to more at lt le is e = (more.bytes, more.are, tt)
   read-ends k lengths limit t name b Done to more at lt le is e = absurd e
   read-ends k lengths limit t name b (Usage kind) to more at lt le is e = absurd e
@@ -313,15 +313,17 @@ module _ (held : Option Pairs) (limits : Limits) (sources : List Chosen) (filter
   read-ends k lengths limit t name b WriteFailed to more at lt le is e = absurd e
 
   -- how a run ends at a file that is read
-  pub count-ends : (k lengths : ℕ) (t : Totals) (name b : List ℕ) (end : Outcome) (to : AreCountedTo held limits sources filter names k lengths t) (more : Extends held names to.bytes (k + 1) b)
-      → slice_get names k ≡ Some name → k < length names → EndsAs {X = FileView} (Err end) (counted_file limits sources (k + 1) t.lengths t.mapped name b)
-      → (bytes : ℕ → List ℕ) × AreHeld held names bytes × EndsFiles limits sources filter names bytes (Err end)
-  count-ends k lengths t name b end to more at lt e = by-end end (rw (← to.lengths_are) at e)
+  pub count-ends : (k lengths : ℕ) (t : Totals) (name b : List ℕ) (end : Outcome) (to : AreCountedTo held limits sources filter batch k lengths t)
+      (more : Extends held batch.first batch.names to.bytes (batch.first + k) b)
+      → slice_get batch.names k ≡ Some name → k < length batch.names → EndsAs {X = FileView} (Err end) (counted_file limits sources (batch.first + k) lengths t.mapped name b)
+      → (bytes : ℕ → List ℕ) × AreHeld held batch.first batch.names bytes × EndsFiles limits sources filter batch bytes (Err end)
+  count-ends k lengths t name b end to more at lt e = by-end end e
     where
-      stopped : (end : Outcome) → counted_file limits sources (k + 1) lengths t.mapped name b ≡ Err end → counted_from limits sources more.bytes 1 0 0 names ≡ Err end
+      stopped : (end : Outcome) → counted_file limits sources (batch.first + k) lengths t.mapped name b ≡ Err end → counted_from limits sources more.bytes batch.first batch.before 0 batch.names ≡ Err end
       stopped end e = counted-stop k lengths t name b end to more at (omega arith) e
 
-      by-end : (end : Outcome) → EndsAs {X = FileView} (Err end) (counted_file limits sources (k + 1) lengths t.mapped name b) → (bytes : ℕ → List ℕ) × AreHeld held names bytes × EndsFiles limits sources filter names bytes (Err end)
+      by-end : (end : Outcome) → EndsAs {X = FileView} (Err end) (counted_file limits sources (batch.first + k) lengths t.mapped name b)
+          → (bytes : ℕ → List ℕ) × AreHeld held batch.first batch.names bytes × EndsFiles limits sources filter batch bytes (Err end)
       by-end (ReadFailed i) e = absurd e
       by-end NoMemory e = (more.bytes, more.are, tt)
       by-end (TooLong i) e = (more.bytes, more.are, stopped (TooLong i) e)
@@ -337,23 +339,20 @@ module _ (held : Option Pairs) (limits : Limits) (sources : List Chosen) (filter
       by-end WriteFailed e = (more.bytes, more.are, stopped WriteFailed e)
 
   -- all files
-  pub all-counted : (k lengths : ℕ) (t : Totals) → AreCountedTo held limits sources filter names k lengths t → length names ≤ k
-      → (bytes : ℕ → List ℕ) × AreHeld held names bytes × EndsFiles limits sources filter names bytes (Ok t)
-  all-counted k lengths t to le = (to.bytes, to.are, (to.files, ap (counted_from limits sources to.bytes 1 0 0) (sym (take_all k names le)) ∙ to.counted, to.has))
-
-  take-none : (ns : List (List ℕ)) → take 0 ns ≡ []
-  take-none [] = refl
-  take-none (n ∷ ns) = refl
+  pub all-counted : (k lengths : ℕ) (t : Totals) → AreCountedTo held limits sources filter batch k lengths t → length batch.names ≤ k
+      → (bytes : ℕ → List ℕ) × AreHeld held batch.first batch.names bytes × EndsFiles limits sources filter batch bytes (Ok t)
+  all-counted k lengths t to le =
+      (to.bytes, to.are, (to.files, ap (counted_from limits sources to.bytes batch.first batch.before 0) (sym (take_all k batch.names le)) ∙ to.counted, to.has))
 
   -- no file yet
-  pub counted-none : (depth : ℕ) → depth ≡ length sources → AreCountedTo held limits sources filter names 0 0 (record { depth = depth; rows = []; lengths = 0; mapped = 0 })
+  pub counted-none : (depth : ℕ) → depth ≡ length sources → AreCountedTo held limits sources filter batch 0 batch.before (record { depth = depth; rows = []; lengths = 0; mapped = 0 })
   counted-none depth is = record {
-    bytes = (some-held held names).0;
-    are = (some-held held names).1;
+    bytes = (some-held held batch.first batch.names).0;
+    are = (some-held held batch.first batch.names).1;
     files = [];
-    counted = ap (counted_from limits sources (some-held held names).0 1 0 0) (take-none names);
+    counted = ap (counted_from limits sources (some-held held batch.first batch.names).0 batch.first batch.before 0) (take-none batch.names);
     has = none-counted filter (length sources) depth is;
-    lengths_are = refl;
+    lengths_are = omega arith;
   }
 
 -- a step that went well gave something
@@ -372,6 +371,28 @@ made-long limits sources name file lt =
 pub made-counted : (limits : Limits) (sources : List Chosen) (name file : List ℕ) (f : FileView) → counted_file limits sources 1 0 0 name file ≡ Ok f
     → (counted_file limits sources 1 0 0 name file >>= λ g. (Ok [] >>= λ others. Ok (g ∷ others))) ≡ Ok (f ∷ [])
 made-counted limits sources name file f e = ap (λ r. r >>= λ g. (Ok [] >>= λ others. Ok (g ∷ others))) e
+
+pub made-ends : (limits : Limits) (sources : List Chosen) (filter : Option (List ℕ → Bool)) (name file : List ℕ) (end : Outcome) → EndsAs {X = FileView} (Err end) (counted_file limits sources 1 0 0 name file)
+    → EndsFiles limits sources filter (batch_of 0 0 (name ∷ [])) (λ i. file) (Err end)
+made-ends limits sources filter name file end e = by-end end e
+  where
+    stopped : (end : Outcome) → counted_file limits sources 1 0 0 name file ≡ Err end → (counted_file limits sources 1 0 0 name file >>= λ g. (Ok [] >>= λ others. Ok (g ∷ others))) ≡ Err end
+    stopped end e = ap (λ r. r >>= λ g. (Ok [] >>= λ others. Ok (g ∷ others))) e
+
+    by-end : (end : Outcome) → EndsAs {X = FileView} (Err end) (counted_file limits sources 1 0 0 name file) → EndsFiles limits sources filter (batch_of 0 0 (name ∷ [])) (λ i. file) (Err end)
+    by-end (ReadFailed i) e = absurd e
+    by-end NoMemory e = tt
+    by-end (TooLong i) e = stopped (TooLong i) e
+    by-end Done e = stopped Done e
+    by-end (Usage kind) e = stopped (Usage kind) e
+    by-end (Config kind offset) e = stopped (Config kind offset) e
+    by-end (UnknownSource i) e = stopped (UnknownSource i) e
+    by-end (PatternSyntax i) e = stopped (PatternSyntax i) e
+    by-end (PatternTooBig i) e = stopped (PatternTooBig i) e
+    by-end (Bad i fault offset) e = stopped (Bad i fault offset) e
+    by-end (TooManyClaims i) e = stopped (TooManyClaims i) e
+    by-end MappedTooLarge e = stopped MappedTooLarge e
+    by-end WriteFailed e = stopped WriteFailed e
 
 -- what may still be read is within the limit of all files
 pub min-within : (file total lengths limit : ℕ) → limit ≡ min file (total - lengths) → limit ≤ total - lengths

@@ -5,5 +5,8 @@ pub mod MapLemmas
 pub mod NumberLemmas
 pub mod PlanLemmas
 pub mod ProfileLemmas
+pub mod ReadLemmas
 pub mod RunLemmas
+pub mod SidesLemmas
 pub mod SpellLemmas
+pub mod TakenLemmas

@@ -1,5 +1,5 @@
 -- How the maps of a file grow, data source by data source.
-use Rattle.std.proofs.Common.{◌≡◌, ◌+◌, ◌*◌, ◌-◌, ◌<◌, ◌≤◌, ℕ, suc, true, false, cond, nat_lt, List, [], ◌∷◌, ◌++◌, length, drop, Result, Ok, Err, Some, refl, sym, ap, ◌∙◌, append_assoc, arith}
+use Rattle.std.proofs.Common.{◌≡◌, ◌+◌, ◌-◌, ◌<◌, ◌≤◌, ℕ, suc, true, false, cond, nat_lt, List, [], ◌∷◌, ◌++◌, length, drop, Result, Ok, Err, Some, refl, sym, ap, ◌∙◌, append_assoc, arith}
 use Rattle.std.specs.Prelude.{All, slice_get, IsOkAnd}
 use Rattle.std.specs.List.{sum_by}
 use Rattle.std.proofs.lemmas.Bool.Decides.{nat_tests}
@@ -20,9 +20,9 @@ use Rattle.rollup.specs.Adding.{piece_count}
 use Rattle.bloaty_engine.specs.declared.answer.ProfileAnswer.{ProfileAnswer}
 use Rattle.bloaty_engine.specs.declared.answer.ProfileAnswer.TheVariants.{Bad, TooManyClaims}
 use Rattle.bloaty_engine.specs.declared.maps.Mapped.{Mapped}
-use Rattle.bloaty_engine.specs.Counts.{step_bound}
+use Rattle.bloaty_engine.specs.Counts.{piece_bound, step_bound}
 use Rattle.bloaty_engine.specs.Sources.{Chosen}
-use Rattle.bloaty_engine.specs.Spelling.{AllSpell, AreMapped, IsMapped, file_at, piece_bound}
+use Rattle.bloaty_engine.specs.Spelling.{AllSpell, AreMapped, IsMapped, file_at}
 use Rattle.bloaty_engine.specs.Views.{before_views, source_view, views_after, views_of}
 use Rattle.bloaty_engine.proofs.SpellLemmas.{AllSpell-kept, AllSpell-more}
 
@@ -95,7 +95,7 @@ kept-length old new kept = omega (arith, ap length kept.is, length-append old ke
 bound-more : (layout : Layout) (views : List SourceView) (chosen : Chosen) (made : List LabelledClaim)
     → step_bound (file_at layout (views ++ source_view chosen made ∷ [])) ≡ step_bound (file_at layout views) + piece_bound (length layout.loads) (length made)
 bound-more layout views chosen made =
-    let bound : SourceView → ℕ = (λ (s : SourceView). 4 * length s.claims * (2 * length layout.loads + 1) + 2 * (2 * length layout.loads + 1) + 4) in
+    let bound : SourceView → ℕ = (λ (s : SourceView). piece_bound (length layout.loads) (length s.claims)) in
     let size : length (source_view chosen made).claims ≡ length made = length-map made (relabelled (λ label. rewritten label chosen.rewrites)) in
     let same : bound (source_view chosen made) ≡ piece_bound (length layout.loads) (length made) = ap (λ n. piece_bound (length layout.loads) n) size in
     sum_by-append bound views (source_view chosen made ∷ []) ∙ ap (λ n. sum_by bound views + n) (sum_by-cons bound (source_view chosen made) [] ∙ (omega (arith, same)))

@@ -1,19 +1,15 @@
 -- How a run ends, by what its steps answer.
-use Rattle.std.proofs.Common.{◌≡◌, ℕ, zero, suc, ◌+◌, ◌≤◌, Bool, true, false, cond, ◌||◌, nat_lt, List, [], ◌∷◌, length, Option, None, Some, Result, Ok, Err, refl, sym, ap, ◌∙◌, arith}
+use Rattle.std.proofs.Common.{◌≡◌, ℕ, zero, suc, ◌+◌, Bool, true, false, cond, ◌||◌, nat_lt, List, [], ◌∷◌, length, Option, None, Some, Result, Ok, Err, refl, sym, ap, ◌∙◌, arith}
 use Rattle.std.specs.Prelude.{⊤, IfSome, IsOk, slice_get, unwrap_or, Vec}
 use Rattle.std.specs.declared.alloc.Global.{Global}
 use Rattle.size_core.specs.declared.limits.Limits.{Limits}
 use Rattle.size_model.specs.declared.view.FileView.{FileView}
 use Rattle.size_model.specs.Loads.{mapped_count}
-use Rattle.outside.specs.Causes.{Rose}
 use Rattle.outside.specs.Held.{Pairs}
 use Rattle.config_text.specs.declared.config.CustomSource.{CustomSource}
 use Rattle.config_text.specs.Config.{config}
 use Rattle.config_text.specs.Grammar.{Fault as ConfigFault}
 use Rattle.elf_synth.specs.Made.{made}
-use Rattle.rollup.specs.Totals.{IsTotals, Totals}
-use Rattle.report_rows.specs.declared.row.RowOptions.{RowOptions}
-use Rattle.report_rows.specs.Rows.{row_tree}
 use Rattle.size_options.specs.declared.chosen.Options.{Options}
 use Rattle.size_options.specs.declared.answer.UsageKind.{UsageKind}
 use Rattle.size_options.specs.declared.answer.UsageKind.TheVariants as usage
@@ -24,17 +20,18 @@ use Rattle.bloaty_engine.specs.declared.outcome.Outcome.TheVariants.{Done, Usage
 use Rattle.size_options.specs.Answers.{IsUsageOf, are_taken}
 use Rattle.size_options.specs.Asked.{asked as options_of}
 use Rattle.bloaty_engine.specs.Answers.{IsFinished, EndsReport, IsAnswer, IsAsked, IsReached, IsRun}
-use Rattle.bloaty_engine.specs.Counts.{filter_test}
-use Rattle.bloaty_engine.specs.Named.{AreContents, AreFiles, Contents, IsText, file_name, file_names, name_at, names_of}
+use Rattle.bloaty_engine.specs.Named.{AreContents, AreFiles, AreHeld, Contents, IsText, file_name, file_names, name_at}
 use Rattle.bloaty_engine.specs.Patterns.{ArePatterns}
 use Rattle.bloaty_engine.specs.Plans.{EndsPlan, IsPlan, Plans}
-use Rattle.bloaty_engine.specs.Report.{AreSizes, IsReport, depth_of, printed, report_tree, row_options}
+use Rattle.bloaty_engine.specs.Reports.{EndsCounting}
 use Rattle.bloaty_engine.specs.Sources.{Chosen, chosen_before, chosen_from, chosen_named, chosen_sources}
-use Rattle.bloaty_engine.specs.Steps.{EndsConfig, EndsFiles}
-use Rattle.bloaty_engine.specs.Verdict.{◌>>=◌, Request, asked, config_limit, counted_file, counted_from, customs_in, end_at, file_limit, if_config, if_unknown, if_viewed, total_limit, verdict}
+use Rattle.bloaty_engine.specs.Steps.{EndsConfig}
+use Rattle.bloaty_engine.specs.Verdict.{◌>>=◌, Request, Sides, asked, config_limit, counted_file, counted_from, counted_sides, customs_in, end_at, file_limit, if_config, if_unknown, if_viewed, lengths_of, total_limit, verdict}
 use Rattle.bloaty_engine.specs.Views.{viewed}
 use Rattle.bloaty_engine.proofs.FileLemmas.{some-held}
 use Rattle.bloaty_engine.proofs.HeldLemmas.{held-some}
+use Rattle.bloaty_engine.proofs.ReadLemmas.{get-behind, get-front}
+use Rattle.bloaty_engine.proofs.SidesLemmas.{behind-held, beyond, front-files}
 
 ok-same : {X E : Type 0} (x y : X) → ◌≡◌ {A = Result X E} (Ok x) (Ok y) → x ≡ y
 ok-same x y e = cc
@@ -68,13 +65,13 @@ asked-known limits o contents customs sources e k =
 verdict-asked : (limits : Limits) (o : Options) (contents : Contents) (end : Outcome) → asked limits (Ok o) contents ≡ Err end → verdict limits (Ok o) contents ≡ Err end
 unfolding verdict
 verdict-asked limits o contents end e =
-    ap (λ r. r >>= λ q. counted_from limits q.sources contents.files 1 0 0 (file_names q.options) >>= λ files. Ok (record { request = q; files = files })) e
+    ap (λ r. r >>= λ q. counted_sides limits q.sources contents.files (file_names q.options) q.options.bases >>= λ sides. Ok (record { request = q; sides = sides })) e
 
 verdict-files : (limits : Limits) (o : Options) (contents : Contents) (r : Request) → asked limits (Ok o) contents ≡ Ok r
-    → verdict limits (Ok o) contents ≡ (counted_from limits r.sources contents.files 1 0 0 (file_names r.options) >>= λ files. Ok (record { request = r; files = files }))
+    → verdict limits (Ok o) contents ≡ (counted_sides limits r.sources contents.files (file_names r.options) r.options.bases >>= λ sides. Ok (record { request = r; sides = sides }))
 unfolding verdict
 verdict-files limits o contents r e =
-    ap (λ p. p >>= λ q. counted_from limits q.sources contents.files 1 0 0 (file_names q.options) >>= λ files. Ok (record { request = q; files = files })) e
+    ap (λ p. p >>= λ q. counted_sides limits q.sources contents.files (file_names q.options) q.options.bases >>= λ sides. Ok (record { request = q; sides = sides })) e
 
 -- Which ends a step may have.
 
@@ -151,9 +148,17 @@ counted-error limits sources files i lengths mapped (n ∷ names) end e =
     by-file (Ok f) at next = by-rest f (counted_from limits sources files (i + 1) (lengths + f.len) (mapped + mapped_count f.loads) names) refl (rw at at e) next
     by-file (Err x) at next = file-end end x (file-error limits sources i lengths mapped n (files i) x at) (err-same _ _ (rw at at e))
 
--- the tree of a report hangs on the depth and the rows alone
-tree-same : (ro : RowOptions) (t : Totals) (n : ℕ) → t.depth ≡ n → row_tree ro t ≡ row_tree ro (record { depth = n; rows = t.rows; lengths = 0; mapped = 0 })
-tree-same ro t n e = ap (λ d. row_tree ro (record { depth = d; rows = t.rows; lengths = 0; mapped = 0 })) e
+sides-error : (limits : Limits) (sources : List Chosen) (files : ℕ → List ℕ) (names bases : List (List ℕ)) (end : Outcome) → counted_sides limits sources files names bases ≡ Err end → IsFileEnd end
+unfolding counted_sides
+sides-error limits sources files names bases end e = by-files (counted_from limits sources files 1 0 0 names) refl
+  where
+    by-bases : (fs : List FileView) (r : Result (List FileView) Outcome) → counted_from limits sources files (length names + 1) (lengths_of fs) 0 bases ≡ r → ◌>>=◌ {B = Sides} r (λ bs. Ok (record { files = fs; bases = bs })) ≡ Err end → IsFileEnd end
+    by-bases fs (Ok bs) at wrong = cc
+    by-bases fs (Err x) at wrong = file-end end x (counted-error limits sources files (length names + 1) (lengths_of fs) 0 bases x at) (err-same _ _ wrong)
+
+    by-files : (r : Result (List FileView) Outcome) → counted_from limits sources files 1 0 0 names ≡ r → IsFileEnd end
+    by-files (Ok fs) at = by-bases fs (counted_from limits sources files (length names + 1) (lengths_of fs) 0 bases) refl (rw at at e)
+    by-files (Err x) at = file-end end x (counted-error limits sources files 1 0 0 names x at) (err-same _ _ (rw at at e))
 
 -- each name has its data source
 chosen-count : (customs : List CustomSource) (i : ℕ) (names : List (List ℕ)) (sources : List Chosen) → chosen_from customs i names ≡ Ok sources → length sources ≡ length names
@@ -177,24 +182,23 @@ pub planned-count : (customs : List CustomSource) (names : List (List ℕ)) (sou
 planned-count customs names sources e = chosen-count customs 1 names sources e
 
 -- a file never ends a run by a pattern
-pub never-big : (limits : Limits) (sources : List Chosen) (filter : Option (List ℕ → Bool)) (names : List (List ℕ)) (files : ℕ → List ℕ) (i : ℕ) → EndsFiles limits sources filter names files (Err (PatternTooBig i)) → ⊥
+pub never-big : (limits : Limits) (sources : List Chosen) (files : ℕ → List ℕ) (o : Options) (i : ℕ) → EndsCounting limits sources files o (Err (PatternTooBig i)) → ⊥
 unfolding IsFileEnd
-never-big limits sources filter names files i e = counted-error limits sources files 1 0 0 names (PatternTooBig i) e
-
--- want of memory is no failed read
-pub memory-read : (o : Options) (i : ℕ) → NoMemory ≡ ReadFailed i → o.synth ≡ None
-memory-read o i e = cc
-
--- a count that rose later rose
-pub rose-later : (a b n : ℕ) → a ≤ b → Rose b n → Rose a n
-rose-later a b n le r = grind arith
+never-big limits sources files o i e = sides-error limits sources files (file_names o) o.bases (PatternTooBig i) e
 
 -- What the steps decide of the run.
 
 -- bytes of files, where they aren't read
 some-files : (held : Option Pairs) (synth : Option ℕ) (names : List (List ℕ)) → (files : ℕ → List ℕ) × AreFiles held synth names files
-some-files held None names = some-held held names
+some-files held None names = some-held held 1 names
 some-files held (Some n) names = (λ i. made n, refl)
+
+-- bytes of files and base files, where they aren't read
+pub some-bytes : (held : Option Pairs) (o : Options) → (files : ℕ → List ℕ) × AreFiles held o.synth o.files files × AreHeld held (length (file_names o) + 1) o.bases files
+some-bytes held o =
+    let front = some-files held o.synth o.files in
+    let behind = some-held held (length (file_names o) + 1) o.bases in
+    (beyond (length (file_names o)) front.0 behind.0, front-files held o.synth o.files front.0 behind.0 front.1, behind-held held (length (file_names o)) o.bases front.0 behind.0 behind.1)
 
 -- a run ends so over some bytes of its files
 abbrev pub RunsTo : Option Pairs → Limits → Options → List ℕ → Result (Vec ℕ Global) Outcome → Type 0
@@ -210,11 +214,11 @@ no-end false p q = cc
 module _ (held : Option Pairs) (limits : Limits) (o : Options) (last text : List ℕ) (is-text : IsText held o.config text) where
   -- over bytes of files that aren't read
   unread : Contents
-  unread = contents-of text (some-files held o.synth o.files).0
+  unread = contents-of text (some-bytes held o).0
 
   unread-are : AreContents held o unread
   unfolding contents-of unread
-  unread-are = record { config = is-text; files = (some-files held o.synth o.files).1 }
+  unread-are = record { config = is-text; files = (some-bytes held o).1; bases = (some-bytes held o).2 }
 
   from-verdict : (end : Outcome) → customs_in limits o.config text ≡ Err end → verdict limits (Ok o) unread ≡ Err end
   unfolding contents-of unread
@@ -264,13 +268,14 @@ module _ (held : Option Pairs) (limits : Limits) (o : Options) (last text : List
     ends-plan MappedTooLarge e = absurd e
     ends-plan WriteFailed e = absurd e
 
-    module _ (p : Plans) (planned : IsPlan o.sources o.filter customs p) (files : ℕ → List ℕ) (are : AreFiles held o.synth o.files files) where
+    module _ (p : Plans) (planned : IsPlan o.sources o.filter customs p) (files : ℕ → List ℕ) (are : AreFiles held o.synth o.files files)
+        (bases-are : AreHeld held (length (file_names o) + 1) o.bases files) where
       read : Contents
       read = contents-of text files
 
       read-are : AreContents held o read
       unfolding contents-of read
-      read-are = record { config = is-text; files = are }
+      read-are = record { config = is-text; files = are; bases = bases-are }
 
       asked-read : asked limits (Ok o) read ≡ Ok (request-of o customs p.sources)
       unfolding contents-of read
@@ -280,56 +285,40 @@ module _ (held : Option Pairs) (limits : Limits) (o : Options) (last text : List
       unfolding request-of
       patterns-read = (request-of o customs p.sources, asked-read, planned.patterns)
 
-      counted-read : Result (List FileView) Outcome
-      counted-read = counted_from limits p.sources files 1 0 0 (file_names o)
+      counted-read : Result Sides Outcome
+      counted-read = counted_sides limits p.sources files (file_names o) o.bases
 
-      verdict-read : (r : Result (List FileView) Outcome) → counted-read ≡ r → verdict limits (Ok o) read ≡ (r >>= λ fs. Ok (record { request = request-of o customs p.sources; files = fs }))
+      verdict-read : (r : Result Sides Outcome) → counted-read ≡ r → verdict limits (Ok o) read ≡ (r >>= λ sides. Ok (record { request = request-of o customs p.sources; sides = sides }))
       unfolding contents-of read request-of counted-read
-      verdict-read r e = verdict-files limits o read (request-of o customs p.sources) asked-read ∙ ap (λ q. q >>= λ fs. Ok (record { request = request-of o customs p.sources; files = fs })) e
+      verdict-read r e = verdict-files limits o read (request-of o customs p.sources) asked-read ∙ ap (λ q. q >>= λ sides. Ok (record { request = request-of o customs p.sources; sides = sides })) e
 
       verdict-end : (end : Outcome) → counted-read ≡ Err end → verdict limits (Ok o) read ≡ Err end
       verdict-end end e = verdict-read (Err end) e
 
       not-end : (end : Outcome) → counted-read ≡ Err end → IsFileEnd end
       unfolding counted-read
-      not-end end e = counted-error limits p.sources files 1 0 0 (file_names o) end e
+      not-end end e = sides-error limits p.sources files (file_names o) o.bases end e
 
-      pub ends-files : (end : Outcome) → ((i : ℕ) → end ≡ ReadFailed i → o.synth ≡ None) → EndsFiles limits p.sources (filter_test p.filter) (file_names o) files (Err end) → RunsTo held limits o last (Err end)
+      -- how the run ends at its files, or the report that it has
+      pub ends-counting : (r : Result (Vec ℕ Global) Outcome) → EndsCounting limits p.sources files o r → RunsTo held limits o last r
       unfolding IsFileEnd counted-read contents-of read request-of
-      ends-files (ReadFailed i) unmade e =
+      ends-counting (Ok out) e = (read, read-are, ((record { request = request-of o customs p.sources; sides = e.0 }, out.items, verdict-read (Ok e.0) e.1, e.2, refl), patterns-read))
+      ends-counting (Err (ReadFailed i)) e =
           let i-is : i ≡ suc e.0 = omega (arith, e.1) in
-          let reached : IsReached limits (Ok o) read (suc e.0) = (request-of o customs p.sources, asked-read, (unmade i refl, e.2, e.3)) in
+          let reached : IsReached limits (Ok o) read (suc e.0) = (request-of o customs p.sources, asked-read, (e.2, e.3, e.4)) in
           (read, read-are, (rw i-is reached, (λ q. patterns-read), refl))
-      ends-files NoMemory unmade e = (read, read-are, (tt, (λ q. cc), refl))
-      ends-files (TooLong i) unmade e = (read, read-are, (verdict-end (TooLong i) e, (λ q. patterns-read), refl))
-      ends-files (Bad i fault offset) unmade e = (read, read-are, (verdict-end (Bad i fault offset) e, (λ q. patterns-read), refl))
-      ends-files (TooManyClaims i) unmade e = (read, read-are, (verdict-end (TooManyClaims i) e, (λ q. patterns-read), refl))
-      ends-files MappedTooLarge unmade e = (read, read-are, (verdict-end MappedTooLarge e, (λ q. patterns-read), refl))
-      ends-files Done unmade e = absurd (not-end Done e)
-      ends-files (Usage kind) unmade e = absurd (not-end (Usage kind) e)
-      ends-files (Config kind offset) unmade e = absurd (not-end (Config kind offset) e)
-      ends-files (UnknownSource i) unmade e = absurd (not-end (UnknownSource i) e)
-      ends-files (PatternSyntax i) unmade e = absurd (not-end (PatternSyntax i) e)
-      ends-files (PatternTooBig i) unmade e = absurd (not-end (PatternTooBig i) e)
-      ends-files WriteFailed unmade e = absurd (not-end WriteFailed e)
-
-      -- the report of the files that were counted
-      pub ends-report : (t : Totals) (out : Vec ℕ Global) → EndsFiles limits p.sources (filter_test p.filter) (file_names o) files (Ok t) → IsTotals t.depth t.rows t.lengths t.mapped → length p.sources ≡ length o.sources
-          → out.items ≡ printed o (row_tree (row_options o) t) → RunsTo held limits o last (Ok out)
-      unfolding counted-read contents-of read request-of
-      ends-report t out e totals same is =
-          let filter : p.filter ≡ o.filter = planned.filter in
-          let depth : t.depth ≡ length o.sources = e.2.depth ∙ same in
-          let tree : row_tree (row_options o) t ≡ report_tree o t.rows = tree-same (row_options o) t (length o.sources) depth in
-          let sizes : AreSizes (filter_test o.filter) (depth_of o) e.0 t.rows = record {
-            ordered = totals.ordered;
-            deep = rw depth at totals.deep;
-            some = totals.some;
-            file = rw filter at e.2.file;
-            vm = rw filter at e.2.vm;
-          } in
-          let report : IsReport (record { request = request-of o customs p.sources; files = e.0 }) out.items = record { rows = t.rows; sizes = sizes; is = is ∙ ap (printed o) tree } in
-          (read, read-are, ((record { request = request-of o customs p.sources; files = e.0 }, out.items, verdict-read (Ok e.0) e.1, report, refl), patterns-read))
+      ends-counting (Err NoMemory) e = (read, read-are, (tt, (λ q. cc), refl))
+      ends-counting (Err (TooLong i)) e = (read, read-are, (verdict-end (TooLong i) e, (λ q. patterns-read), refl))
+      ends-counting (Err (Bad i fault offset)) e = (read, read-are, (verdict-end (Bad i fault offset) e, (λ q. patterns-read), refl))
+      ends-counting (Err (TooManyClaims i)) e = (read, read-are, (verdict-end (TooManyClaims i) e, (λ q. patterns-read), refl))
+      ends-counting (Err MappedTooLarge) e = (read, read-are, (verdict-end MappedTooLarge e, (λ q. patterns-read), refl))
+      ends-counting (Err Done) e = absurd (not-end Done e)
+      ends-counting (Err (Usage kind)) e = absurd (not-end (Usage kind) e)
+      ends-counting (Err (Config kind offset)) e = absurd (not-end (Config kind offset) e)
+      ends-counting (Err (UnknownSource i)) e = absurd (not-end (UnknownSource i) e)
+      ends-counting (Err (PatternSyntax i)) e = absurd (not-end (PatternSyntax i) e)
+      ends-counting (Err (PatternTooBig i)) e = absurd (not-end (PatternTooBig i) e)
+      ends-counting (Err WriteFailed) e = absurd (not-end WriteFailed e)
 
 -- What is told of the words.
 
@@ -342,14 +331,14 @@ named-file o i (Some n) named = sym (ap (λ name. unwrap_or name []) named)
 some-contents : (held : Option Pairs) (given : Result Options UsageKind) → (contents : Contents) × ((o : Options) → given ≡ Ok o → AreContents held o contents)
 unfolding contents-of
 some-contents held (Err kind) = (contents-of [] (λ i. []), λ o e. cc)
-some-contents held (Ok o) = (contents-of (some-text held o.config).0 (some-files held o.synth o.files).0, λ p e. of-options held o p (ok-same o p e))
+some-contents held (Ok o) = (contents-of (some-text held o.config).0 (some-bytes held o).0, λ p e. of-options held o p (ok-same o p e))
   where
     some-text : (held : Option Pairs) (name : Option (List ℕ)) → (text : List ℕ) × IsText held name text
     some-text held None = ([], tt)
     some-text held (Some name) = held-some held name
 
-    of-options : (held : Option Pairs) (o p : Options) → o ≡ p → AreContents held p (contents-of (some-text held o.config).0 (some-files held o.synth o.files).0)
-    of-options held o p same = rw (← same) (record { config = (some-text held o.config).1; files = (some-files held o.synth o.files).1 })
+    of-options : (held : Option Pairs) (o p : Options) → o ≡ p → AreContents held p (contents-of (some-text held o.config).0 (some-bytes held o).0)
+    of-options held o p same = rw (← same) (record { config = (some-text held o.config).1; files = (some-bytes held o).1; bases = (some-bytes held o).2 })
 
 -- words that are misused end the run so
 usage-verdict : (limits : Limits) (given : Result Options UsageKind) (contents : Contents) (kind : UsageKind) → given ≡ Err kind → verdict limits given contents ≡ Err (Usage kind)
@@ -379,10 +368,16 @@ no-memory-run held limits given last out =
     (some.0, record { bytes = some.1; is = tt; patterns = λ e. cc; written = refl })
 
 -- where no file is made, the names are those of the words
-pub none-name : (o : Options) (k : ℕ) → o.synth ≡ None → name_at o (k + 1) ≡ slice_get o.files k
-none-name o k e =
+pub none-name : (o : Options) (k : ℕ) (name : List ℕ) → o.synth ≡ None → slice_get o.files k ≡ Some name → name_at o (k + 1) ≡ Some name
+none-name o k name e at =
     let p : k + 1 ≡ suc k = omega arith in
-    rw p (ap (λ made. slice_get (names_of made o.files) k) e)
+    rw (p, e) (get-front o.files o.bases k name at)
+
+-- behind them stand those of the base files
+pub base-name : (o : Options) (k : ℕ) (name : List ℕ) → slice_get o.bases k ≡ Some name → name_at o (length (file_names o) + k + 1) ≡ Some name
+base-name o k name at =
+    let p : length (file_names o) + k + 1 ≡ suc (length (file_names o) + k) = omega arith in
+    rw p (get-behind (file_names o) o.bases k ∙ at)
 
 -- Runs that nothing interrupts.
 

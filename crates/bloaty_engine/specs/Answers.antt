@@ -1,5 +1,5 @@
 -- What a run answers and writes, by the options of its words and the bytes of its files.
-use Rattle.std.specs.Prelude.{⊤, ◌≡◌, ℕ, zero, suc, ◌<◌, Bool, true, false, not, List, length, Option, None, Some, Result, Ok, Err, Vec, IsOk}
+use Rattle.std.specs.Prelude.{⊤, ◌≡◌, ℕ, zero, suc, ◌<◌, Bool, true, false, not, List, length, Option, Some, Result, Ok, Err, Vec, IsOk}
 use Rattle.std.specs.declared.alloc.Global.{Global}
 use Rattle.size_core.specs.declared.limits.Limits.{Limits}
 use Rattle.outside.specs.Grown.{Grew, GrewByPart}
@@ -10,9 +10,9 @@ use Rattle.size_options.specs.declared.answer.UsageKind.{UsageKind}
 use Rattle.size_options.specs.declared.answer.UsageKind.TheVariants as usage
 use Rattle.bloaty_engine.specs.declared.outcome.Outcome.{Outcome}
 use Rattle.bloaty_engine.specs.declared.outcome.Outcome.TheVariants.{Done, Usage, ReadFailed, TooLong, Config, UnknownSource, PatternSyntax, PatternTooBig, Bad, TooManyClaims, MappedTooLarge, WriteFailed, NoMemory}
-use Rattle.bloaty_engine.specs.Named.{AreContents, Contents, file_names}
+use Rattle.bloaty_engine.specs.Named.{AreContents, Contents, all_names}
 use Rattle.bloaty_engine.specs.Patterns.{ArePatterns, StopsAt}
-use Rattle.bloaty_engine.specs.Report.{IsReport}
+use Rattle.bloaty_engine.specs.Reports.{IsReport, IsUnmade}
 use Rattle.bloaty_engine.specs.Verdict.{Counted, Request, asked, counted_files, verdict}
 
 -- the words and the configuration have no fault, and what they ask is so
@@ -20,11 +20,11 @@ abbrev pub IsAsked : Limits → Result Options UsageKind → Contents → (Reque
 IsAsked limits given contents P = (r : Request) × (asked limits given contents ≡ Ok r) × P r
 
 -- Where a read of file i may fail: the configuration is read once the words are taken, and a file once the files before
--- it are counted. A made file isn't read.
+-- it are counted.
 abbrev pub IsReached : Limits → Result Options UsageKind → Contents → ℕ → Type 0
 IsReached limits given contents zero = (o : Options) × (given ≡ Ok o) × ((name : List ℕ) × (o.config ≡ Some name))
 IsReached limits given contents (suc k) =
-    IsAsked limits given contents (λ r. (r.options.synth ≡ None) × (k < length (file_names r.options)) × IsOk (counted_files limits r contents k))
+    IsAsked limits given contents (λ r. IsUnmade r.options.synth k × (k < length (all_names r.options)) × IsOk (counted_files limits r.sources contents.files r.options k))
 
 -- An answer is the verdict, or it interrupts the run at a place that no fault of the verdict stands before. `last` is
 -- the last pattern that was refused for its size.
@@ -94,7 +94,7 @@ ends_without test (Err end) = not (test end)
 
 -- what was written: the report whole, or a proper prefix of it, or nothing
 abbrev pub HasReport : Limits → Result Options UsageKind → Contents → (List ℕ → Type 0) → Type 0
-HasReport limits given contents P = (c : Counted) × (text : List ℕ) × (verdict limits given contents ≡ Ok c) × IsReport c text × P text
+HasReport limits given contents P = (c : Counted) × (text : List ℕ) × (verdict limits given contents ≡ Ok c) × IsReport c.request.options c.sides text × P text
 
 abbrev pub Writes : Limits → Result Options UsageKind → Contents → Option (List ℕ) → Option (List ℕ) → Outcome → Type 0
 Writes limits given contents old new Done = HasReport limits given contents (Grew old new)

@@ -27,7 +27,10 @@ abbrev pub vm_size_where : Option (List ℕ → Bool) → (List (List ℕ) → B
 vm_size_where filter test f =
     count_from (λ p. is_mapped f.loads p && (passes filter (position_path f p) && test (position_path f p))) 0 (2 ^ 96)
 
+-- how many pieces the maps of so many claims have at most
+abbrev pub piece_bound : ℕ → ℕ → ℕ
+piece_bound loads claims = 4 * claims * (2 * loads + 1) + 2 * (2 * loads + 1) + 4
+
 -- how many steps a file takes at most: for each data source, by its claims and the file's loads
 abbrev pub step_bound : FileView → ℕ
-step_bound f =
-    sum_by (λ (s : SourceView). 4 * length s.claims * (2 * length f.loads + 1) + 2 * (2 * length f.loads + 1) + 4) f.sources
+step_bound f = sum_by (λ (s : SourceView). piece_bound (length f.loads) (length s.claims)) f.sources

@@ -1,13 +1,16 @@
 pub mod Answers
 pub mod Choices
 pub mod Counts
+pub mod GrowthReport
 pub mod Line
 pub mod Named
 pub mod Numbering
 pub mod Patterns
 pub mod Plans
+pub mod Reading
 pub mod Reasons
 pub mod Report
+pub mod Reports
 pub mod Sources
 pub mod Spelling
 pub mod Status

@@ -1,5 +1,6 @@
--- The files of a run by number: the configuration is file 0, and the files of the words have the numbers from 1 on.
-use Rattle.std.specs.Prelude.{◌≡◌, ℕ, ◌+◌, zero, suc, List, [], ◌∷◌, codes, slice_get, unwrap_or, Option, None, Some, Result, Ok, Err, ⊤}
+-- The files of a run by number: the configuration is file 0, the files of the words have the numbers from 1 on, and the
+-- base files those behind them.
+use Rattle.std.specs.Prelude.{◌≡◌, ℕ, ◌+◌, zero, suc, List, [], ◌∷◌, ◌++◌, codes, length, slice_get, unwrap_or, Option, None, Some, Result, Ok, Err, ⊤}
 use Rattle.outside.specs.Held.{Pairs, held_bytes, IsHeld}
 use Rattle.elf_synth.specs.Made.{made}
 use Rattle.size_options.specs.declared.chosen.Options.{Options}
@@ -18,10 +19,14 @@ names_of (Some n) files = codes "synth" ∷ []
 abbrev pub file_names : Options → List (List ℕ)
 file_names o = names_of o.synth o.files
 
+-- and those of the base files
+abbrev pub all_names : Options → List (List ℕ)
+all_names o = file_names o ++ o.bases
+
 -- the name of the file of a number
 abbrev pub name_at : Options → ℕ → Option (List ℕ)
 name_at o zero = o.config
-name_at o (suc k) = slice_get (file_names o) k
+name_at o (suc k) = slice_get (all_names o) k
 
 -- what the words name so: a file by its number, and a data source by its own from 1 on
 abbrev pub file_name : Result Options UsageKind → ℕ → List ℕ
@@ -38,17 +43,18 @@ abbrev pub IsText : Option Pairs → Option (List ℕ) → List ℕ → Type 0
 IsText held None text = ⊤
 IsText held (Some name) text = IsHeld held name text
 
--- and so have the files that are read
-abbrev pub AreHeld : Option Pairs → List (List ℕ) → (ℕ → List ℕ) → Type 0
-AreHeld None names files = ⊤
-AreHeld (Some pairs) names files = (k : ℕ) (name : List ℕ) → slice_get names k ≡ Some name → files (k + 1) ≡ held_bytes pairs name
+-- and so have files that are read, of which the first has this number
+abbrev pub AreHeld : Option Pairs → ℕ → List (List ℕ) → (ℕ → List ℕ) → Type 0
+AreHeld None first names files = ⊤
+AreHeld (Some pairs) first names files = (k : ℕ) (name : List ℕ) → slice_get names k ≡ Some name → files (first + k) ≡ held_bytes pairs name
 
 -- a made file has the bytes of its number, and the others are read
 abbrev pub AreFiles : Option Pairs → Option ℕ → List (List ℕ) → (ℕ → List ℕ) → Type 0
-AreFiles held None names files = AreHeld held names files
+AreFiles held None names files = AreHeld held 1 names files
 AreFiles held (Some n) names files = files 1 ≡ made n
 
 -- these are the bytes of the files
 pub record AreContents (held : Option Pairs) (o : Options) (c : Contents) : Type 0 where
   pub config : IsText held o.config c.config
   pub files : AreFiles held o.synth o.files c.files
+  pub bases : AreHeld held (length (file_names o) + 1) o.bases c.files

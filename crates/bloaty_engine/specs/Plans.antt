@@ -8,17 +8,20 @@ use Rattle.bloaty_engine.specs.declared.asked.PlanAnswer.{PlanAnswer}
 use Rattle.bloaty_engine.specs.declared.asked.PlanAnswer.TheVariants.{UnknownSource, PatternSyntax, PatternTooBig, NoMemory}
 use Rattle.bloaty_engine.specs.declared.outcome.Outcome.{Outcome}
 use Rattle.bloaty_engine.specs.declared.outcome.Outcome.TheVariants as ends
+use Rattle.bloaty_engine.specs.Choices.{rewrite_lists}
 use Rattle.bloaty_engine.specs.Patterns.{ArePatterns, StopsAt}
 use Rattle.bloaty_engine.specs.Sources.{Chosen, chosen_sources}
 
--- the data sources asked, in their order, and the filter's pattern
+-- the data sources asked, in their order, the rewrites of each custom data source, asked or not, and the filter's pattern
 pub record Plans : Type 0 where
   pub sources : List Chosen
+  pub customs : List (List Rewrite)
   pub filter : Option (List ℕ)
 
 -- this is what the names, the custom data sources and the filter ask, and each pattern is one of the grammar
 pub record IsPlan (names : List (List ℕ)) (pattern : Option (List ℕ)) (customs : List CustomSource) (p : Plans) : Type 0 where
   pub sources : chosen_sources customs names ≡ Ok p.sources
+  pub rewrites : p.customs ≡ rewrite_lists customs
   pub filter : p.filter ≡ pattern
   pub patterns : ArePatterns pattern customs
 

@@ -1,4 +1,4 @@
--- The report of files.
+-- The report of the sizes of files.
 use Rattle.std.specs.Prelude.{◌≡◌, ◌⊎◌, ℕ, ◌<◌, Bool, List, length, Option, None, All}
 use Rattle.std.specs.List.{sum_by}
 use Rattle.std.specs.List.Sorted.{IsStrictlySortedBy}
@@ -12,13 +12,13 @@ use Rattle.rollup.specs.Adding.{file_where, vm_where}
 use Rattle.rollup.specs.Totals.{row_cmp}
 use Rattle.report_rows.specs.declared.row.RowOptions.{RowOptions}
 use Rattle.report_rows.specs.declared.row.RowTree.{RowTree}
+use Rattle.report_rows.specs.Paths.{ShowsPaths}
 use Rattle.report_rows.specs.Rows.{row_tree}
 use Rattle.report_rows.specs.Tables.{file_sum, under_path, vm_sum}
 use Rattle.report_text.specs.Lines.{report_text}
 use Rattle.report_text.specs.Records.{csv_text, tsv_text}
 use Rattle.size_options.specs.declared.chosen.Options.{Options}
 use Rattle.bloaty_engine.specs.Counts.{file_size_where, filter_test, vm_size_where}
-use Rattle.bloaty_engine.specs.Verdict.{Counted}
 
 -- The rows of files: each full path with a size above 0, once and in ascending order, with its sizes over all files. For
 -- every set of paths, as that of one path or of those that begin so, the sizes of its rows add up to the numbers of bytes
@@ -58,6 +58,13 @@ abbrev pub TotalsAreWhole : Type 0
 TotalsAreWhole = (o : Options) (files : List FileView) (rows : List RollupRow)
     → o.filter ≡ None → AreSizes (filter_test o.filter) (depth_of o) files rows → HasWholeTotals files (report_tree o rows)
 
+-- The rows of a report show its files: the row of a label has the sizes of its path over all files, read off the rows
+-- above it, an Others row the sums of the labels that are left out, and each label with a shown size has its row or is
+-- one of those.
+abbrev pub RowsShowFiles : Type 0
+RowsShowFiles = (o : Options) (files : List FileView) (rows : List RollupRow) → AreSizes (filter_test o.filter) (depth_of o) files rows
+    → ShowsPaths (row_options o) (vm_size (filter_test o.filter) files) (file_size (filter_test o.filter) files) (depth_of o) (report_tree o rows).rows
+
 abbrev pub printed_as : Format → Options → RowTree → List ℕ
 printed_as Text o tree = report_text tree o.domain o.wide
 printed_as Csv o tree = csv_text tree o.domain o.sources
@@ -67,8 +74,8 @@ printed_as Tsv o tree = tsv_text tree o.domain o.sources
 unfoldable pub printed : Options → RowTree → List ℕ
 printed o tree = printed_as o.format o tree
 
--- the report of the files of a run
-pub record IsReport (c : Counted) (text : List ℕ) : Type 0 where
+-- the report of the sizes of files
+pub record IsSizeReport (o : Options) (files : List FileView) (text : List ℕ) : Type 0 where
   pub rows : List RollupRow
-  pub sizes : AreSizes (filter_test c.request.options.filter) (depth_of c.request.options) c.files rows
-  pub is : text ≡ printed c.request.options (report_tree c.request.options rows)
+  pub sizes : AreSizes (filter_test o.filter) (depth_of o) files rows
+  pub is : text ≡ printed o (report_tree o rows)

@@ -1,5 +1,5 @@
 -- What the maps of a file's data sources say of its bytes.
-use Rattle.std.specs.Prelude.{◌≡◌, ℕ, ◌+◌, ◌*◌, ◌<◌, ◌≤◌, ⊤, true, List, [], ◌∷◌, length, slice_get, Option, Some, Ok, All}
+use Rattle.std.specs.Prelude.{◌≡◌, ℕ, ◌+◌, ◌<◌, ◌≤◌, ⊤, true, List, [], ◌∷◌, length, slice_get, Option, Some, Ok, All}
 use Rattle.size_model.specs.declared.view.FileView.{FileView}
 use Rattle.size_model.specs.declared.view.LabelledClaim.{LabelledClaim}
 use Rattle.size_model.specs.declared.view.SourceView.{SourceView}
@@ -11,7 +11,7 @@ use Rattle.data_sources.specs.Sources.{claims_of}
 use Rattle.dual_map.specs.Layout.{IsOver, LabelsBelow, Layout, Maps}
 use Rattle.rollup.specs.Adding.{piece_count}
 use Rattle.bloaty_engine.specs.declared.maps.Mapped.{Mapped}
-use Rattle.bloaty_engine.specs.Counts.{step_bound}
+use Rattle.bloaty_engine.specs.Counts.{piece_bound, step_bound}
 use Rattle.bloaty_engine.specs.Sources.{Chosen}
 use Rattle.bloaty_engine.specs.Views.{source_view, views_of}
 
@@ -34,10 +34,6 @@ AllSpell layout pool [] [] = ⊤
 AllSpell layout pool (m ∷ ms) (s ∷ ss) = Spells layout pool m s × AllSpell layout pool ms ss
 AllSpell layout pool [] (s ∷ ss) = ⊥
 AllSpell layout pool (m ∷ ms) [] = ⊥
-
--- how many pieces the maps of so many claims have at most
-abbrev pub piece_bound : ℕ → ℕ → ℕ
-piece_bound loads claims = 4 * claims * (2 * loads + 1) + 2 * (2 * loads + 1) + 4
 
 -- these are the maps of what a data source says of the file of this name
 pub record IsMapped (limit : ℕ) (layout : Layout) (chosen : Chosen) (name : List ℕ) (binary : Binary) (pool : List (List ℕ)) (m : Mapped) : Type 0 where

@@ -44,10 +44,24 @@ pub record HasCounted (filter : Option (List ℕ → Bool)) (count : ℕ) (files
   pub file : (test : List (List ℕ) → Bool) → file_where test t.rows ≡ sum_by (file_size_where filter test) files
   pub vm : (test : List (List ℕ) → Bool) → vm_where test t.rows ≡ sum_by (vm_size_where filter test) files
 
--- the files of these names with these bytes were counted, or the run ended at one of them, or at a read that failed where
--- the files before it were counted
-abbrev pub EndsFiles : Limits → List Chosen → Option (List ℕ → Bool) → List (List ℕ) → (ℕ → List ℕ) → Result Totals Outcome → Type 0
-EndsFiles limits sources filter names files (Ok t) = (fs : List FileView) × (counted_from limits sources files 1 0 0 names ≡ Ok fs) × HasCounted filter (length sources) fs t
-EndsFiles limits sources filter names files (Err (ReadFailed i)) = (k : ℕ) × (i ≡ k + 1) × (k < length names) × IsOk (counted_from limits sources files 1 0 0 (take k names))
-EndsFiles limits sources filter names files (Err NoMemory) = ⊤
-EndsFiles limits sources filter names files (Err end) = counted_from limits sources files 1 0 0 names ≡ Err end
+-- files that are counted together: those of these names, the first of which has this number, behind files of these lengths
+pub record Batch : Type 0 where
+  pub first : ℕ
+  pub before : ℕ
+  pub names : List (List ℕ)
+
+-- the files of these names behind so many files of these lengths
+abbrev pub batch_of : ℕ → ℕ → List (List ℕ) → Batch
+batch_of count lengths names = record { first = count + 1; before = lengths; names = names }
+
+abbrev pub counted_batch : Limits → List Chosen → (ℕ → List ℕ) → Batch → Result (List FileView) Outcome
+counted_batch limits sources files b = counted_from limits sources files b.first b.before 0 b.names
+
+-- the files with these bytes were counted, or the run ended at one of them, or at a read that failed where the files before
+-- it were counted
+abbrev pub EndsFiles : Limits → List Chosen → Option (List ℕ → Bool) → Batch → (ℕ → List ℕ) → Result Totals Outcome → Type 0
+EndsFiles limits sources filter b files (Ok t) = (fs : List FileView) × (counted_batch limits sources files b ≡ Ok fs) × HasCounted filter (length sources) fs t
+EndsFiles limits sources filter b files (Err (ReadFailed i)) =
+    (k : ℕ) × (i ≡ b.first + k) × (k < length b.names) × IsOk (counted_batch limits sources files (record b { names = take k b.names }))
+EndsFiles limits sources filter b files (Err NoMemory) = ⊤
+EndsFiles limits sources filter b files (Err end) = counted_batch limits sources files b ≡ Err end

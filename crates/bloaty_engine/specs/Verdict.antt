@@ -1,5 +1,6 @@
 -- What the words and the bytes of the files decide.
 use Rattle.std.specs.Prelude.{ℕ, ◌+◌, ◌-◌, ◌^◌, min, ◌||◌, nat_lt, List, [], ◌∷◌, length, take, Option, None, Some, Result, Ok, Err, if◌then◌else◌}
+use Rattle.std.specs.List.{sum_by}
 use Rattle.size_core.specs.declared.limits.Limits.{Limits}
 use Rattle.size_model.specs.declared.view.FileView.{FileView}
 use Rattle.size_model.specs.Loads.{mapped_count}
@@ -88,18 +89,35 @@ counted_from limits sources files i lengths mapped (name ∷ names) = do
   others ← counted_from limits sources files (i + 1) (lengths + file.len) (mapped + mapped_count file.loads) names
   Ok (file ∷ others)
 
--- the first n of the files asked
-abbrev pub counted_files : Limits → Request → Contents → ℕ → Result (List FileView) Outcome
-counted_files limits r contents n = counted_from limits r.sources contents.files 1 0 0 (take n (file_names r.options))
+-- the lengths of files together
+abbrev pub lengths_of : List FileView → ℕ
+lengths_of files = sum_by (λ (f : FileView). f.len) files
+
+-- the files and the base files as they are counted
+pub record Sides : Type 0 where
+  pub files : List FileView
+  pub bases : List FileView
+
+-- The files of these names, and then base files of these names, whose numbers go on. The lengths of all are added up; the
+-- mapped sizes of the base files are added up anew.
+unfoldable pub counted_sides : Limits → List Chosen → (ℕ → List ℕ) → List (List ℕ) → List (List ℕ) → Result Sides Outcome
+counted_sides limits sources files names base_names = do
+  counted ← counted_from limits sources files 1 0 0 names
+  bases ← counted_from limits sources files (length names + 1) (lengths_of counted) 0 base_names
+  Ok (record { files = counted; bases = bases })
+
+-- the first n of the files asked, and behind the last of them the first of the base files
+abbrev pub counted_files : Limits → List Chosen → (ℕ → List ℕ) → Options → ℕ → Result Sides Outcome
+counted_files limits sources files o n = counted_sides limits sources files (take n (file_names o)) (take (n - length (file_names o)) o.bases)
 
 -- what a report is made of: what is asked, and the files as they are counted
 pub record Counted : Type 0 where
   pub request : Request
-  pub files : List FileView
+  pub sides : Sides
 
 -- how a run over these bytes ends, or what its report is made of
 unfoldable pub verdict : Limits → Result Options UsageKind → Contents → Result Counted Outcome
 verdict limits given contents = do
   r ← asked limits given contents
-  files ← counted_from limits r.sources contents.files 1 0 0 (file_names r.options)
-  Ok (record { request = r; files = files })
+  sides ← counted_sides limits r.sources contents.files (file_names r.options) r.options.bases
+  Ok (record { request = r; sides = sides })

@@ -44,7 +44,8 @@ pub struct Choice {
     pub rewrites: Option<usize>,
 }
 
-/// What a run asks of each file. Contracts see the data sources, each with its rewrites, and the filter's pattern.
+/// What a run asks of each file. Contracts see the data sources, each with its rewrites, the rewrites of all custom data
+/// sources, and the filter's pattern.
 #[derive(Drop)]
 pub struct Plan {
     choices: Vec<Choice>,
@@ -59,7 +60,7 @@ impl Model for Plan {
 
     ghost Value = { Plans };
 
-    ghost view = { λ p. record { sources = map (chosen_in p.rewrites.items) p.choices.items; filter = p.filter } };
+    ghost view = { λ p. record { sources = map (chosen_in p.rewrites.items) p.choices.items; customs = p.rewrites.items; filter = p.filter } };
 
     ghost invariant = { λ p. All (IsChoice (length p.rewrites.items)) p.choices.items };
 }
@@ -72,7 +73,7 @@ impl Plan {
         filter: Option<LabelPattern>,
     ) -> Plan
         requires { All (IsChoice (length rewrites.items)) choices.items }
-        ensures { result ≡ record { sources = map (chosen_in rewrites.items) choices.items; filter = filter } }
+        ensures { result ≡ record { sources = map (chosen_in rewrites.items) choices.items; customs = rewrites.items; filter = filter } }
     {
         Plan {
             choices,

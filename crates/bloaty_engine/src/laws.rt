@@ -1,12 +1,22 @@
 //! What follows for the rows of a report and its totals.
 
-ghost use Rattle.bloaty_engine.specs.Report.{RowsCountPaths, TotalsAreWhole};
+ghost use Rattle.bloaty_engine.specs.Report.{RowsCountPaths, RowsShowFiles, TotalsAreWhole};
 
 /// A law: the sizes of the row of a path are the numbers of bytes and of mapped addresses whose paths begin with it.
 pub fn rows_count_paths()
     ensures { RowsCountPaths }
 {
     report_rows::sizes_by_prefix();
+}
+
+/// A law: the rows of a report show its files. The row of a label has the sizes of its path, which is read off the rows
+/// above it; an Others row has the sums of just the labels that are left out; and each label with a shown size has its
+/// row or is one of those.
+pub fn rows_show_files()
+    ensures { RowsShowFiles }
+{
+    rows_count_paths();
+    report_rows::rows_show_paths();
 }
 
 /// A law: without a filter the totals of a report are the lengths of the files, and the numbers of addresses they map.

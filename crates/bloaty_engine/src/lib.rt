@@ -5,6 +5,7 @@ mod answer;
 mod asked;
 mod claims;
 mod files;
+mod growth;
 mod laws;
 mod line;
 mod maps;
@@ -17,7 +18,7 @@ mod run;
 
 pub use answer::ProfileAnswer;
 pub use asked::{Plan, PlanAnswer};
-pub use laws::{rows_count_paths, totals_are_whole};
+pub use laws::{rows_count_paths, rows_show_files, totals_are_whole};
 pub use outcome::Outcome;
 pub use planning::plan;
 pub use profile::profile_file;

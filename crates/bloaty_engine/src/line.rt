@@ -1,6 +1,6 @@
 //! The line that tells how a run ended.
 
-ghost use Rattle.std.specs.Prelude.{◌≡◌, ◌≤◌, ◌<◌, ◌++◌, List, ℕ, Ok, Err, codes, decimal, OnOk, OnErr};
+ghost use Rattle.std.specs.Prelude.{◌≡◌, ◌≤◌, ◌<◌, ◌++◌, [], List, ℕ, Ok, Err, codes, decimal, slice_get, unwrap_or, OnOk, OnErr};
 ghost use Rattle.outside.specs.Causes.{Rose};
 ghost use Rattle.outside.specs.Grown.{Grew};
 ghost use Rattle.size_options.specs.declared.answer.UsageKind.{UsageKind as UsageKindSpec};
@@ -48,6 +48,16 @@ fn config_number(kind: ConfigKind) -> u64
     }
 }
 
+// The name of a base file by its place among them.
+fn base_name(options: &Options, place: usize) -> &[u8]
+    ensures { result.now ≡ unwrap_or (slice_get options.now.bases place) [] }
+{
+    if place < options.bases.len() {
+        return options.bases.get(place).as_slice();
+    }
+    &[]
+}
+
 // The name of a file by its number.
 fn file_name(options: &Options, number: usize) -> &[u8]
     ensures { result.now ≡ file_name (Ok options.now) number }
@@ -60,8 +70,9 @@ fn file_name(options: &Options, number: usize) -> &[u8]
     }
     match options.synth {
         Some(_) if number == 1 => b"synth",
+        Some(_) => base_name(options, number - 2),
         None if number <= options.files.len() => options.files.get(number - 1).as_slice(),
-        _ => &[],
+        None => base_name(options, number - 1 - options.files.len()),
     }
 }
 

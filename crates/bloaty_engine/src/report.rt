@@ -1,18 +1,23 @@
 //! The report of a run, up to its text.
 
-ghost use Rattle.std.specs.Prelude.{◌≡◌, ◌+◌, ◌<◌, ◌≤◌, ◌++◌, ℕ, List, None, Some, length, IfOk, IfSome, OnOk, IsErrOf, true};
+ghost use Rattle.std.specs.Prelude.{◌≡◌, ◌+◌, ◌-◌, ◌^◌, ◌<◌, ◌≤◌, ◌++◌, ℕ, List, Some, length, IfOk, IfSome, OnOk, IsErrOf, true};
 ghost use Rattle.outside.specs.Causes.{Rose};
+ghost use Rattle.outside.specs.Held.{IsTaken};
 ghost use Rattle.report_rows.specs.Rows.{row_tree};
 ghost use Rattle.report_rows.specs.Trees.{IsTree};
 ghost use Rattle.size_options.specs.Answers.{HasInput, KeepsLimits};
 ghost use Rattle.bloaty_engine.specs.Answers.{EndsReport, ends_without, is_failed_read, is_refused_pattern};
 ghost use Rattle.bloaty_engine.specs.Counts.{filter_test};
-ghost use Rattle.bloaty_engine.specs.Named.{AreContents, AreFiles, Contents, file_names, name_at};
+ghost use Rattle.bloaty_engine.specs.Named.{AreContents, AreFiles, AreHeld, Contents, file_names, name_at};
+ghost use Rattle.bloaty_engine.specs.Reading.{IsOverLimit, ReadsFirst, files_to_read, made_len, names_to_read, unmade_names};
 ghost use Rattle.bloaty_engine.specs.Report.{printed, row_options};
-ghost use Rattle.bloaty_engine.specs.Steps.{EndsFiles};
+ghost use Rattle.bloaty_engine.specs.Reports.{EndsCounting, IsUnmade};
+ghost use Rattle.bloaty_engine.specs.Steps.{EndsFiles, batch_of};
+ghost use Rattle.bloaty_engine.specs.Verdict.{total_limit};
 
 use crate::asked::Plan;
-use crate::files::{count_files, count_made};
+use crate::files::{count_files, count_made, file_count};
+use crate::growth::growth_report;
 use crate::outcome::Outcome;
 use crate::request::{customs_of, plan_of};
 use custom_rewrites::Patterns;
@@ -24,26 +29,43 @@ use size_core::{Format, Limits, NoMemory};
 use size_options::Options;
 use std::alloc::Global;
 
-// Counts the files of the options, or the made file.
+// How many files there are in all. No two lists that memory holds are longer together than a number can tell.
+fn count_all(options: &Options) -> Option<usize>
+    ensures { IfSome result (λ n. n ≡ length (file_names options.now) + length options.now.bases) }
+{
+    file_count(options).checked_add(options.bases.len())
+}
+
+// Counts the files of the options, or the made file. `lengths` is how many bytes they have.
 fn total_of<F: Files>(
     alloc: Global,
     options: &Options,
     plan: &Plan,
     files: &mut F,
     limits: &Limits,
+    lengths: &mut u64,
 ) -> Result<Rollup, Outcome>
     requires few { length plan.now.sources ≤ 8 }
     requires input { HasInput options.now.synth options.now.files }
-    ensures counted { (bytes : ℕ → List ℕ) × AreFiles (F.held files.old) options.now.synth options.now.files bytes × EndsFiles limits.now plan.now.sources (filter_test plan.now.filter) (file_names options.now) bytes result }
+    requires numbers { length (file_names options.now) < 2 ^ 64 }
+    requires none { lengths.old ≡ 0 }
+    ensures counted { let batch = batch_of 0 0 (file_names options.now) in
+        (bytes : ℕ → List ℕ) × AreFiles (F.held files.old) options.now.synth options.now.files bytes × EndsFiles limits.now plan.now.sources (filter_test plan.now.filter) batch bytes result }
+    ensures lengths { IfOk result (λ t. lengths.new ≡ t.lengths) }
+    ensures room { lengths.new ≤ total_limit limits.now }
     ensures failed { (k : ℕ) → IsErrOf result (Outcome.ReadFailed (k + 1)) → Rose (F.faults files.old) (F.faults files.new) × IfSome (F.last_failed files.new) (λ n. name_at options.now (k + 1) ≡ Some n) }
-    ensures unmade { (i : ℕ) → IsErrOf result (Outcome.ReadFailed i) → options.now.synth ≡ None }
+    ensures unmade { (k : ℕ) → IsErrOf result (Outcome.ReadFailed (k + 1)) → IsUnmade options.now.synth k }
+    ensures asked { ReadsFirst (F.asked files.old) (F.asked files.new) (unmade_names options.now.synth options.now.files) }
+    ensures all { OnOk result (F.asked files.new ≡ F.asked files.old ++ unmade_names options.now.synth options.now.files) }
+    ensures taken { OnOk result (IsTaken (F.held files.old) (lengths.new - made_len options.now.synth) (F.taken files.old) (F.taken files.new)) }
+    ensures long { (i : ℕ) → IsErrOf result (Outcome.TooLong i) → IsOverLimit limits.now options.now.synth i (F.held files.old) (F.taken files.old) (F.taken files.new) }
     ensures held { F.held files.new ≡ F.held files.old }
     ensures later { F.faults files.old ≤ F.faults files.new }
     ensures uncounted { ends_without is_failed_read result ≡ true → F.faults files.new ≡ F.faults files.old }
 {
     match options.synth {
-        Some(n) => count_made(alloc, n, plan, limits),
-        None => count_files(alloc, &options.files, plan, files, limits),
+        Some(n) => count_made(alloc, n, plan, limits, lengths),
+        None => count_files(alloc, &options.files, 0, plan, files, limits, lengths),
     }
 }
 
@@ -82,6 +104,39 @@ fn report_of(alloc: Global, options: &Options, total: &Rollup) -> Result<Vec<u8>
     Ok(out)
 }
 
+// Counts all files, and makes their report.
+fn report_of_files<F: Files>(
+    alloc: Global,
+    options: &Options,
+    plan: &Plan,
+    files: &mut F,
+    limits: &Limits,
+) -> Result<Vec<u8>, Outcome>
+    requires few { length plan.now.sources ≤ 8 }
+    requires depth { length options.now.sources ≡ length plan.now.sources }
+    requires input { HasInput options.now.synth options.now.files }
+    requires filter { plan.now.filter ≡ options.now.filter }
+    ensures counted { (bytes : ℕ → List ℕ) × AreFiles (F.held files.old) options.now.synth options.now.files bytes
+        × AreHeld (F.held files.old) (length (file_names options.now) + 1) options.now.bases bytes
+        × EndsCounting limits.now plan.now.sources bytes options.now result }
+    ensures failed { (k : ℕ) → IsErrOf result (Outcome.ReadFailed (k + 1)) → Rose (F.faults files.old) (F.faults files.new) × IfSome (F.last_failed files.new) (λ n. name_at options.now (k + 1) ≡ Some n) }
+    ensures asked { ReadsFirst (F.asked files.old) (F.asked files.new) (files_to_read options.now) }
+    ensures all { OnOk result (F.asked files.new ≡ F.asked files.old ++ files_to_read options.now) }
+    ensures long { (i : ℕ) → IsErrOf result (Outcome.TooLong i) → IsOverLimit limits.now options.now.synth i (F.held files.old) (F.taken files.old) (F.taken files.new) }
+    ensures later { F.faults files.old ≤ F.faults files.new }
+    ensures uncounted { ends_without is_failed_read result ≡ true → F.faults files.new ≡ F.faults files.old }
+{
+    if count_all(options).is_none() {
+        return Err(Outcome::NoMemory);
+    }
+    let mut lengths = 0;
+    let total = total_of(alloc, options, plan, files, limits, &mut lengths)?;
+    if options.bases.len() == 0 {
+        return Ok(report_of(alloc, options, &total)?);
+    }
+    growth_report(alloc, options, plan, files, limits, &total, &mut lengths)
+}
+
 /// The text of the report that the options ask for.
 pub fn report<F: Files, P: Patterns>(
     alloc: Global,
@@ -93,12 +148,14 @@ pub fn report<F: Files, P: Patterns>(
     requires { KeepsLimits options.now }
     ensures run { (contents : Contents) × AreContents (F.held files.old) options.now contents × EndsReport limits.now options.now (P.last_refused patterns.new) contents result }
     ensures failed { (i : ℕ) → IsErrOf result (Outcome.ReadFailed i) → Rose (F.faults files.old) (F.faults files.new) × IfSome (F.last_failed files.new) (λ n. name_at options.now i ≡ Some n) }
+    ensures asked { ReadsFirst (F.asked files.old) (F.asked files.new) (names_to_read options.now) }
+    ensures all { OnOk result (F.asked files.new ≡ F.asked files.old ++ names_to_read options.now) }
+    ensures long { (i : ℕ) → IsErrOf result (Outcome.TooLong i) → IsOverLimit limits.now options.now.synth i (F.held files.old) (F.taken files.old) (F.taken files.new) }
     ensures refused { (i : ℕ) → IsErrOf result (Outcome.PatternTooBig i) → P.refused patterns.old < P.refused patterns.new }
     ensures read { ends_without is_failed_read result ≡ true → F.faults files.new ≡ F.faults files.old }
     ensures made { ends_without is_refused_pattern result ≡ true → P.refused patterns.new ≡ P.refused patterns.old }
 {
     let customs = customs_of(alloc, options, files, limits)?;
     let plan = plan_of(alloc, options, &customs, patterns)?;
-    let total = total_of(alloc, options, &plan, files, limits)?;
-    Ok(report_of(alloc, options, &total)?)
+    report_of_files(alloc, options, &plan, files, limits)
 }

@@ -1,10 +1,11 @@
 //! What a run asks: its options, its configuration, and its plan.
 
-ghost use Rattle.std.specs.Prelude.{◌≡◌, ◌<◌, ◌≤◌, ℕ, List, Some, IfOk, IfErr, IfSome, IsErrOf, true};
+ghost use Rattle.std.specs.Prelude.{◌≡◌, ◌<◌, ◌≤◌, ◌++◌, ℕ, List, Some, IfOk, IfErr, IfSome, IsErrOf, true};
 ghost use Rattle.outside.specs.Causes.{Rose};
 ghost use Rattle.bloaty_engine.specs.Answers.{ends_without, is_failed_read, is_refused_pattern};
 ghost use Rattle.bloaty_engine.specs.Named.{IsText};
 ghost use Rattle.bloaty_engine.specs.Plans.{EndsPlan, IsPlan};
+ghost use Rattle.bloaty_engine.specs.Reading.{IsOverLimit, config_names};
 ghost use Rattle.bloaty_engine.specs.Steps.{EndsConfig};
 ghost use Rattle.bloaty_engine.specs.Verdict.{config_limit};
 
@@ -35,6 +36,9 @@ pub fn customs_of<F: Files>(
 ) -> Result<Vec<CustomSource>, Outcome>
     ensures read { (text : List ℕ) × IsText (F.held files.old) options.now.config text × EndsConfig limits.now options.now.config text result }
     ensures failed { IsErrOf result (Outcome.ReadFailed 0) → Rose (F.faults files.old) (F.faults files.new) × IfSome (F.last_failed files.new) (λ n. options.now.config ≡ Some n) }
+    ensures asked { F.asked files.new ≡ F.asked files.old ++ config_names options.now.config }
+    ensures long { (i : ℕ) → IsErrOf result (Outcome.TooLong i) → IsOverLimit limits.now options.now.synth i (F.held files.old) (F.taken files.old) (F.taken files.new) }
+    ensures more { F.taken files.old ≤ F.taken files.new }
     ensures held { F.held files.new ≡ F.held files.old }
     ensures later { F.faults files.old ≤ F.faults files.new }
     ensures uncounted { ends_without is_failed_read result ≡ true → F.faults files.new ≡ F.faults files.old }

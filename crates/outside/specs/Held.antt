@@ -22,3 +22,8 @@ IsHeld (Some pairs) name bytes = bytes ≡ held_bytes pairs name
 abbrev pub IsLonger : Option Pairs → List ℕ → ℕ → ℕ → ℕ → Type 0
 IsLonger None name limit before now = RoseBy (limit + 1) before now
 IsLonger (Some pairs) name limit before now = limit < length (held_bytes pairs name)
+
+-- The bytes that a read gave count as taken, where the object doesn't tell what it holds.
+abbrev pub IsTaken : Option Pairs → ℕ → ℕ → ℕ → Type 0
+IsTaken None count before now = RoseBy count before now
+IsTaken (Some pairs) count before now = ⊤

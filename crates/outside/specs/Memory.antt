@@ -1,5 +1,5 @@
 -- Files and a sink in memory, which fail at the calls that a list names. Calls are counted from 1.
-use Rattle.std.specs.Prelude.{◌≡◌, ℕ, ◌+◌, ◌-◌, ◌^◌, min, max, Bool, nat_lt, ◌==◌, ◌&&◌, ◌||◌, if◌then◌else◌, List, [], ◌++◌, length, take, Option, None, Some, string_bytes, String, ⊤, Result, Ok, Err, Vec}
+use Rattle.std.specs.Prelude.{◌≡◌, ℕ, ◌+◌, ◌-◌, ◌^◌, min, max, Bool, nat_lt, ◌==◌, ◌&&◌, ◌||◌, if◌then◌else◌, List, [], ◌∷◌, ◌++◌, length, take, Option, None, Some, string_bytes, String, ⊤, Result, Ok, Err, Vec}
 use Rattle.std.specs.List.{list_any}
 use Rattle.std.specs.declared.alloc.Global.{Global}
 use Rattle.outside.specs.declared.files.FileAnswer.{FileAnswer}
@@ -19,10 +19,16 @@ pub record FilesInMemory : Type 0 where
   pub calls : ℕ
   pub faults : ℕ
   pub last_failed : List ℕ
+  pub asked : List (List ℕ)
+
+-- files in memory that never fail
+pub record SoundFiles : Type 0 where
+  pub pairs : Pairs
+  pub asked : List (List ℕ)
 
 -- files of these pairs, which fail at these calls, before any read
 abbrev pub fresh_files : Pairs → List ℕ → FilesInMemory
-fresh_files pairs failing = record { pairs = pairs; failing = failing; calls = 0; faults = 0; last_failed = [] }
+fresh_files pairs failing = record { pairs = pairs; failing = failing; calls = 0; faults = 0; last_failed = []; asked = [] }
 
 -- the name of a failed read, and none before any
 abbrev pub name_of_failed : Option (String Global) → List ℕ
@@ -48,12 +54,16 @@ Reads (Err NoMemory) answer = ⊤
 abbrev pub failed_at : FilesInMemory → List ℕ → FilesInMemory
 failed_at f name = record f { faults = raised f.faults; last_failed = name }
 
+-- the files after a read of a name is counted, whatever it answers
+abbrev pub asked_for : FilesInMemory → List ℕ → FilesInMemory
+asked_for f name = record f { calls = raised f.calls; asked = f.asked ++ name ∷ [] }
+
 -- the files after a read of a name with this result
 abbrev pub files_after : FilesInMemory → List ℕ → Result (Vec ℕ Global) FileAnswer → FilesInMemory
-files_after f name (Ok v) = record f { calls = raised f.calls }
-files_after f name (Err Failed) = failed_at (record f { calls = raised f.calls }) name
-files_after f name (Err TooLong) = record f { calls = raised f.calls }
-files_after f name (Err NoMemory) = record f { calls = raised f.calls }
+files_after f name (Ok v) = asked_for f name
+files_after f name (Err Failed) = failed_at (asked_for f name) name
+files_after f name (Err TooLong) = asked_for f name
+files_after f name (Err NoMemory) = asked_for f name
 
 -- a sink in memory: what it took, the bytes that it has room for, and the most that it takes in a call
 pub record SinkInMemory : Type 0 where

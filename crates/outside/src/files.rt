@@ -1,8 +1,8 @@
 //! Files by name, as a program sees them.
 
-ghost use Rattle.std.specs.Prelude.{◌≡◌, ◌≤◌, List, ℕ, Option, length, IfOk, IfSome, IsErrOf};
+ghost use Rattle.std.specs.Prelude.{◌≡◌, ◌≤◌, ◌++◌, ◌∷◌, [], List, ℕ, Option, length, IfOk, IfSome, IsErrOf};
 ghost use Rattle.outside.specs.Causes.{Rose};
-ghost use Rattle.outside.specs.Held.{Pairs, IsHeld, IsLonger};
+ghost use Rattle.outside.specs.Held.{Pairs, IsHeld, IsLonger, IsTaken};
 
 use std::alloc::{AllocError, Global};
 use thiserror::Error;
@@ -47,14 +47,19 @@ pub trait Files {
     /// How many bytes were taken, where the object doesn't tell what it holds. It may stop at the greatest u64.
     ghost taken: { Self → ℕ };
 
+    /// The names that were asked for, in order, whatever was answered.
+    ghost asked: { Self → List (List ℕ) };
+
     /// The bytes of a file, where they are at most `limit`.
     fn read(&mut self, alloc: Global, name: &str, limit: u64) -> Result<Vec<u8>, FileAnswer>
+        ensures asked { asked self.new ≡ asked self.old ++ name.now ∷ [] }
         ensures held { held self.new ≡ held self.old }
         ensures later { faults self.old ≤ faults self.new }
         ensures more { taken self.old ≤ taken self.new }
 
         ensures within { IfOk result (λ v. length v.items ≤ limit) }
         ensures bytes { IfOk result (λ v. IsHeld (held self.old) name.now v.items) }
+        ensures taken { IfOk result (λ v. IsTaken (held self.old) (length v.items) (taken self.old) (taken self.new)) }
 
         ensures failed { IsErrOf result FileAnswer.Failed → Rose (faults self.old) (faults self.new) }
         ensures uncounted { ¬ IsErrOf result FileAnswer.Failed → faults self.new ≡ faults self.old }

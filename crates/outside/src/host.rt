@@ -1,12 +1,13 @@
 //! The files and writers of the host: the trusted edge, which tells nothing of what files hold.
 
-ghost use Rattle.std.specs.Prelude.{◌≡◌, ◌≢◌, ◌≤◌, ◌<◌, ◌+◌, ◌↔◌, None, IfOk, OnOk, OnErr, IsErrOf, length, take, drop, vec_len};
+ghost use Rattle.std.specs.Prelude.{◌≡◌, ◌≢◌, ◌≤◌, ◌<◌, ◌+◌, ◌↔◌, ◌++◌, ◌∷◌, [], None, IfOk, OnOk, OnErr, IsErrOf, length, take, drop, vec_len};
 ghost use Rattle.std.specs.Io.KnownBytes.{Appends, Consumes, Keeps, IsAtEnd};
 ghost use Rattle.std.specs.IoError.{error_kind};
 ghost use Rattle.std.specs.declared.io.ErrorKind.TheVariants.{OutOfMemory};
 ghost use Rattle.outside.specs.Causes.{Rose, RoseBy, raised, raised_by};
 ghost use Rattle.outside.specs.Held.{IsHeld};
 
+use crate::asked::Asked;
 use crate::files::{FileAnswer, Files};
 use crate::sink::{Failed, Sink};
 use std::alloc::{AllocError, Global};
@@ -78,25 +79,27 @@ pub struct HostFiles<'r, R: rt::Files> {
     rt: &'r R,
     faults: u64,
     taken: u64,
+    asked: Asked,
 }
 
 impl<'r, R: rt::Files> Model for HostFiles<'r, R> {
-    ghost use Rattle.outside.specs.Host.{HostCounts};
+    ghost use Rattle.outside.specs.Host.{SeenHost};
 
-    ghost Value = { HostCounts };
+    ghost Value = { SeenHost };
 
-    ghost view = { λ f. record { faults = f.faults; taken = f.taken } };
+    ghost view = { λ f. record { faults = f.faults; taken = f.taken; asked = f.asked.names } };
 }
 
 impl<'r, R: rt::Files> HostFiles<'r, R> {
-    /// The files of a runtime. No read has failed, and no byte was taken.
+    /// The files of a runtime. No read has failed, no byte was taken, and no name was asked for.
     pub fn new(rt: &'r R) -> HostFiles<'r, R>
-        ensures { result ≡ record { faults = 0; taken = 0 } }
+        ensures { result ≡ record { faults = 0; taken = 0; asked = [] } }
     {
         HostFiles {
             rt,
             faults: 0,
             taken: 0,
+            asked: Asked::new(),
         }
     }
 }
@@ -110,20 +113,25 @@ impl<'r, R: rt::Files> Files for HostFiles<'r, R> {
 
     ghost taken = { λ f. f.taken };
 
+    ghost asked = { λ f. f.asked };
+
     /// Takes at most one byte more than the limit. A failed read counts as a fault, and nothing else does.
     fn read(&mut self, alloc: Global, name: &str, limit: u64) -> Result<Vec<u8>, FileAnswer>
+        ensures asked { self.new.asked ≡ self.old.asked ++ name.now ∷ [] }
         ensures later { self.old.faults ≤ self.new.faults }
         ensures more { self.old.taken ≤ self.new.taken }
         ensures within { IfOk result (λ v. length v.items ≤ limit) }
         ensures untold { IfOk result (λ v. IsHeld None name.now v.items) }
+        ensures taken { IfOk result (λ v. RoseBy (length v.items) self.old.taken self.new.taken) }
         ensures failed { IsErrOf result FileAnswer.Failed → Rose self.old.faults self.new.faults }
         ensures uncounted { ¬ IsErrOf result FileAnswer.Failed → self.new.faults ≡ self.old.faults }
         ensures too_long { IsErrOf result FileAnswer.TooLong → RoseBy (limit + 1) self.old.taken self.new.taken }
 
         ensures counted { IsErrOf result FileAnswer.Failed → self.new.faults ≡ raised self.old.faults }
-        ensures taken { IfOk result (λ v. self.new.taken ≡ raised_by (length v.items) self.old.taken) }
+        ensures added { IfOk result (λ v. self.new.taken ≡ raised_by (length v.items) self.old.taken) }
         ensures at_most { self.new.taken ≤ self.old.taken + (limit + 1) }
     {
+        self.asked.add(name.as_bytes());
         let mut file = match fs::open(self.rt, name) {
             Ok(file) => file,
             Err(e) => return Err(answer(&mut self.faults, &e)),

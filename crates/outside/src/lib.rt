@@ -1,12 +1,14 @@
 //! What a program is handed to reach outside: files by name, and places to write to.
 #![tactic(auto)]
 
+mod asked;
 mod calls;
 mod files;
 mod host;
 mod memory;
 mod sink;
 
+pub use asked::Asked;
 pub use files::{FileAnswer, Files};
 pub use host::{HostFiles, HostSink};
 pub use memory::{MemFiles, MemSink, NoFaultFiles};

@@ -1,12 +1,13 @@
 //! Files and a sink in memory, which fail at the calls that a list names.
 
-ghost use Rattle.std.specs.Prelude.{◌≡◌, ◌≢◌, ◌≤◌, ◌<◌, IfOk, OnOk, OnErr, IsErrOf, Some, [], length, take};
+ghost use Rattle.std.specs.Prelude.{◌≡◌, ◌≢◌, ◌≤◌, ◌<◌, ◌++◌, ◌∷◌, IfOk, OnOk, OnErr, IsErrOf, Some, [], length, take};
 ghost use Rattle.outside.specs.Causes.{Rose};
 ghost use Rattle.outside.specs.Grown.{Grew};
 ghost use Rattle.outside.specs.Held.{held_bytes};
 ghost use Rattle.outside.specs.Memory.{fresh_files, failed_at, bytes_or_long, read_answer, Reads, files_after, fresh_sink, write_answer, sink_after};
 ghost use Rattle.outside.specs.SeenPairs.{seen_pairs};
 
+use crate::asked::Asked;
 use crate::calls::count_call;
 use crate::files::{FileAnswer, Files};
 use crate::sink::{Failed, Sink};
@@ -121,6 +122,7 @@ pub struct MemFiles {
     calls: u64,
     faults: u64,
     last_failed: Option<String>,
+    asked: Asked,
 }
 
 impl Model for MemFiles {
@@ -129,7 +131,7 @@ impl Model for MemFiles {
 
     ghost Value = { FilesInMemory };
 
-    ghost view = { λ f. record { pairs = seen_pairs f.pairs.items; failing = f.failing.items; calls = f.calls; faults = f.faults; last_failed = name_of_failed f.last_failed } };
+    ghost view = { λ f. record { pairs = seen_pairs f.pairs.items; failing = f.failing.items; calls = f.calls; faults = f.faults; last_failed = name_of_failed f.last_failed; asked = f.asked.names } };
 }
 
 impl MemFiles {
@@ -143,6 +145,7 @@ impl MemFiles {
             calls: 0,
             faults: 0,
             last_failed: None,
+            asked: Asked::new(),
         }
     }
 
@@ -183,8 +186,11 @@ impl Files for MemFiles {
 
     ghost taken = { λ _. 0 };
 
+    ghost asked = { λ f. f.asked };
+
     /// Fails exactly where the list names the read, unless there is no memory to keep its name.
     fn read(&mut self, alloc: Global, name: &str, limit: u64) -> Result<Vec<u8>, FileAnswer>
+        ensures asked { self.new.asked ≡ self.old.asked ++ name.now ∷ [] }
         ensures held { Some self.new.pairs ≡ Some self.old.pairs }
         ensures later { self.old.faults ≤ self.new.faults }
         ensures more { 0 ≤ 0 }
@@ -199,6 +205,7 @@ impl Files for MemFiles {
         ensures answer { Reads result (read_answer self.old name.now limit) }
         ensures after { self.new ≡ files_after self.old name.now result }
     {
+        self.asked.add(name.as_bytes());
         if count_call(&mut self.calls, &self.failing) {
             return Err(self.fail(alloc, name));
         }
@@ -210,28 +217,32 @@ impl Files for MemFiles {
 #[derive(Drop)]
 pub struct NoFaultFiles {
     pairs: Vec<(String, Vec<u8>)>,
+    asked: Asked,
 }
 
 impl Model for NoFaultFiles {
-    ghost use Rattle.outside.specs.Held.{Pairs};
+    ghost use Rattle.outside.specs.Memory.{SoundFiles};
     ghost use Rattle.outside.specs.SeenPairs.{seen_pairs};
 
-    ghost Value = { Pairs };
+    ghost Value = { SoundFiles };
 
-    ghost view = { λ f. seen_pairs f.pairs.items };
+    ghost view = { λ f. record { pairs = seen_pairs f.pairs.items; asked = f.asked.names } };
 }
 
 impl NoFaultFiles {
     /// Files of these names and bytes.
     pub fn new(pairs: Vec<(String, Vec<u8>)>) -> NoFaultFiles
-        ensures { result ≡ seen_pairs pairs.items }
+        ensures { result ≡ record { pairs = seen_pairs pairs.items; asked = [] } }
     {
-        NoFaultFiles { pairs }
+        NoFaultFiles {
+            pairs,
+            asked: Asked::new(),
+        }
     }
 }
 
 impl Files for NoFaultFiles {
-    ghost held = { λ f. Some f };
+    ghost held = { λ f. Some f.pairs };
 
     ghost faults = { λ _. 0 };
 
@@ -239,7 +250,10 @@ impl Files for NoFaultFiles {
 
     ghost taken = { λ _. 0 };
 
+    ghost asked = { λ f. f.asked };
+
     fn read(&mut self, alloc: Global, name: &str, limit: u64) -> Result<Vec<u8>, FileAnswer> {
+        self.asked.add(name.as_bytes());
         copy_of(alloc, find(&self.pairs, name), limit)
     }
 }

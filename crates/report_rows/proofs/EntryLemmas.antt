@@ -1,5 +1,5 @@
 -- The entries of a table: their sums, and the order under each.
-use Rattle.std.proofs.Common.{◌≡◌, ℕ, ◌<◌, ◌≤◌, List, [], ◌∷◌, ◌++◌, length, get_or, map, refl, sym, ap, ◌∙◌, subst, Bool, true, false, cond, arith}
+use Rattle.std.proofs.Common.{◌≡◌, ℕ, ◌<◌, ◌≤◌, List, [], ◌∷◌, ◌++◌, length, get_or, drop, map, refl, sym, ap, ◌∙◌, subst, Bool, true, false, cond, arith}
 use Rattle.std.specs.Prelude.{All, filter}
 use Rattle.std.specs.declared.cmp.Ordering.TheVariants.{Less}
 use Rattle.std.specs.Cmp.Lexicographic.{nat_list_cmp_total}
@@ -9,21 +9,25 @@ use Rattle.std.specs.Str.{bytes_eq}
 use Rattle.std.proofs.lemmas.Cmp.{tied_itself}
 use Rattle.std.proofs.lemmas.List.{get_or-map, length-map, length-drop}
 use Rattle.std.proofs.lemmas.List.Elements.{All-head, All-tail}
-use Rattle.std.proofs.lemmas.List.Sums.{sum_by-cons}
+use Rattle.std.proofs.lemmas.List.Sums.{sum_by-cons, sum_by-take-drop}
+use Rattle.std.proofs.lemmas.Simd.{map-map}
+use Rattle.std.specs.Ordering.{is_lt, nat_cmp}
+use Rattle.report_rows.specs.Order.{within}
+use Rattle.report_rows.specs.declared.row.RowKind.TheVariants.{Others}
+use Rattle.report_rows.proofs.LimitLemmas.{All-within, map-within}
 use Rattle.rollup.specs.Totals.{row_cmp, path_cmp}
 use Rattle.rollup.specs.declared.table.RollupRow.{RollupRow}
 use Rattle.report_rows.specs.declared.groups.Group.{Group}
 use Rattle.report_rows.specs.declared.row.RowOptions.{RowOptions}
-use Rattle.report_rows.specs.Groups.{row_from, table_at, group_label, group_entry, HasKey, IsPart, IsGroup, IsRange}
+use Rattle.report_rows.specs.Groups.{row_from, table_at, group_label, group_entry, others_group, Fits, IsPart, IsGroup, IsRange}
 use Rattle.report_rows.specs.Tables.{Table, vm_sum, file_sum, without, under, first_labels}
-use Rattle.report_rows.specs.Rows.{Entry, label_entry, label_cmp, has_shown, children}
+use Rattle.report_rows.specs.Rows.{Entry, by_key, children, entries_of, has_shown, label_cmp, label_entry, limited, others_entry}
 use Rattle.report_rows.proofs.OrderLemmas.{sum_by-in_order}
-use Rattle.report_rows.proofs.TableLemmas.{same_bytes, sum_by-same, labels-sum}
-use Rattle.report_rows.proofs.LimitLemmas.{sum_by-map}
+use Rattle.report_rows.proofs.TableLemmas.{same_bytes, sum_by-map, sum_by-same, labels-sum}
 use Rattle.report_rows.proofs.GroupLemmas.{deep_of, sum-table}
 
 -- where two paths begin alike, their order is that of what follows
-past : (k : List ℕ) (p q : List (List ℕ)) → path_cmp (k ∷ p) (k ∷ q) ≡ path_cmp p q
+pub past : (k : List ℕ) (p q : List (List ℕ)) → path_cmp (k ∷ p) (k ∷ q) ≡ path_cmp p q
 past k p q = rw (tied_itself nat_list_cmp_total k) refl
 
 less-past : (l k j : List ℕ) (p q : List (List ℕ)) → l ≡ k → l ≡ j → path_cmp (k ∷ p) (j ∷ q) ≡ Less → path_cmp p q ≡ Less
@@ -66,7 +70,7 @@ filter-at : {X : Type 0} (f : X → ℕ) (x : X) (ys xs : List X) (b : Bool) →
 filter-at f x ys xs true le = omega (arith, sum_by-cons f x ys, sum_by-cons f x xs)
 filter-at f x ys xs false le = omega (arith, sum_by-cons f x xs)
 
-filter-le : {X : Type 0} (p : X → Bool) (f : X → ℕ) (xs : List X) → sum_by f (filter p xs) ≤ sum_by f xs
+pub filter-le : {X : Type 0} (p : X → Bool) (f : X → ℕ) (xs : List X) → sum_by f (filter p xs) ≤ sum_by f xs
 filter-le p f [] = omega arith
 filter-le p f (x ∷ xs) = filter-at f x (filter p xs) xs (p x) (filter-le p f xs)
 
@@ -83,9 +87,19 @@ map-same : {X Y : Type 0} (f g : X → Y) (P : X → Type 0) → ((x : X) → P 
 map-same f g P same [] all = refl
 map-same f g P same (x ∷ xs) all = rw (same x (All-head P x xs all), map-same f g P same xs (All-tail P x xs all)) refl
 
-pub map-map : {X Y Z : Type 0} (f : Y → Z) (g : X → Y) (xs : List X) → map f (map g xs) ≡ map (λ x. f (g x)) xs
-map-map f g [] = refl
-map-map f g (x ∷ xs) = ap (λ ys. f (g x) ∷ ys) (map-map f g xs)
+same-others : (n m v w f g : ℕ) → n ≡ m → v ≡ w → f ≡ g → ◌≡◌ {A = Entry} (record { kind = Others n; vm = v; file = f; below = [] }) (record { kind = Others m; vm = w; file = g; below = [] })
+same-others n m v w f g a b e = rw (a, b, e) refl
+
+-- groups that are left over stand for their entries taken together
+others-are : (o : RowOptions) (level : ℕ) (all : List RollupRow) (left : List Group) → group_entry level all (others_group o left) ≡ others_entry (map (group_entry level all) left)
+others-are o level all left =
+    let f = group_entry level all in
+    same-others (length left) (length (map f left)) (sum_by (λ (g : Group). g.vm) left) (sum_by (λ (e : Entry). e.vm) (map f left)) (sum_by (λ (g : Group). g.file) left) (sum_by (λ (e : Entry). e.file) (map f left))
+    (sym (length-map left f)) (sym (sum_by-map (λ (e : Entry). e.vm) f left)) (sym (sum_by-map (λ (e : Entry). e.file) f left))
+
+others-range : (o : RowOptions) (level : ℕ) (all : List RollupRow) (left : List Group) → IsRange level all (others_group o left)
+unfolding IsStrictlySortedBy
+others-range o level all left = record { inside = omega arith; within = omega arith; some = λ label. cc label; ordered = tt }
 
 module _ (o : RowOptions) (depth level : ℕ) (all : List RollupRow) (part : IsPart depth level all) (below : level < depth) (groups : List Group) (every : All (IsGroup o level all) groups)
     (labels : map (group_label level all) groups ≡ children o (table_at level all)) where
@@ -114,22 +128,46 @@ module _ (o : RowOptions) (depth level : ℕ) (all : List RollupRow) (part : IsP
         sum-table size same level all,
       )
 
-  pub vm-le : sum_by (λ (g : Group). g.vm) groups ≤ vm_sum all
-  vm-le = omega (arith, sym (sum_by-map (λ (e : Entry). e.vm) (group_entry level all) groups), sum-le (λ e. e.vm) (λ r. r.vm) (λ r p. refl) (λ l. refl))
+  -- what a limit leaves over fits
+  pub left-fits : (limit : ℕ) → Fits (drop limit groups)
+  left-fits limit = record {
+    vm = omega (
+      arith,
+      sum_by-take-drop (λ (g : Group). g.vm) groups limit,
+      sym (sum_by-map (λ (e : Entry). e.vm) (group_entry level all) groups),
+      sum-le (λ e. e.vm) (λ r. r.vm) (λ r p. refl) (λ l. refl),
+      part.vm_fits,
+    );
+    file = omega (
+      arith,
+      sum_by-take-drop (λ (g : Group). g.file) groups limit,
+      sym (sum_by-map (λ (e : Entry). e.file) (group_entry level all) groups),
+      sum-le (λ e. e.file) (λ r. r.file) (λ r p. refl) (λ l. refl),
+      part.file_fits,
+    );
+  }
 
-  pub file-le : sum_by (λ (g : Group). g.file) groups ≤ file_sum all
-  file-le = omega (arith, sym (sum_by-map (λ (e : Entry). e.file) (group_entry level all) groups), sum-le (λ e. e.file) (λ r. r.file) (λ r p. refl) (λ l. refl))
+  abbrev pub grouped : List Group
+  grouped = within o.limit (λ (g h : Group). nat_cmp h.key.0 g.key.0) (others_group o) groups
 
-  pub have-ranges : All (IsRange level all) groups
-  have-ranges k d lt =
-      let g = get_or groups k d in
+  -- the groups within the limit stand for the entries
+  pub entries-are : map (group_entry level all) grouped ≡ entries_of o table
+  entries-are =
+      let left = drop o.limit groups in
+      let x = others_group o left in
+      map-within (λ (g h : Group). nat_cmp h.key.0 g.key.0) (by_key o) (group_entry level all) o.limit (others_group o) others_entry groups (others-are o level all left)
+      (λ k d lt. ap (λ n. is_lt (nat_cmp x.key.0 n)) (every k d lt).key)
+      ∙ ap (limited o) groups-are
+
+  pub have-ranges : All (IsRange level all) grouped
+  have-ranges =
+      All-within o.limit (λ (g h : Group). nat_cmp h.key.0 g.key.0) (others_group o) (IsRange level all) groups
+      (λ k d lt. let g = get_or groups k d in
       let group = every k d lt in
       record {
         inside = omega (arith, group.some);
         within = group.within;
         some = λ _. group.some;
         ordered = subst (IsStrictlySortedBy row_cmp) (sym (ap (λ (e : Entry). e.below) group.entry)) (under-sorted (lab g) table part.ordered);
-      }
-
-  pub have-keys : All (HasKey o) groups
-  have-keys k d lt = (every k d lt).key
+      })
+      (others-range o level all (drop o.limit groups))

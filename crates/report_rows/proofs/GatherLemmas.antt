@@ -13,7 +13,7 @@ use Rattle.report_rows.specs.Rows.{Entry, has_shown}
 use Rattle.report_rows.proofs.GroupLemmas.{deep_of}
 use Rattle.report_rows.proofs.RunLemmas.{IsRun, run-labels}
 
-one-more : {X Y : Type 0} (f : X → Y) (xs : List X) (x : X) (ys : List Y) (b : Bool) → map f (xs ++ cond b (x ∷ []) []) ++ ys ≡ map f xs ++ cond b (f x ∷ ys) ys
+pub one-more : {X Y : Type 0} (f : X → Y) (xs : List X) (x : X) (ys : List Y) (b : Bool) → map f (xs ++ cond b (x ∷ []) []) ++ ys ≡ map f xs ++ cond b (f x ∷ ys) ys
 one-more f xs x ys true = ap (λ zs. zs ++ ys) (map-append f xs (x ∷ [])) ∙ append_assoc (map f xs) (f x ∷ []) ys
 one-more f xs x ys false = ap (λ zs. map f zs ++ ys) (append-nil xs)
 

@@ -1,5 +1,5 @@
 -- The group that begins at a row whose label no earlier row has.
-use Rattle.std.proofs.Common.{◌≡◌, ◌≢◌, ℕ, ◌+◌, ◌-◌, ◌<◌, ◌≤◌, List, [], ◌∷◌, length, take, drop, get_or, map, refl, sym, ap, ◌∙◌, arith, Bor, inl, inr}
+use Rattle.std.proofs.Common.{◌≡◌, ◌≢◌, ℕ, ◌+◌, ◌-◌, ◌<◌, ◌≤◌, List, [], ◌∷◌, length, take, drop, get_or, map, refl, sym, ap, ◌∙◌, subst, arith, Bor, inl, inr}
 use Rattle.std.specs.Prelude.{All}
 use Rattle.std.specs.List.{sum_by}
 use Rattle.std.proofs.lemmas.Bool.{cases_lt}
@@ -12,9 +12,11 @@ use Rattle.report_rows.specs.declared.groups.Kind.TheVariants as kinds
 use Rattle.report_rows.specs.declared.row.RowOptions.{RowOptions}
 use Rattle.report_rows.specs.Groups.{row_from, table_at, labels_at, IsPart, IsGroup, IsBorder}
 use Rattle.report_rows.specs.Keys.{key_of}
+use Rattle.report_rows.specs.Levels.{level_labels}
 use Rattle.report_rows.specs.Tables.{Table, vm_sum, file_sum, under}
 use Rattle.report_rows.specs.Rows.{Entry}
 use Rattle.report_rows.proofs.AscendLemmas.{IsDeep, between}
+use Rattle.report_rows.proofs.RowLemmas.{seen-labels}
 use Rattle.report_rows.proofs.RunLemmas.{IsRun, mid, run-under}
 
 -- what stands behind references
@@ -99,6 +101,9 @@ module _ (depth level : ℕ) (all part : List RollupRow) (from n : ℕ) (is : Is
 abbrev rest : List (Bor RollupRow) → ℕ → List (Bor RollupRow)
 rest rows from = take (length rows - from) (drop from rows)
 
+abbrev of-row : Bor RollupRow → List (List ℕ)
+of-row r = r.now.path
+
 -- what the rows at the front of a part say of all rows
 pub record Found (level : ℕ) (all : List RollupRow) (from n : ℕ) : Type 0 where
   pub run : IsRun level all (get_or (labels_at level all) from []) from (from + n)
@@ -107,11 +112,14 @@ pub record Found (level : ℕ) (all : List RollupRow) (from n : ℕ) : Type 0 wh
 
 pub found : (depth level : ℕ) (rows : List (Bor RollupRow)) (from n : ℕ) → IsPart depth level (seen rows) → level < depth → IsBorder (labels_at level (seen rows)) from
     → 0 < n → n ≤ length (rest rows from)
-    → ((k : ℕ) → k < n → get_or (labels_at level (seen (rest rows from))) k [] ≡ get_or (labels_at level (seen (rest rows from))) 0 [])
-    → (n < length (rest rows from) → get_or (labels_at level (seen (rest rows from))) n [] ≢ get_or (labels_at level (seen (rest rows from))) 0 [])
+    → ((k : ℕ) → k < n → get_or (level_labels of-row level (rest rows from)) k [] ≡ get_or (level_labels of-row level (rest rows from)) 0 [])
+    → (n < length (rest rows from) → get_or (level_labels of-row level (rest rows from)) n [] ≢ get_or (level_labels of-row level (rest rows from)) 0 [])
     → Found level (seen rows) from n
-found depth level rows from n is below border some within same next =
+found depth level rows from n is below border some within alike other =
     let part = seen (rest rows from) in
+    let labels = sym (seen-labels level (rest rows from)) in
+    let same = subst (λ (ls : List (List ℕ)). (k : ℕ) → k < n → get_or ls k [] ≡ get_or ls 0 []) labels alike in
+    let next = subst (λ (ls : List (List ℕ)). n < length (rest rows from) → get_or ls n [] ≢ get_or ls 0 []) labels other in
     let e = seen-rest rows from in
     let long : length part ≡ length (rest rows from) = length-map (rest rows from) (λ (r : Bor RollupRow). r.now) in
     let inside : n ≤ length part = omega arith in

@@ -1,14 +1,16 @@
-mod AscendLemmas
-mod EntryLemmas
-mod GatherLemmas
-mod GroupLemmas
-mod LimitLemmas
-mod ListLemmas
-mod OrderLemmas
-mod PathLemmas
-mod RootLemmas
-mod RowLemmas
-mod RunLemmas
-mod SortLemmas
-mod TableLemmas
-mod TreeLemmas
+pub mod AscendLemmas
+pub mod EntryLemmas
+pub mod GatherLemmas
+pub mod GroupLemmas
+pub mod LevelLemmas
+pub mod LimitLemmas
+pub mod ListLemmas
+pub mod OrderLemmas
+pub mod PathLemmas
+pub mod RootLemmas
+pub mod RowLemmas
+pub mod RunLemmas
+pub mod ShownLemmas
+pub mod SortLemmas
+pub mod TableLemmas
+pub mod TreeLemmas

@@ -12,15 +12,17 @@ use Rattle.report_rows.specs.declared.row.RowOptions.{RowOptions}
 use Rattle.report_rows.specs.declared.row.Row.{Row}
 use Rattle.report_rows.specs.Keys.{is_shown}
 use Rattle.report_rows.specs.Shown.{shown, shows_file, shows_vm}
-use Rattle.report_rows.specs.Order.{placed}
+use Rattle.report_rows.specs.Levels.{rows_over}
+use Rattle.report_rows.specs.Order.{placed, within}
 use Rattle.report_rows.specs.Tables.{Table, file_sum, first_labels, under, under_path, vm_sum}
 use Rattle.report_rows.specs.Trees.{level_sum}
 use Rattle.report_rows.specs.Rows.{Entry, by_key, children, entries_of, has_shown, label_cmp, label_entry, limited, listing, others_entry, row_of}
 use Rattle.report_rows.specs.Paths.{AreSizesBelow, Path, RowsShowPaths, ShowRows, ShowsLabel, ShowsLevel, labels_taken, row_of_label, row_of_others, size_taken, times}
-use Rattle.report_rows.proofs.LimitLemmas.{sum_by-map}
+use Rattle.report_rows.proofs.LevelLemmas.{Stops, level-sum, stops-later}
+use Rattle.report_rows.proofs.LimitLemmas.{All-within}
 use Rattle.report_rows.proofs.OrderLemmas.{sum_by-in_order, sum_by-placed}
-use Rattle.report_rows.proofs.TableLemmas.{absent, has, once, same_bytes, sum_by-same}
-use Rattle.report_rows.proofs.TreeLemmas.{at-listing, limited-sound, listing-nil}
+use Rattle.report_rows.proofs.TableLemmas.{absent, has, once, same_bytes, sum_by-map, sum_by-same}
+use Rattle.report_rows.proofs.TreeLemmas.{listing-nil}
 
 -- Paths and their tables.
 
@@ -124,7 +126,7 @@ module _ (o : RowOptions) (t : Table) (labels : List (List ℕ)) where
   sum-limited : (f : Entry → ℕ) (g : List ℕ → ℕ) (h : List (List ℕ) → ℕ) → ((l : List ℕ) → f (label_entry t l) ≡ g l) → h [] ≡ 0
       → (fits o labels ≡ false → f (others_entry (map (label_entry t) dropped)) ≡ h dropped)
       → sum_by f (limited o (map (label_entry t) labels)) + sum_by g (left-out o labels) ≡ sum_by g labels + h (left-out o labels)
-  unfolding limited
+  unfolding within
   sum-limited f g h is none others =
       let size : length (map (label_entry t) labels) ≡ length labels = length-map labels (label_entry t) in
       rw size (at (fits o labels) refl)
@@ -146,18 +148,8 @@ module _ (o : RowOptions) (t : Table) (labels : List (List ℕ)) where
       → (fits o labels ≡ false → f (others_entry (map (label_entry t) dropped)) ≡ h dropped) → sum_by f (limited o (map (label_entry t) labels)) ≡ h (left-out o labels)
   sum-taken f h is none others = omega (arith, sum-limited f (λ l. 0) h is none others, sum-zero labels, sum-zero (left-out o labels))
 
--- rows go on at a lesser level, or end
-abbrev Stops : ℕ → List Row → Type 0
-Stops level [] = ⊤
-Stops level (r ∷ rows) = r.level < level
-
-stopped : (size : Row → ℕ) (level : ℕ) (rows : List Row) → Stops level rows → level_sum size level rows ≡ 0
-stopped size level [] stops = refl
-stopped size level (r ∷ rows) stops = let a : nat_lt r.level level ≡ true = grind (arith, common_steps) in rw a refl
-
-stops-later : (low high : ℕ) (rows : List Row) → low ≤ high → Stops low rows → Stops high rows
-stops-later low high [] le stops = tt
-stops-later low high (r ∷ rows) le stops = omega (arith, stops)
+abbrev level-of : Row → ℕ
+level-of r = r.level
 
 take-less : (m n : ℕ) (path : Path) → m ≤ n → take m (take n path) ≡ take m path
 take-less zero n [] le = refl
@@ -175,12 +167,12 @@ module _ (o : RowOptions) (vm file : Path → ℕ) (t : Table) (are : AreSizesBe
   file-at path l = ap file_sum (sym (under-more path l t)) ∙ are.file_is (path ++ l ∷ [])
 
   -- a level shows what stands under a path
-  shows-level : (n level : ℕ) (path : Path) (after : List Row) → Stops level after → ShowsLevel o vm file path level (listing o (suc n) level (under_path path t) ++ after)
+  shows-level : (n level : ℕ) (path : Path) (after : List Row) → Stops level-of level after → ShowsLevel o vm file path level (listing o (suc n) level (under_path path t) ++ after)
   shows-level n level path after stops =
       let u : Table = under_path path t in
       let labels : List (List ℕ) = children o u in
       let level-is : (size : Row → ℕ) → level_sum size level (listing o (suc n) level u ++ after) ≡ sum_by (λ e. size (row_of level e)) (entries_of o u) =
-      (λ size. omega (arith, at-listing o size n level u after, stopped size level after stops)) in
+      (λ size. level-sum (entries_of o) (λ (e : Entry). e.below) (row_of 0) size n level u after stops) in
       record {
         left = left-out o labels;
         each = λ label.
@@ -206,7 +198,7 @@ module _ (o : RowOptions) (vm file : Path → ℕ) (t : Table) (are : AreSizesBe
     of_others : (left : List Entry) → e ≡ others_entry left → IsEntry u e
 
   entries-are : (u : Table) → All (IsEntry u) (entries_of o u)
-  entries-are u = limited-sound o (IsEntry u) (map (label_entry u) (children o u)) (All-map (IsEntry u) (label_entry u) (children o u) (λ k d lt. of_label _ refl)) (of_others _ refl)
+  entries-are u = All-within o.limit (by_key o) others_entry (IsEntry u) (map (label_entry u) (children o u)) (All-map (IsEntry u) (label_entry u) (children o u) (λ k d lt. of_label _ refl)) (of_others _ refl)
 
   module _ (depth : ℕ) where
     -- rows that may follow any row under a path
@@ -215,13 +207,13 @@ module _ (o : RowOptions) (vm file : Path → ℕ) (t : Table) (are : AreSizesBe
 
     -- the rows of a level under a path may, where those that follow them may
     Lists : ℕ → ℕ → Type 0
-    Lists n level = (path : Path) (after : List Row) → length path ≡ level → Stops (level + 1) after → Go level path after → Go level path (listing o n level (under_path path t) ++ after)
+    Lists n level = (path : Path) (after : List Row) → length path ≡ level → Stops level-of (level + 1) after → Go level path after → Go level path (listing o n level (under_path path t) ++ after)
 
-    below-label : (n level : ℕ) (path : Path) (rest : List Row) → depth ≡ level + suc n → Stops (level + 1) rest → level + 1 < depth → ShowsLevel o vm file path (level + 1) (listing o n (level + 1) (under_path path t) ++ rest)
+    below-label : (n level : ℕ) (path : Path) (rest : List Row) → depth ≡ level + suc n → Stops level-of (level + 1) rest → level + 1 < depth → ShowsLevel o vm file path (level + 1) (listing o n (level + 1) (under_path path t) ++ rest)
     below-label zero level path rest d stops lt = absurd (omega arith)
     below-label (suc n) level path rest d stops lt = shows-level n (level + 1) path rest stops
 
-    show-label : (n level : ℕ) (path : Path) (l : List ℕ) (rest : List Row) → length path ≡ level → depth ≡ level + suc n → Lists n (level + 1) → Stops (level + 1) rest → Go level path rest
+    show-label : (n level : ℕ) (path : Path) (l : List ℕ) (rest : List Row) → length path ≡ level → depth ≡ level + suc n → Lists n (level + 1) → Stops level-of (level + 1) rest → Go level path rest
         → Go level path (row_of level (label_entry (under_path path t) l) ∷ (listing o n (level + 1) (under l (under_path path t)) ++ rest))
     unfolding Go Lists
     show-label n level path l rest len d lists stops go before is =
@@ -231,7 +223,7 @@ module _ (o : RowOptions) (vm file : Path → ℕ) (t : Table) (are : AreSizesBe
         let front : take level full ≡ path = take-append-le level path (l ∷ []) (omega (arith, len)) ∙ take_all level path (omega (arith, len)) in
         let rows : List Row = listing o n (level + 1) (under_path full t) ++ rest in
         let more : Go (level + 1) full rest = (λ b at. go b (sym (take-less level (level + 1) b (omega arith)) ∙ (ap (take level) at ∙ front))) in
-        let later : ShowRows o vm file depth full rows = lists full rest long (stops-later (level + 1) (level + 1 + 1) rest (omega arith) stops) more full (take_all (level + 1) full (omega (arith, long))) in
+        let later : ShowRows o vm file depth full rows = lists full rest long (stops-later level-of (level + 1) (level + 1 + 1) rest (omega arith) stops) more full (take_all (level + 1) full (omega (arith, long))) in
         let row : Row = record { level = level; kind = Label l; vm = vm_sum (under_path full t); file = file_sum (under_path full t) } in
         let here : ShowsLabel o vm file depth full row rows = record { vm_is = are.vm_is full; file_is = are.file_is full; below = below-label n level full rest d stops } in
         rw (is, same) (here, later)
@@ -241,14 +233,14 @@ module _ (o : RowOptions) (vm file : Path → ℕ) (t : Table) (are : AreSizesBe
     show-others n level path left rest go before is =
         rw listing-nil (tt, go (take level before) (take-less level level before (omega arith) ∙ is))
 
-    show-entry : (n level : ℕ) (path : Path) (e : Entry) (rest : List Row) → length path ≡ level → depth ≡ level + suc n → Lists n (level + 1) → Stops (level + 1) rest → Go level path rest
+    show-entry : (n level : ℕ) (path : Path) (e : Entry) (rest : List Row) → length path ≡ level → depth ≡ level + suc n → Lists n (level + 1) → Stops level-of (level + 1) rest → Go level path rest
         → IsEntry (under_path path t) e → Go level path (row_of level e ∷ (listing o n (level + 1) e.below ++ rest))
     show-entry n level path e rest len d lists stops go (of_label l same) =
         subst (λ (e : Entry). Go level path (row_of level e ∷ (listing o n (level + 1) e.below ++ rest))) (sym same) (show-label n level path l rest len d lists stops go)
     show-entry n level path e rest len d lists stops go (of_others left same) =
         subst (λ (e : Entry). Go level path (row_of level e ∷ (listing o n (level + 1) e.below ++ rest))) (sym same) (show-others n level path left rest go)
 
-    show-entries : (n level : ℕ) (path : Path) (after : List Row) → length path ≡ level → depth ≡ level + suc n → Lists n (level + 1) → Stops (level + 1) after → Go level path after
+    show-entries : (n level : ℕ) (path : Path) (after : List Row) → length path ≡ level → depth ≡ level + suc n → Lists n (level + 1) → Stops level-of (level + 1) after → Go level path after
         → (es : List Entry) → All (IsEntry (under_path path t)) es → Go level path (flat_map (λ (e : Entry). row_of level e ∷ listing o n (level + 1) e.below) es ++ after)
     show-entries n level path after len d lists stops go [] all = go
     show-entries n level path after len d lists stops go (e ∷ es) all =
@@ -258,12 +250,12 @@ module _ (o : RowOptions) (vm file : Path → ℕ) (t : Table) (are : AreSizesBe
         let rest : Go level path (flat_map f es ++ after) = show-entries n level path after len d lists stops go es (All-tail P e es all) in
         subst (Go level path) (sym q) (show-entry n level path e (flat_map f es ++ after) len d lists (next es) rest (All-head P e es all))
       where
-        next : (es : List Entry) → Stops (level + 1) (flat_map (λ (e : Entry). row_of level e ∷ listing o n (level + 1) e.below) es ++ after)
+        next : (es : List Entry) → Stops level-of (level + 1) (flat_map (λ (e : Entry). row_of level e ∷ listing o n (level + 1) e.below) es ++ after)
         next [] = stops
         next (e ∷ es) = omega arith
 
     show-listing : (n level : ℕ) → depth ≡ level + n → Lists n level
-    unfolding listing Lists
+    unfolding rows_over Lists
     show-listing zero level d path after len stops go = go
     show-listing (suc n) level d path after len stops go =
         show-entries n level path after len d (show-listing n (level + 1) (omega (arith, d))) stops go (entries_of o (under_path path t)) (entries-are (under_path path t))

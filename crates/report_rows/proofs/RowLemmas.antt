@@ -8,8 +8,9 @@ use Rattle.std.proofs.lemmas.List.Sums.{sum_by_more_le}
 use Rattle.std.proofs.lemmas.Option.{get_or_from_slice_get}
 use Rattle.rollup.specs.declared.table.RollupRow.{RollupRow}
 use Rattle.std.proofs.lemmas.Grind.{common_steps}
-use Rattle.report_rows.specs.declared.groups.Group.{Group}
 use Rattle.report_rows.specs.Groups.{labels_at}
+use Rattle.report_rows.specs.Levels.{level_labels}
+use Rattle.std.proofs.lemmas.Simd.{map-map}
 use Rattle.report_rows.proofs.TableLemmas.{bytes_eq-same}
 
 -- the sum so far and the next element of a list that is seen by a function
@@ -19,24 +20,19 @@ mapped_more g f xs i x lt e =
     let inside : i < length (map g xs) = rw length-map lt in
     rw (take-map g i xs, get_or-map g xs i x (g x) lt, ← e) at (sum_by_more_le f (map g xs) i (g x) inside)
 
--- the label of a level of a row that is read
-pub label_read : (rows : List (Bor RollupRow)) (level i : ℕ) (row : Bor RollupRow) (label : List ℕ) → i < length rows → row ≡ get_or rows i row → slice_get row.now.path level ≡ Some label
-    → get_or (labels_at level (map (λ r. r.now) rows)) i [] ≡ label
-label_read rows level i row label lt e at =
-    let inside : i < length (map (λ (r : Bor RollupRow). r.now) rows) = rw length-map lt in
-    get_or-map (λ (r : RollupRow). get_or r.path level []) (map (λ (r : Bor RollupRow). r.now) rows) i row.now [] inside
-    ∙ (ap (λ (r : RollupRow). get_or r.path level []) (get_or-map (λ (r : Bor RollupRow). r.now) rows i row row.now lt ∙ ap (λ (r : Bor RollupRow). r.now) (sym e))
-    ∙ get_or_from_slice_get row.now.path level label [] at)
+-- the label of a level of what is read
+pub label_read : {X : Type 0} (path : X → List (List ℕ)) (xs : List X) (level i : ℕ) (x : X) (label : List ℕ) → i < length xs → x ≡ get_or xs i x → slice_get (path x) level ≡ Some label
+    → get_or (level_labels path level xs) i [] ≡ label
+label_read path xs level i x label lt e at =
+    get_or-map (λ y. get_or (path y) level []) xs i x [] lt ∙ (ap (λ y. get_or (path y) level []) (sym e) ∙ get_or_from_slice_get (path x) level label [] at)
 
-pub label_at : (rows : List (Bor RollupRow)) (level i : ℕ) (row : Bor RollupRow) (label : List ℕ) → i < length rows → slice_get (get_or rows i row).now.path level ≡ Some label
-    → get_or (labels_at level (map (λ r. r.now) rows)) i [] ≡ label
-label_at rows level i row label lt at = label_read rows level i (get_or rows i row) label lt (get_or_default rows i row (get_or rows i row) lt) at
+pub label_at : {X : Type 0} (path : X → List (List ℕ)) (xs : List X) (level i : ℕ) (x : X) (label : List ℕ) → i < length xs → slice_get (path (get_or xs i x)) level ≡ Some label
+    → get_or (level_labels path level xs) i [] ≡ label
+label_at path xs level i x label lt at = label_read path xs level i (get_or xs i x) label lt (get_or_default xs i x (get_or xs i x) lt) at
 
-pub key_at : (groups : List Group) (i n : ℕ) (d e : Group) → i < length groups → (get_or groups i d).key.0 ≤ n → leb (get_or groups i e).key.0 n ≡ true
-key_at groups i n d e lt le = rw (get_or_default groups i e d lt) (at-most (get_or groups i d).key.0 n le)
-  where
-    at-most : (m n : ℕ) → m ≤ n → leb m n ≡ true
-    at-most m n le = grind (arith, common_steps)
+-- the labels of rows behind references
+pub seen-labels : (level : ℕ) (rows : List (Bor RollupRow)) → labels_at level (map (λ r. r.now) rows) ≡ level_labels (λ (r : Bor RollupRow). r.now.path) level rows
+seen-labels level rows = map-map (λ (r : RollupRow). get_or r.path level []) (λ (r : Bor RollupRow). r.now) rows
 
 pub told_apart : (a b : List ℕ) → true ≡ not (bytes_eq a b) → a ≡ b → ⊥
 told_apart a b e s =

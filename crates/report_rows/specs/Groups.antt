@@ -1,15 +1,16 @@
 -- Groups of rows that share the label of a level, and how they stand for the entries of a table.
 use Rattle.std.specs.Prelude.{◌≡◌, ◌≢◌, ℕ, ◌+◌, ◌-◌, ◌^◌, ◌<◌, ◌≤◌, List, [], All, length, map, take, drop, get_or}
+use Rattle.std.specs.List.{sum_by}
 use Rattle.std.specs.List.Sorted.{IsStrictlySortedBy}
 use Rattle.rollup.specs.Totals.{row_cmp}
 use Rattle.rollup.specs.declared.table.RollupRow.{RollupRow}
 use Rattle.report_rows.specs.declared.row.RowOptions.{RowOptions}
-use Rattle.report_rows.specs.declared.groups.Kind.TheVariants.{Label}
+use Rattle.report_rows.specs.declared.groups.Kind.TheVariants.{Label, Others}
 use Rattle.report_rows.specs.declared.groups.Group.{Group}
 use Rattle.report_rows.specs.GroupKinds.{kind_of}
 use Rattle.report_rows.specs.Keys.{key_of}
 use Rattle.report_rows.specs.Tables.{Table, vm_sum, file_sum}
-use Rattle.report_rows.specs.Rows.{Entry, label_entry, limited}
+use Rattle.report_rows.specs.Rows.{Entry, label_entry}
 
 -- a row from the label of a level on
 abbrev pub row_from : ℕ → RollupRow → RollupRow
@@ -56,14 +57,14 @@ pub record IsRange (level : ℕ) (rows : List RollupRow) (g : Group) : Type 0 wh
   pub some : g.kind ≡ Label → g.from < g.to
   pub ordered : IsStrictlySortedBy row_cmp (table_at (level + 1) (take (g.to - g.from) (drop g.from rows)))
 
--- what holds of the ranges of groups holds of others
-abbrev pub KeepsRanges : List Group → List Group → Type 0
-KeepsRanges old new = (level : ℕ) (rows : List RollupRow) → All (IsRange level rows) old → All (IsRange level rows) new
+-- groups whose sizes a 63-bit number holds
+pub record Fits (groups : List Group) : Type 0 where
+  pub vm : sum_by (λ (g : Group). g.vm) groups ≤ 2 ^ 63 - 1
+  pub file : sum_by (λ (g : Group). g.file) groups ≤ 2 ^ 63 - 1
 
-abbrev pub HasKey : RowOptions → Group → Type 0
-HasKey o g = g.key.0 ≡ key_of o g.vm g.file
-
--- groups stand for the entries that others stand for, within the limit
-abbrev pub LimitsEntries : RowOptions → List Group → List Group → Type 0
-LimitsEntries o old new =
-    All (HasKey o) old → (level : ℕ) (rows : List RollupRow) → map (group_entry level rows) new ≡ limited o (map (group_entry level rows) old)
+-- groups that are left over, taken together
+abbrev pub others_group : RowOptions → List Group → Group
+others_group o left =
+    let vm = sum_by (λ (g : Group). g.vm) left in
+    let file = sum_by (λ (g : Group). g.file) left in
+    record { key = record { 0 = key_of o vm file }; from = 0; to = 0; kind = Others (length left); vm = vm; file = file }

@@ -1,6 +1,6 @@
 -- The rows of a report, as a function of the rows of a rollup.
-use Rattle.std.specs.Prelude.{ℕ, Bool, zero, suc, ◌+◌, ◌==◌, ◌||◌, nat_le, List, [], ◌∷◌, length, map, filter, take, drop, if◌then◌else◌}
-use Rattle.std.specs.List.{sum_by, flat_map}
+use Rattle.std.specs.Prelude.{ℕ, Bool, List, [], length, map, filter}
+use Rattle.std.specs.List.{sum_by}
 use Rattle.std.specs.declared.cmp.Ordering.{Ordering}
 use Rattle.std.specs.Ordering.{nat_cmp, ordering_then}
 use Rattle.std.specs.Cmp.Lexicographic.{slice_cmp}
@@ -11,7 +11,8 @@ use Rattle.report_rows.specs.declared.row.RowKind.TheVariants.{Label, Others}
 use Rattle.report_rows.specs.declared.row.Row.{Row}
 use Rattle.report_rows.specs.declared.row.RowTree.{RowTree}
 use Rattle.report_rows.specs.Keys.{key_of, is_shown}
-use Rattle.report_rows.specs.Order.{placed, in_order}
+use Rattle.report_rows.specs.Levels.{rows_over}
+use Rattle.report_rows.specs.Order.{in_order, within}
 use Rattle.report_rows.specs.Tables.{Table, vm_sum, file_sum, under, first_labels}
 
 -- what a row says, and the table whose rows stand under it
@@ -46,10 +47,8 @@ children o t = in_order (label_cmp o t) (filter (has_shown o t) (first_labels t)
 
 -- Where a limit is above 0 and there are more, so many stay, and the others are one more that stands by its key, before
 -- a label of the same key.
-unfoldable pub limited : RowOptions → List Entry → List Entry
-limited o entries =
-    if o.limit == 0 || nat_le (length entries) o.limit then entries
-    else placed (by_key o) (others_entry (drop o.limit entries)) (take o.limit entries)
+abbrev pub limited : RowOptions → List Entry → List Entry
+limited o entries = within o.limit (by_key o) others_entry entries
 
 -- what stands in the level under a table
 abbrev pub entries_of : RowOptions → Table → List Entry
@@ -59,9 +58,8 @@ abbrev pub row_of : ℕ → Entry → Row
 row_of level e = record { level = level; kind = e.kind; vm = e.vm; file = e.file }
 
 -- the rows of so many levels under a table, the first of them at this level; what stands under a row follows it
-unfoldable pub listing : RowOptions → ℕ → ℕ → Table → List Row
-listing o zero level t = []
-listing o (suc levels) level t = flat_map (λ (e : Entry). row_of level e ∷ listing o levels (level + 1) e.below) (entries_of o t)
+abbrev pub listing : RowOptions → ℕ → ℕ → Table → List Row
+listing o levels level t = rows_over (entries_of o) (λ (e : Entry). e.below) row_of levels level t
 
 -- the rows of a report
 abbrev pub row_tree : RowOptions → Totals → RowTree

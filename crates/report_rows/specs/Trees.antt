@@ -5,6 +5,7 @@ use Rattle.report_rows.specs.declared.row.RowKind.{RowKind}
 use Rattle.report_rows.specs.declared.row.RowKind.TheVariants.{Label, Others}
 use Rattle.report_rows.specs.declared.row.Row.{Row}
 use Rattle.report_rows.specs.declared.row.RowTree.{RowTree}
+use Rattle.report_rows.specs.Levels.{EachRow}
 use Rattle.report_rows.specs.Shown.{shows_vm, shows_file}
 
 -- a row has children where the next row has a greater level
@@ -35,8 +36,7 @@ level_sum size level (r ∷ rows) =
 
 -- the sizes of the children of each row that has any add up to its own
 abbrev pub AddUp : (Row → ℕ) → List Row → Type 0
-AddUp size [] = ⊤
-AddUp size (r ∷ rows) = (has_children r rows ≡ true → level_sum size (r.level + 1) rows ≡ size r) × AddUp size rows
+AddUp size rows = EachRow (λ (r : Row) (later : List Row). has_children r later ≡ true → level_sum size (r.level + 1) later ≡ size r) rows
 
 -- a size adds up: that of the first level to the total, and that of each row's children to the row's
 pub record HasSums (size : Row → ℕ) (total depth : ℕ) (rows : List Row) : Type 0 where

@@ -1,15 +1,17 @@
 //! The labels of a level, each with its rows, in the order of a report.
 
-ghost use Rattle.std.specs.Prelude.{◌≡◌, ◌≢◌, ◌+◌, ◌-◌, ◌^◌, ◌<◌, ◌≤◌, ◌++◌, [], ◌∷◌, ℕ, All, length, map, filter, take, get_or, nat_le, IfOk, OnOk, if◌then◌else◌};
-ghost use Rattle.std.specs.List.{sum_by, position_or_len};
-ghost use Rattle.report_rows.specs.Groups.{table_at, labels_at, group_label, group_entry, IsPart, IsGroup, IsBorder, IsRange, KeepsRanges, LimitsEntries};
-ghost use Rattle.report_rows.specs.Keys.{key_of, is_shown};
+ghost use Rattle.std.specs.Prelude.{◌≡◌, ◌≢◌, ◌+◌, ◌-◌, ◌^◌, ◌<◌, ◌≤◌, ◌++◌, [], ◌∷◌, ℕ, All, length, map, filter, get_or, IfOk, OnOk, if◌then◌else◌};
+ghost use Rattle.report_rows.specs.Groups.{table_at, labels_at, group_label, group_entry, IsPart, IsGroup, IsBorder, IsRange, Fits, others_group};
+ghost use Rattle.report_rows.specs.Keys.{is_shown};
 ghost use Rattle.report_rows.specs.Rows.{children, entries_of, has_shown};
 ghost use Rattle.report_rows.specs.Tables.{vm_sum, file_sum, first_labels};
 
+use crate::keys::{is_shown, key};
+use crate::limits::{Grouped, limit};
+use crate::paths::{HasPath, run_len};
 use crate::row::RowOptions;
 use rollup::RollupRow;
-use size_core::{Domain, NoMemory, Sort};
+use size_core::{NoMemory, Path};
 use std::alloc::Global;
 use std::cmp::Reverse;
 
@@ -51,55 +53,11 @@ pub fn sums(rows: &[&RollupRow]) -> (u64, u64)
     (vm, file)
 }
 
-// How many rows at the front share their label of a level.
-fn run_len(rows: &[&RollupRow], level: usize) -> usize
-    requires some { 0 < length rows.now }
-    requires deep { All (λ r. level < length r.now.path) rows.now }
-    ensures some { 0 < result }
-    ensures within { result ≤ length rows.now }
-    ensures same { let labels = labels_at level (map (λ r. r.now) rows.now) in
-        (k : ℕ) → k < result → get_or labels k [] ≡ get_or labels 0 [] }
-    ensures next { let labels = labels_at level (map (λ r. r.now) rows.now) in
-        result < length rows.now → get_or labels result [] ≢ get_or labels 0 [] }
-{
-    let label = rows[0].path.get(level).as_slice();
-    for (i, row) in rows.iter().enumerate() {
-        if row.path.get(level).as_slice() != label {
-            return i;
-        }
-    }
-    rows.len()
-}
+impl<'a> HasPath for &'a RollupRow {
+    ghost path = { λ r. r.now.path };
 
-// The shown size that orders.
-fn key(options: &RowOptions, vm: u64, file: u64) -> u64
-    ensures { result ≡ key_of options.now vm file }
-{
-    let vm = if options.domain == Domain::File {
-        0
-    } else {
-        vm
-    };
-    let file = if options.domain == Domain::Vm {
-        0
-    } else {
-        file
-    };
-    match options.sort {
-        Sort::Vm => vm,
-        Sort::File => file,
-        Sort::Both => vm.max(file),
-    }
-}
-
-// Whether a shown size is above 0.
-fn is_shown(options: &RowOptions, vm: u64, file: u64) -> bool
-    ensures { result ≡ is_shown options.now vm file }
-{
-    match options.domain {
-        Domain::Vm => vm > 0,
-        Domain::File => file > 0,
-        Domain::Both => vm > 0 || file > 0,
+    fn path(&self) -> &Path {
+        &self.path
     }
 }
 
@@ -186,60 +144,33 @@ fn children(
     Ok(groups)
 }
 
-// Groups that are left over, taken together.
-fn others(options: &RowOptions, left: &[Group]) -> Group
-    requires vm_fits { sum_by (λ g. g.vm) left.now ≤ 2 ^ 63 - 1 }
-    requires file_fits { sum_by (λ g. g.file) left.now ≤ 2 ^ 63 - 1 }
-    ensures kind { result.kind ≡ Kind.Others (length left.now) }
-    ensures none { (result.from ≡ 0) × (result.to ≡ 0) }
-    ensures vm { result.vm ≡ sum_by (λ g. g.vm) left.now }
-    ensures file { result.file ≡ sum_by (λ g. g.file) left.now }
-    ensures key { result.key.0 ≡ key_of options.now result.vm result.file }
-{
-    let mut vm = 0;
-    let mut file = 0;
-    for group in left {
-        vm += group.vm;
-        file += group.file;
-    }
-    Group {
-        key: Reverse(key(options, vm, file)),
-        from: 0,
-        to: 0,
-        kind: Kind::Others(left.len() as u64),
-        vm,
-        file,
-    }
-}
+impl Grouped for Group {
+    ghost key = { λ g. g.key.0 };
 
-// Where a group of others stands: before the first group whose key is not larger.
-fn place(groups: &[Group], others: &Group) -> usize
-    ensures { result ≡ position_or_len (λ g. nat_le g.key.0 others.now.key.0) groups.now }
-{
-    for (i, group) in groups.iter().enumerate() {
-        if group.key.0 <= others.key.0 {
-            return i;
+    ghost fits = { Fits };
+
+    ghost together = { others_group };
+
+    fn key(&self) -> u64 {
+        self.key.0
+    }
+
+    fn together(options: &RowOptions, left: &[Group]) -> Group {
+        let mut vm = 0;
+        let mut file = 0;
+        for group in left {
+            vm += group.vm;
+            file += group.file;
+        }
+        Group {
+            key: Reverse(key(options, vm, file)),
+            from: 0,
+            to: 0,
+            kind: Kind::Others(left.len() as u64),
+            vm,
+            file,
         }
     }
-    groups.len()
-}
-
-// Leaves the groups within the limit, and one of the others where there are more.
-fn limit(options: &RowOptions, groups: &mut Vec<Group>) -> Result<(), NoMemory>
-    requires vm_fits { sum_by (λ g. g.vm) groups.old.items ≤ 2 ^ 63 - 1 }
-    requires file_fits { sum_by (λ g. g.file) groups.old.items ≤ 2 ^ 63 - 1 }
-    ensures entries { OnOk result (LimitsEntries options.now groups.old.items groups.new.items) }
-    ensures ranges { OnOk result (KeepsRanges groups.old.items groups.new.items) }
-{
-    let kept = options.limit as usize;
-    if kept == 0 || groups.len() <= kept {
-        return Ok(());
-    }
-    let others = others(options, &groups[kept..]);
-    groups.truncate(kept);
-    let place = place(groups.as_slice(), &others);
-    groups.insert(place, others)?;
-    Ok(())
 }
 
 /// What stands in a level under these rows, in the order of a report.

@@ -2,12 +2,19 @@
 #![tactic(auto)]
 
 mod groups;
+mod keys;
 mod laws;
+mod limits;
 mod listing;
+mod paths;
 mod row;
 
+pub use groups::Kind;
+pub use keys::{is_shown, key};
 pub use laws::{rows_show_paths, sizes_by_prefix};
+pub use limits::{Grouped, limit};
 pub use listing::rows;
+pub use paths::{HasPath, run_len};
 pub use row::{Row, RowKind, RowOptions, RowTree, Rows};
 
 #[cfg(test)]

@@ -1,9 +1,9 @@
 -- How a table grows record by record.
-use Rattle.std.proofs.Common.{◌≡◌, ℕ, zero, suc, ◌+◌, ◌<◌, ◌≤◌, Bool, true, false, cond, List, [], ◌∷◌, ◌++◌, Option, Some, length, take, drop, slice_get, refl, sym, ap, subst, ◌∙◌, arith}
-use Rattle.std.specs.Prelude.{nat_lt, decimal}
+use Rattle.std.proofs.Common.{◌≡◌, ℕ, zero, suc, ◌+◌, ◌<◌, ◌≤◌, Bool, true, false, cond, List, [], ◌∷◌, ◌++◌, Option, Some, length, map, take, drop, slice_get, refl, sym, ap, subst, ◌∙◌, arith}
+use Rattle.std.specs.Prelude.{nat_lt}
 use Rattle.std.specs.List.{flat_map}
 use Rattle.std.proofs.lemmas.Bool.{ltb-true, ltb-false}
-use Rattle.std.proofs.lemmas.List.{append_assoc, length-take, length_push, take_all, take-take, take-append-le, drop_more, drop_all, append-nil}
+use Rattle.std.proofs.lemmas.List.{append_assoc, length-take, length_push, take_all, take-take, take-append-le, drop_more, drop_all, append-nil, map-id}
 use Rattle.std.proofs.lemmas.Grind.{common_steps, flat_map-append}
 use Rattle.std.proofs.lemmas.Option.{slice_get_within, get_or_from_slice_get}
 use Rattle.csv.specs.Writing.{row_text, text_written}
@@ -12,42 +12,51 @@ use Rattle.size_core.specs.declared.choices.Domain.{Domain}
 use Rattle.report_rows.specs.declared.row.Row.{Row}
 use Rattle.report_rows.specs.declared.row.RowKind.{RowKind}
 use Rattle.report_rows.specs.declared.row.RowKind.TheVariants.{Label, Others}
-use Rattle.report_rows.specs.declared.row.RowTree.{RowTree}
-use Rattle.report_rows.specs.Trees.{has_children, AreLevels}
+use Rattle.report_rows.specs.Trees.{has_children, AreLevels, IsTree}
 use Rattle.report_text.specs.Between.{IsReady, IsPath, HasCome, entered}
 use Rattle.report_text.specs.Labels.{kind_text}
-use Rattle.report_text.specs.Records.{Fields, delimited, labels_above, header_fields, vm_first, path_fields, row_fields, leaf_record, leaf_records, table, table_text}
+use Rattle.report_text.specs.Records.{Fields, delimited, labels_above, header_fields, path_fields, row_fields, leaf_record, leaf_records, table_text}
 
 -- the rows from one on
-pub rows-from : (rows : List Row) (i : ℕ) (r : Row) → slice_get rows i ≡ Some r → drop i rows ≡ r ∷ drop (i + 1) rows
-rows-from rows i r e =
-    drop_more rows i r (slice_get_within rows i r e) ∙ ap (λ x. x ∷ drop (i + 1) rows) (get_or_from_slice_get rows i r r e)
+pub rows-from : {X : Type 0} (xs : List X) (i : ℕ) (x : X) → slice_get xs i ≡ Some x → drop i xs ≡ x ∷ drop (i + 1) xs
+rows-from xs i x e =
+    drop_more xs i x (slice_get_within xs i x e) ∙ ap (λ y. y ∷ drop (i + 1) xs) (get_or_from_slice_get xs i x x e)
 
 -- whether the next row has a greater level
-pub children-next : (rows : List Row) (i : ℕ) (r row next : Row) → slice_get rows i ≡ Some r → slice_get rows (i + 1) ≡ Some next → slice_get rows i ≡ Some row → nat_lt r.level next.level ≡ has_children row (drop (i + 1) rows)
-children-next rows i r row next at after is =
-    let same : r ≡ row = cc in
-    rw (rows-from rows (i + 1) next after, same) refl
+pub children-next : {X : Type 0} (as_row : X → Row) (xs : List X) (i : ℕ) (x row next : X) → slice_get xs i ≡ Some x → slice_get xs (i + 1) ≡ Some next → slice_get xs i ≡ Some row
+    → nat_lt (as_row x).level (as_row next).level ≡ has_children (as_row row) (map as_row (drop (i + 1) xs))
+children-next as_row xs i x row next at after is =
+    let same : x ≡ row = cc in
+    rw (rows-from xs (i + 1) next after, same) refl
 
 -- the fields of a row's record
-pub row-fields : (depth : ℕ) (domain : Domain) (above : Fields) (r : Row) (p q : Fields) (vm file : List ℕ) → p ≡ path_fields depth above r → q ≡ p ++ vm_first domain vm file → vm ≡ decimal r.vm → file ≡ decimal r.file → q ≡ row_fields depth domain above r
+pub row-fields : (depth : ℕ) (above : Fields) (r : Row) (sizes p q : Fields) → p ≡ path_fields depth above r → q ≡ p ++ sizes → q ≡ row_fields depth above r sizes
 unfolding row_fields
-row-fields depth domain above r p q vm file path fields is_vm is_file = fields ∙ rw (path, is_vm, is_file) refl
+row-fields depth above r sizes p q path fields = fields ∙ rw path refl
 
 -- the record of a row without children
-pub leaf-written : (f : Fields → List ℕ) (depth : ℕ) (domain : Domain) (above : Fields) (rows : List Row) (i : ℕ) (r row : Row) (text : List ℕ) → slice_get rows i ≡ Some r → slice_get rows i ≡ Some row
-    → has_children row (drop (i + 1) rows) ≡ false → text ++ f (row_fields depth domain above r) ≡ text ++ flat_map f (leaf_record depth domain above row (drop (i + 1) rows))
-leaf-written f depth domain above rows i r row text at is none =
-    let same : r ≡ row = cc in
-    ap (λ x. text ++ x) (ap (λ x. f (row_fields depth domain above x)) same ∙ rw none (sym (append-nil (f (row_fields depth domain above row)))))
+pub leaf-written : {X : Type 0} (f : Fields → List ℕ) (as_row : X → Row) (sizes : X → Fields) (depth : ℕ) (above : Fields) (xs : List X) (i : ℕ) (x row : X) (text : List ℕ) (has : Bool)
+    → slice_get xs i ≡ Some x → slice_get xs i ≡ Some row → has ≡ has_children (as_row row) (map as_row (drop (i + 1) xs)) → has ≡ false
+    → text ++ f (row_fields depth above (as_row x) (sizes x)) ≡ text ++ flat_map f (leaf_record depth above (as_row row) (sizes row) (map as_row (drop (i + 1) xs)))
+leaf-written f as_row sizes depth above xs i x row text has at is test childless =
+    let none = sym test ∙ childless in
+    let same : x ≡ row = cc in
+    ap (λ y. text ++ y) (ap (λ y. f (row_fields depth above (as_row y) (sizes y))) same ∙ rw none (sym (append-nil (f (row_fields depth above (as_row row) (sizes row))))))
 
 -- each level is below the depth
-pub level-below : (depth highest : ℕ) (rows : List Row) (i : ℕ) (r : Row) → AreLevels depth highest rows → slice_get rows i ≡ Some r → r.level < depth
-level-below depth highest [] i r all e = cc e
-level-below depth highest (n ∷ rows) zero r all e =
-    let same : n ≡ r = cc e in
-    subst (λ (x : Row). x.level < depth) same all.1
-level-below depth highest (n ∷ rows) (suc i) r all e = level-below depth (n.level + 1) rows i r all.3 e
+pub level-below : {X : Type 0} (as_row : X → Row) (depth highest : ℕ) (xs : List X) (i : ℕ) (x : X) → AreLevels depth highest (map as_row xs) → slice_get xs i ≡ Some x → (as_row x).level < depth
+level-below as_row depth highest [] i x all e = cc e
+level-below as_row depth highest (n ∷ xs) zero x all e =
+    let same : n ≡ x = cc e in
+    subst (λ y. (as_row y).level < depth) same all.1
+level-below as_row depth highest (n ∷ xs) (suc i) x all e = level-below as_row depth ((as_row n).level + 1) xs i x all.3 e
+
+-- a tree of rows that are taken as they are
+pub plain_tree : (depth : ℕ) (rows : List Row) → IsTree depth rows → IsTree depth (map (λ (r : Row). r) rows)
+plain_tree depth rows is = subst (IsTree depth) (sym (map-id rows)) is
+
+pub from_plain : (depth : ℕ) (rows : List Row) → IsTree depth (map (λ (r : Row). r) rows) → IsTree depth rows
+from_plain depth rows is = subst (IsTree depth) (map-id rows) is
 
 -- no row follows one without children on a greater level
 lower : (depth : ℕ) (r : Row) (rows : List Row) → has_children r rows ≡ false → AreLevels depth (r.level + 1) rows → AreLevels depth r.level rows
@@ -86,34 +95,44 @@ path-others h path before r is le = record {
 }
 
 -- the records from a row on
-rest-one : (f : Fields → List ℕ) (depth : ℕ) (domain : Domain) (before : List Row) (r : Row) (rows : List Row) (text whole : List ℕ) (above : Fields) → above ≡ labels_above r.level before
-    → text ++ flat_map f (leaf_records depth domain before (r ∷ rows)) ≡ whole → (text ++ flat_map f (leaf_record depth domain above r rows)) ++ flat_map f (leaf_records depth domain (r ∷ before) rows) ≡ whole
+rest-one : {X : Type 0} (f : Fields → List ℕ) (as_row : X → Row) (sizes : X → Fields) (depth : ℕ) (before : List Row) (x : X) (xs : List X) (text whole : List ℕ) (above : Fields)
+    → above ≡ labels_above (as_row x).level before → text ++ flat_map f (leaf_records as_row sizes depth before (x ∷ xs)) ≡ whole
+    → (text ++ flat_map f (leaf_record depth above (as_row x) (sizes x) (map as_row xs))) ++ flat_map f (leaf_records as_row sizes depth (as_row x ∷ before) xs) ≡ whole
 unfolding leaf_records
-rest-one f depth domain before r rows text whole above same e =
-    let one = leaf_record depth domain above r rows in
-    let others = leaf_records depth domain (r ∷ before) rows in
+rest-one f as_row sizes depth before x xs text whole above same e =
+    let one = leaf_record depth above (as_row x) (sizes x) (map as_row xs) in
+    let others = leaf_records as_row sizes depth (as_row x ∷ before) xs in
     append_assoc text (flat_map f one) (flat_map f others)
-    ∙ (ap (λ x. text ++ x) (sym (flat_map-append f one others))
-    ∙ (ap (λ a. text ++ flat_map f (leaf_record depth domain a r rows ++ others)) same ∙ e))
+    ∙ (ap (λ y. text ++ y) (sym (flat_map-append f one others))
+    ∙ (ap (λ a. text ++ flat_map f (leaf_record depth a (as_row x) (sizes x) (map as_row xs) ++ others)) same ∙ e))
 
 -- one row more
-pub come-one : {W : Type 0} (contents : W → Option (List ℕ)) (delimiter : ℕ) (t : RowTree) (domain : Domain) (whole : List ℕ) (i : ℕ) (path : Fields) (w w' : Writer W) (r : Row)
-    → slice_get t.rows i ≡ Some r → HasCome contents delimiter t domain whole i path w
-    → ((text : List ℕ) → IsReady contents delimiter w text → IsReady contents delimiter w' (text ++ flat_map (row_text (delimited delimiter)) (leaf_record t.depth domain (take r.level path) r (drop (i + 1) t.rows))))
-    → HasCome contents delimiter t domain whole (i + 1) (entered (take r.level path) r.kind) w'
-come-one {W} contents delimiter t domain whole i path w w' r at come put =
-    let from = rows-from t.rows i r at in
-    let levels : AreLevels t.depth come.highest (r ∷ drop (i + 1) t.rows) = subst (AreLevels t.depth come.highest) from come.levels in
-    let rest : come.text ++ flat_map (row_text (delimited delimiter)) (leaf_records t.depth domain come.before (r ∷ drop (i + 1) t.rows)) ≡ whole =
-    subst (λ rows. come.text ++ flat_map (row_text (delimited delimiter)) (leaf_records t.depth domain come.before rows) ≡ whole) from come.rest in
-    by_kind r.kind refl levels (rest-one (row_text (delimited delimiter)) t.depth domain come.before r (drop (i + 1) t.rows) come.text whole (take r.level path) (come.on_path.labels r.level levels.0) rest)
+pub come-one : {W : Type 0} {X : Type 0} (contents : W → Option (List ℕ)) (delimiter : ℕ) (as_row : X → Row) (sizes : X → Fields) (depth : ℕ) (xs : List X) (whole : List ℕ) (i : ℕ) (path : Fields) (w w' : Writer W) (x : X)
+    → slice_get xs i ≡ Some x → HasCome contents delimiter as_row sizes depth xs whole i path w
+    → ((text : List ℕ) → IsReady contents delimiter w text
+    → IsReady contents delimiter w' (text ++ flat_map (row_text (delimited delimiter)) (leaf_record depth (take (as_row x).level path) (as_row x) (sizes x) (map as_row (drop (i + 1) xs)))))
+    → HasCome contents delimiter as_row sizes depth xs whole (i + 1) (entered (take (as_row x).level path) (as_row x).kind) w'
+come-one {W} {X} contents delimiter as_row sizes depth xs whole i path w w' x at come put =
+    let from = rows-from xs i x at in
+    let levels : AreLevels depth come.highest (r ∷ rows) = subst (λ ys. AreLevels depth come.highest (map as_row ys)) from come.levels in
+    let rest : come.text ++ flat_map f (leaf_records as_row sizes depth come.before (x ∷ drop (i + 1) xs)) ≡ whole =
+    subst (λ ys. come.text ++ flat_map f (leaf_records as_row sizes depth come.before ys) ≡ whole) from come.rest in
+    by_kind r.kind refl levels (rest-one f as_row sizes depth come.before x (drop (i + 1) xs) come.text whole (take r.level path) (come.on_path.labels r.level levels.0) rest)
   where
-    written : List ℕ
-    written = come.text ++ flat_map (row_text (delimited delimiter)) (leaf_record t.depth domain (take r.level path) r (drop (i + 1) t.rows))
+    f : Fields → List ℕ
+    f = row_text (delimited delimiter)
 
-    by_kind : (k : RowKind) → r.kind ≡ k → AreLevels t.depth come.highest (r ∷ drop (i + 1) t.rows)
-        → written ++ flat_map (row_text (delimited delimiter)) (leaf_records t.depth domain (r ∷ come.before) (drop (i + 1) t.rows)) ≡ whole
-        → HasCome contents delimiter t domain whole (i + 1) (entered (take r.level path) k) w'
+    r : Row
+    r = as_row x
+
+    rows : List Row
+    rows = map as_row (drop (i + 1) xs)
+
+    written : List ℕ
+    written = come.text ++ flat_map f (leaf_record depth (take r.level path) r (sizes x) rows)
+
+    by_kind : (k : RowKind) → r.kind ≡ k → AreLevels depth come.highest (r ∷ rows) → written ++ flat_map f (leaf_records as_row sizes depth (r ∷ come.before) (drop (i + 1) xs)) ≡ whole
+        → HasCome contents delimiter as_row sizes depth xs whole (i + 1) (entered (take r.level path) k) w'
     by_kind (Label label) kind levels rest = record {
       before = r ∷ come.before;
       highest = r.level + 1;
@@ -127,16 +146,17 @@ come-one {W} contents delimiter t domain whole i path w w' r at come put =
       before = r ∷ come.before;
       highest = r.level;
       text = written;
-      levels = lower t.depth r (drop (i + 1) t.rows) (levels.2 ∙ rw kind refl) levels.3;
+      levels = lower depth r rows (levels.2 ∙ rw kind refl) levels.3;
       on_path = path-others come.highest path come.before r come.on_path levels.0;
       ready = put come.text come.ready;
       rest = rest;
     }
 
-pub come-none : {W : Type 0} (contents : W → Option (List ℕ)) (delimiter : ℕ) (t : RowTree) (domain : Domain) (sources : List (List ℕ)) (path : Fields) (w : Writer W)
-    → AreLevels t.depth 0 t.rows → path ≡ [] → IsReady contents delimiter w (row_text (delimited delimiter) (header_fields sources domain)) → HasCome contents delimiter t domain (table_text delimiter t domain sources) 0 path w
-unfolding labels_above table table_text
-come-none contents delimiter t domain sources path w levels none ready = record {
+pub come-none : {W : Type 0} {X : Type 0} (contents : W → Option (List ℕ)) (delimiter : ℕ) (as_row : X → Row) (sizes : X → Fields) (depth : ℕ) (domain : Domain) (sources : List (List ℕ)) (xs : List X) (path : Fields) (w : Writer W)
+    → IsTree depth (map as_row xs) → path ≡ [] → IsReady contents delimiter w (row_text (delimited delimiter) (header_fields sources domain))
+    → HasCome contents delimiter as_row sizes depth xs (table_text delimiter as_row sizes depth domain sources xs) 0 path w
+unfolding labels_above table_text
+come-none contents delimiter as_row sizes depth domain sources xs path w levels none ready = record {
   before = [];
   highest = 0;
   text = row_text (delimited delimiter) (header_fields sources domain);
@@ -151,10 +171,11 @@ come-none contents delimiter t domain sources path w levels none ready = record 
     nothing (suc level) at = absurd (omega arith)
 
 -- all rows are behind
-pub come-all : {W : Type 0} (contents : W → Option (List ℕ)) (delimiter : ℕ) (t : RowTree) (domain : Domain) (whole : List ℕ) (i : ℕ) (path : Fields) (w : Writer W)
-    → length t.rows ≤ i → HasCome contents delimiter t domain whole i path w → text_written contents w ≡ Some whole
+pub come-all : {W : Type 0} {X : Type 0} (contents : W → Option (List ℕ)) (delimiter : ℕ) (as_row : X → Row) (sizes : X → Fields) (depth : ℕ) (xs : List X) (whole : List ℕ) (i : ℕ) (path : Fields) (w : Writer W)
+    → length xs ≤ i → HasCome contents delimiter as_row sizes depth xs whole i path w → text_written contents w ≡ Some whole
 unfolding leaf_records
-come-all contents delimiter t domain whole i path w past come =
-    let none = drop_all i t.rows past in
-    let rest : come.text ++ flat_map (row_text (delimited delimiter)) (leaf_records t.depth domain come.before []) ≡ whole = subst (λ rows. come.text ++ flat_map (row_text (delimited delimiter)) (leaf_records t.depth domain come.before rows) ≡ whole) none come.rest in
-    come.ready.is ∙ ap (λ x. Some x) (sym (append-nil come.text) ∙ rest)
+come-all contents delimiter as_row sizes depth xs whole i path w past come =
+    let f = row_text (delimited delimiter) in
+    let rest : come.text ++ flat_map f (leaf_records as_row sizes depth come.before []) ≡ whole =
+    subst (λ ys. come.text ++ flat_map f (leaf_records as_row sizes depth come.before ys) ≡ whole) (drop_all i xs past) come.rest in
+    come.ready.is ∙ ap (λ y. Some y) (sym (append-nil come.text) ∙ rest)

@@ -1,14 +1,12 @@
 -- What holds between two records of a table that is being written.
-use Rattle.std.specs.Prelude.{◌≡◌, ◌≤◌, ⊤, ℕ, List, [], ◌∷◌, ◌++◌, Some, false, length, take, drop}
+use Rattle.std.specs.Prelude.{◌≡◌, ◌≤◌, ⊤, ℕ, List, [], ◌∷◌, ◌++◌, Some, false, length, map, take, drop}
 use Rattle.std.specs.List.{flat_map}
 use Rattle.std.specs.declared.option.Option.{Option}
 use Rattle.csv.specs.Writing.{row_text, writer_setup, fields_written, has_written, text_written}
 use Rattle.csv.specs.declared.writer.Writer.{Writer}
-use Rattle.size_core.specs.declared.choices.Domain.{Domain}
 use Rattle.report_rows.specs.declared.row.Row.{Row}
 use Rattle.report_rows.specs.declared.row.RowKind.{RowKind}
 use Rattle.report_rows.specs.declared.row.RowKind.TheVariants.{Label, Others}
-use Rattle.report_rows.specs.declared.row.RowTree.{RowTree}
 use Rattle.report_rows.specs.Trees.{AreLevels}
 use Rattle.report_text.specs.Labels.{others_text}
 use Rattle.report_text.specs.Records.{Fields, delimited, labels_above, leaf_records}
@@ -25,15 +23,15 @@ pub record IsPath (highest : ℕ) (path : Fields) (before : List Row) : Type 0 w
   pub long : highest ≤ length path
   pub labels : (level : ℕ) → level ≤ highest → take level path ≡ labels_above level before
 
--- so many rows of a tree are behind; what is written, with the records of the others, is the whole
-pub record HasCome {W : Type 0} (contents : W → Option (List ℕ)) (delimiter : ℕ) (t : RowTree) (domain : Domain) (whole : List ℕ) (i : ℕ) (path : Fields) (w : Writer W) : Type 0 where
+-- so many rows are behind; what is written, with the records of the others, is the whole
+pub record HasCome {W : Type 0} {X : Type 0} (contents : W → Option (List ℕ)) (delimiter : ℕ) (as_row : X → Row) (sizes : X → Fields) (depth : ℕ) (rows : List X) (whole : List ℕ) (i : ℕ) (path : Fields) (w : Writer W) : Type 0 where
   pub before : List Row
   pub highest : ℕ
   pub text : List ℕ
-  pub levels : AreLevels t.depth highest (drop i t.rows)
+  pub levels : AreLevels depth highest (map as_row (drop i rows))
   pub on_path : IsPath highest path before
   pub ready : IsReady contents delimiter w text
-  pub rest : text ++ flat_map (row_text (delimited delimiter)) (leaf_records t.depth domain before (drop i t.rows)) ≡ whole
+  pub rest : text ++ flat_map (row_text (delimited delimiter)) (leaf_records as_row sizes depth before (drop i rows)) ≡ whole
 
 -- this is the text of a row that is an Others row
 abbrev pub HasText : RowKind → List ℕ → Type 0

@@ -3,6 +3,13 @@ use Rattle.std.specs.Prelude.{ℕ, ◌+◌, ◌-◌, ◌/◌, ◌%◌, ◌==◌,
 use Rattle.std.specs.List.{flat_map}
 use Rattle.report_rows.specs.declared.row.RowKind.{RowKind}
 use Rattle.report_rows.specs.declared.row.RowKind.TheVariants.{Label, Others}
+use Rattle.report_text.specs.declared.rows.Name.{Name}
+use Rattle.report_text.specs.declared.rows.Name.TheVariants as names
+
+-- what a row's name says that it stands for
+abbrev pub kind_of : Name → RowKind
+kind_of (names.Label label) = Label label.now
+kind_of (names.Others count) = Others count
 
 -- the text of labels that a limit left over
 unfoldable pub others_text : ℕ → List ℕ

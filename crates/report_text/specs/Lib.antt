@@ -1,5 +1,7 @@
 pub mod Between
+pub mod Growth
 pub mod Labels
 pub mod Lines
 pub mod Numbers
 pub mod Records
+pub mod Worked

@@ -1,5 +1,5 @@
 -- The records of a report.
-use Rattle.std.specs.Prelude.{ℕ, ◌+◌, ◌-◌, nat_lt, List, [], ◌∷◌, ◌++◌, replicate, codes, decimal, if◌then◌else◌}
+use Rattle.std.specs.Prelude.{ℕ, ◌+◌, ◌-◌, nat_lt, List, [], ◌∷◌, ◌++◌, map, replicate, codes, decimal, if◌then◌else◌}
 use Rattle.std.specs.List.{flat_map}
 use Rattle.csv.specs.Writing.{row_text, default_writer, with_delimiter}
 use Rattle.csv.specs.declared.writer.WriterBuilder.{WriterBuilder}
@@ -32,34 +32,36 @@ labels_above level (r ∷ before) = if nat_lt r.level level then labels_above r.
 unfoldable pub path_fields : ℕ → Fields → Row → Fields
 path_fields depth above r = above ++ (kind_text r.kind ∷ replicate (depth - (r.level + 1)) [])
 
--- a row's record: its path, and its shown sizes in decimal
-unfoldable pub row_fields : ℕ → Domain → Fields → Row → Fields
-row_fields depth domain above r = path_fields depth above r ++ vm_first domain (decimal r.vm) (decimal r.file)
+-- a row's record: its path, and the fields of its sizes
+unfoldable pub row_fields : ℕ → Fields → Row → Fields → Fields
+row_fields depth above r sizes = path_fields depth above r ++ sizes
 
 -- the record of a row, if it has no children among the rows that follow
-abbrev pub leaf_record : ℕ → Domain → Fields → Row → List Row → List Fields
-leaf_record depth domain above r rows = if has_children r rows then [] else row_fields depth domain above r ∷ []
+abbrev pub leaf_record : ℕ → Fields → Row → Fields → List Row → List Fields
+leaf_record depth above r sizes rows = if has_children r rows then [] else row_fields depth above r sizes ∷ []
 
 -- the records of the rows without children, after the rows before them
-unfoldable pub leaf_records : ℕ → Domain → List Row → List Row → List Fields
-leaf_records depth domain before [] = []
-leaf_records depth domain before (r ∷ rows) = leaf_record depth domain (labels_above r.level before) r rows ++ leaf_records depth domain (r ∷ before) rows
-
--- the records of a tree
-unfoldable pub table : RowTree → Domain → List (List ℕ) → List Fields
-table t domain sources = header_fields sources domain ∷ leaf_records t.depth domain [] t.rows
+unfoldable pub leaf_records : {X : Type 0} → (X → Row) → (X → Fields) → ℕ → List Row → List X → List Fields
+leaf_records as_row sizes depth before [] = []
+leaf_records as_row sizes depth before (x ∷ xs) =
+    leaf_record depth (labels_above (as_row x).level before) (as_row x) (sizes x) (map as_row xs) ++ leaf_records as_row sizes depth (as_row x ∷ before) xs
 
 -- How records are written: this byte between fields, a line feed after each record, and quotes only round a field that
 -- needs them.
 abbrev pub delimited : ℕ → WriterBuilder
 delimited delimiter = with_delimiter default_writer delimiter
 
-unfoldable pub table_text : ℕ → RowTree → Domain → List (List ℕ) → List ℕ
-table_text delimiter t domain sources = flat_map (row_text (delimited delimiter)) (table t domain sources)
+-- the records of rows: a header, and one for each row without children
+unfoldable pub table_text : {X : Type 0} → ℕ → (X → Row) → (X → Fields) → ℕ → Domain → List (List ℕ) → List X → List ℕ
+table_text delimiter as_row sizes depth domain sources xs = flat_map (row_text (delimited delimiter)) (header_fields sources domain ∷ leaf_records as_row sizes depth [] xs)
 
--- with commas, and with tabs
-abbrev pub csv_text : RowTree → Domain → List (List ℕ) → List ℕ
-csv_text t domain sources = table_text 44 t domain sources
+-- the shown sizes of a row, in decimal
+abbrev pub size_fields : Domain → Row → Fields
+size_fields domain r = vm_first domain (decimal r.vm) (decimal r.file)
 
-abbrev pub tsv_text : RowTree → Domain → List (List ℕ) → List ℕ
-tsv_text t domain sources = table_text 9 t domain sources
+-- the records of a tree, with commas, and with tabs
+unfoldable pub csv_text : RowTree → Domain → List (List ℕ) → List ℕ
+csv_text t domain sources = table_text 44 (λ (r : Row). r) (size_fields domain) t.depth domain sources t.rows
+
+unfoldable pub tsv_text : RowTree → Domain → List (List ℕ) → List ℕ
+tsv_text t domain sources = table_text 9 (λ (r : Row). r) (size_fields domain) t.depth domain sources t.rows

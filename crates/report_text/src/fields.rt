@@ -2,11 +2,11 @@
 
 ghost use Rattle.std.specs.Prelude.{◌≡◌, ◌<◌, ◌++◌, ◌∷◌, [], map, replicate, IfOk, OnOk};
 ghost use Rattle.report_text.specs.Between.{HasText};
-ghost use Rattle.report_text.specs.Labels.{kind_text};
+ghost use Rattle.report_text.specs.Labels.{kind_of, kind_text};
 ghost use Rattle.report_text.specs.Records.{header_fields, vm_first, path_fields};
 
 use crate::labels::push_others;
-use report_rows::{Row, RowKind};
+use crate::rows::{Name, ReportRow};
 use size_core::{Domain, Names, NoMemory};
 use std::alloc::Global;
 
@@ -63,24 +63,24 @@ pub fn header<'a>(
 }
 
 /// The text of an Others row, and nothing for a label.
-pub fn others_text(alloc: Global, kind: &RowKind) -> Result<Vec<u8>, NoMemory>
-    ensures { IfOk result (λ v. HasText kind.now v.items) }
+pub fn others_text(alloc: Global, name: Name) -> Result<Vec<u8>, NoMemory>
+    ensures { IfOk result (λ v. HasText (kind_of name.entry) v.items) }
 {
     let mut text = Vec::new(alloc);
-    if let RowKind::Others(count) = kind {
-        push_others(&mut text, *count)?;
+    if let Name::Others(count) = name {
+        push_others(&mut text, count)?;
     }
     Ok(text)
 }
 
 // The text of a row, where `others` is that of an Others row.
-fn kind_text<'a>(kind: &'a RowKind, others: &'a [u8]) -> &'a [u8]
-    requires { HasText kind.now others.now }
-    ensures { result.now ≡ kind_text kind.now }
+fn kind_text<'a>(name: Name<'a>, others: &'a [u8]) -> &'a [u8]
+    requires { HasText (kind_of name) others.now }
+    ensures { result.now ≡ kind_text (kind_of name.entry) }
 {
-    match kind {
-        RowKind::Label(label) => label.as_slice(),
-        RowKind::Others(_) => others,
+    match name {
+        Name::Label(label) => label,
+        Name::Others(_) => others,
     }
 }
 
@@ -108,19 +108,19 @@ fn labels<'a, 'p: 'a>(alloc: Global, path: &[&'p [u8]]) -> Result<Vec<&'a [u8]>,
 /// The fields of a row's path, where `above` has the labels that it stands under and `others` is its text if it is an
 /// Others row.
 #[tactic(auto, unfolding(crate::specs::Records::path_fields))]
-pub fn path_fields<'a, 'p: 'a>(
+pub fn path_fields<'a, 'p: 'a, R: ReportRow>(
     alloc: Global,
     depth: u32,
     above: &[&'p [u8]],
-    row: &'a Row,
+    row: &'a R,
     others: &'a [u8],
 ) -> Result<Vec<&'a [u8]>, NoMemory>
-    requires below { row.now.level < depth }
-    requires text { HasText row.now.kind others.now }
-    ensures { IfOk result (λ v. map (λ f. f.now) v.items ≡ path_fields depth (map (λ f. f.now) above.now) row.now) }
+    requires below { (R.as_row row.now).level < depth }
+    requires text { HasText (R.as_row row.now).kind others.now }
+    ensures { IfOk result (λ v. map (λ f. f.now) v.items ≡ path_fields depth (map (λ f. f.now) above.now) (R.as_row row.now)) }
 {
     let mut fields = labels(alloc, above)?;
-    push(&mut fields, kind_text(&row.kind, others))?;
-    push_empty(&mut fields, (depth - (row.level + 1)) as usize)?;
+    push(&mut fields, kind_text(row.name(), others))?;
+    push_empty(&mut fields, (depth - (row.level() + 1)) as usize)?;
     Ok(fields)
 }

@@ -1,11 +1,11 @@
 //! How rows are named.
 
 ghost use Rattle.std.specs.Prelude.{◌≡◌, ◌++◌, ◌<◌, length, OnOk};
-ghost use Rattle.report_text.specs.Labels.{others_text, ends, shortened, escaped, escaped_byte, label_text, hex_digit};
+ghost use Rattle.report_text.specs.Labels.{others_text, ends, shortened, escaped, escaped_byte, kind_of, label_text, hex_digit};
 
 use crate::pieces::push;
+use crate::rows::Name;
 use itoa::Buffer;
-use report_rows::RowKind;
 use size_core::NoMemory;
 use std::alloc::Global;
 
@@ -75,19 +75,14 @@ pub fn push_others(out: &mut Vec<u8>, count: u64) -> Result<(), NoMemory>
 }
 
 /// Adds what a line shows of a row's text.
-pub fn push_label(
-    alloc: Global,
-    out: &mut Vec<u8>,
-    kind: &RowKind,
-    wide: bool,
-) -> Result<(), NoMemory>
-    ensures { OnOk result (out.new.items ≡ out.old.items ++ label_text wide kind.now) }
+pub fn push_label(alloc: Global, out: &mut Vec<u8>, name: Name, wide: bool) -> Result<(), NoMemory>
+    ensures { OnOk result (out.new.items ≡ out.old.items ++ label_text wide (kind_of name.entry)) }
 {
-    match kind {
-        RowKind::Label(label) => push_shortened(out, label.as_slice(), wide),
-        RowKind::Others(count) => {
+    match name {
+        Name::Label(label) => push_shortened(out, label, wide),
+        Name::Others(count) => {
             let mut others = Vec::new(alloc);
-            push_others(&mut others, *count)?;
+            push_others(&mut others, count)?;
             push_shortened(out, others.as_slice(), wide)
         }
     }

@@ -1,15 +1,20 @@
-//! A report's bytes: columns for a reader, or records of comma- or tab-separated values.
+//! A report's bytes, of sizes or of growth: columns for a reader, or records of comma- or tab-separated values.
 #![tactic(auto)]
 
 mod fields;
+mod growth;
 mod labels;
 mod lines;
 mod numbers;
 mod pieces;
 mod records;
+mod rows;
+mod sizes;
 
-pub use lines::text;
-pub use records::{csv, tsv};
+pub use growth::{growth_csv, growth_text, growth_tsv};
+pub use sizes::{csv, text, tsv};
 
+#[cfg(test)]
+mod growth_tests;
 #[cfg(test)]
 mod tests;

@@ -1,18 +1,19 @@
 //! Reports of trees that were made by hand.
 
-ghost use Rattle.std.specs.Prelude.{◌≡◌, ◌+◌, ◌<◌, ◌==◌, ◌||◌, true};
+ghost use Rattle.std.specs.Prelude.{◌≡◌, ◌+◌, ◌<◌, ◌==◌, ◌||◌, true, map};
 ghost use Rattle.report_rows.specs.Trees.{IsTree, is_others};
 
 use crate::records::has_children;
+use crate::rows::{Name, ReportRow};
 use crate::{csv, text, tsv};
 use report_rows::{Row, RowKind, RowTree, Rows};
-use size_core::{Bytes, Domain, Format, Names, Text};
+use size_core::{Bytes, Domain, Format, List, Names, Text};
 use std::alloc::Global;
 use std::test::Fail;
 
-// What a row stands for.
+/// What a row stands for.
 #[derive(Clone, Copy)]
-enum Kind<'a> {
+pub enum Kind<'a> {
     Label(&'a [u8]),
     Others(u64),
 }
@@ -51,38 +52,49 @@ fn one(alloc: Global, label: &[u8], part: u64, total: u64) -> Result<RowTree, Fa
 }
 
 // Whether a row is to have no children.
-fn is_last(depth: u32, row: &Row) -> bool
-    requires { row.now.level < depth }
-    ensures { result ≡ (is_others row.now.kind || (row.now.level + 1 == depth)) }
+fn is_last<R: ReportRow>(depth: u32, row: &R) -> bool
+    requires { (R.as_row row.now).level < depth }
+    ensures { result ≡ (is_others (R.as_row row.now).kind || ((R.as_row row.now).level + 1 == depth)) }
 {
-    match row.kind {
-        RowKind::Label(_) => row.level + 1 == depth,
-        RowKind::Others(_) => true,
+    match row.name() {
+        Name::Label(_) => row.level() + 1 == depth,
+        Name::Others(_) => true,
     }
 }
 
-// Whether the levels of a tree are those of one.
-fn is_tree(tree: &RowTree) -> bool
-    ensures { result ≡ true → IsTree tree.now.depth tree.now.rows }
+/// Whether the levels of rows are those of a tree.
+pub fn is_tree<R: ReportRow>(depth: u32, rows: &List<R>) -> bool
+    ensures { result ≡ true → IsTree depth (map R.as_row rows.now) }
 {
     let mut highest = 0;
-    for i in 0..tree.rows.len() {
-        let row = tree.rows.get(i);
-        if row.level > highest {
+    for i in 0..rows.len() {
+        let row = rows.get(i);
+        let level = row.level();
+        if level > highest {
             return false;
         }
-        if row.level >= tree.depth {
+        if level >= depth {
             return false;
         }
-        if has_children(tree, i) == is_last(tree.depth, row) {
+        if has_children(rows, i) == is_last(depth, row) {
             return false;
         }
-        highest = row.level + 1;
+        highest = level + 1;
     }
     true
 }
 
+/// Names of data sources.
+pub fn names(alloc: Global, sources: &[&str]) -> Result<Names, Fail> {
+    let mut names = Names::new(alloc);
+    for source in sources {
+        names.push(Text::of(alloc, source)?)?;
+    }
+    Ok(names)
+}
+
 // The records of a tree; nothing where its levels form none, or where there are more or fewer names.
+#[tactic(auto, using(crate::proofs::RecordLemmas::from_plain))]
 fn records(
     alloc: Global,
     format: Format,
@@ -91,11 +103,8 @@ fn records(
     sources: &[&str],
 ) -> Result<Vec<u8>, Fail> {
     let mut out = Vec::new(alloc);
-    let mut names = Names::new(alloc);
-    for source in sources {
-        names.push(Text::of(alloc, source)?)?;
-    }
-    if names.len() != tree.depth as usize || !is_tree(tree) {
+    let names = names(alloc, sources)?;
+    if names.len() != tree.depth as usize || !is_tree(tree.depth, &tree.rows) {
         return Ok(out);
     }
     if format == Format::Csv {
@@ -113,8 +122,8 @@ fn lines(alloc: Global, tree: &RowTree, domain: Domain, wide: bool) -> Result<Ve
     Ok(out)
 }
 
-// Texts one after the other.
-fn joined(alloc: Global, parts: &[&[u8]]) -> Result<Vec<u8>, Fail> {
+/// Texts one after the other.
+pub fn joined(alloc: Global, parts: &[&[u8]]) -> Result<Vec<u8>, Fail> {
     let mut out = Vec::new(alloc);
     for part in parts {
         out.extend_from_slice(part)?;
@@ -301,8 +310,8 @@ fn sizes_and_percentages(rt: HostRuntime) -> Result<(), Fail> {
     Ok(())
 }
 
-// So many letters, then these bytes, and letters up to a length.
-fn letters(alloc: Global, before: usize, bytes: &[u8], len: usize) -> Result<Vec<u8>, Fail> {
+/// So many letters, then these bytes, and letters up to a length.
+pub fn letters(alloc: Global, before: usize, bytes: &[u8], len: usize) -> Result<Vec<u8>, Fail> {
     let mut label = Vec::new(alloc);
     for _ in 0..before {
         label.push(b'a')?;

@@ -61,9 +61,9 @@ input (file ∷ files) None good some one = omega arith
 input [] (Some t) good some one = small (number_of t) [] good refl
 input (file ∷ files) (Some t) good some one = absurd (some_file (length files) one)
 
-pub limits_kept : (g : GivenTexts) (is_marked : Bool) → first_usage (usage_tests g is_marked) ≡ None → KeepsLimits (options_in g)
-limits_kept g is_marked h =
-    let numbers = none_holds (usage_tests g is_marked) h in
+pub limits_kept : (g : GivenTexts) (bases : List Text) (has_no_base : Bool) → first_usage (usage_tests g has_no_base) ≡ None → KeepsLimits (options_in g bases)
+limits_kept g bases has_no_base h =
+    let numbers = none_holds (usage_tests g has_no_base) h in
     let list = numbers.1.1.1.1 in
     let names = neither _ _ list.0 in
     record {

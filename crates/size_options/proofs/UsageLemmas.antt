@@ -1,19 +1,32 @@
 -- Which kind of misuse is the first, and what that says of the words.
-use Rattle.std.proofs.Common.{◌≡◌, ◌∙◌, ℕ, ◌+◌, ◌≤◌, Bool, true, false, not, ◌&&◌, cond, List, [], ◌∷◌, map, take, length, sym, ap, ap₂, refl, subst, Option, Some, None, Ok, unwrap_or, position, nat_lt, arith}
+use Rattle.std.proofs.Common.{◌≡◌, ◌∙◌, ℕ, ◌+◌, ◌≤◌, ◌==◌, Bool, true, false, not, ◌&&◌, cond, List, [], ◌∷◌, map, take, drop, min, length, sym, ap, ap₂, refl, subst, Option, Some, None, Ok, unwrap_or, position, nat_le, nat_lt, arith}
 use Rattle.std.specs.List.{list_all, position_or_len}
-use Rattle.std.proofs.lemmas.List.{take-map, length-map}
+use Rattle.std.proofs.lemmas.List.{drop-map, take-map, length-map}
+use Rattle.std.proofs.Math.ListN.{drop_of_length-le}
 use Rattle.std.proofs.lemmas.List.Sums.{prefix_len-le-length}
 use Rattle.std.proofs.lemmas.Bool.Decides.{nat_tests}
 use Rattle.clap.specs.Words.{Text}
 use Rattle.size_options.specs.Answers.{IsRefusalOf, IsUnread, IsUnreadAnswer, IsUsageOf, word_errors}
 use Rattle.size_options.specs.Asked.{asked, first_usage, given_by, options_in, unless_usage, usage_tests}
 use Rattle.size_options.specs.Given.{GivenTexts}
-use Rattle.size_options.specs.Words.{has_mark, is_mark, mark_at, profile_words}
+use Rattle.size_options.specs.Words.{base_words, ends_in_mark, is_mark, mark_at, profile_words}
 use Rattle.size_options.specs.declared.answer.OptionAnswer.{OptionAnswer}
 use Rattle.size_options.specs.declared.answer.OptionAnswer.TheVariants.{Usage, NoMemory}
 use Rattle.size_options.specs.declared.answer.UsageKind.{UsageKind}
 use Rattle.size_options.specs.declared.answer.UsageKind.TheVariants.{Words, BadNumber, BadSort, BadDomain, TwoFormats, BadSourceList, NoFile, SynthWithFile, NoBase}
 use Rattle.size_options.specs.declared.chosen.Options.{Options}
+
+drop_within : {X : Type 0} (k : ℕ) (xs : List X) → drop (min k (length xs)) xs ≡ drop k xs
+drop_within k xs = go (nat_le k (length xs)) refl
+  where
+    go : (b : Bool) → nat_le k (length xs) ≡ b → drop (min k (length xs)) xs ≡ drop k xs
+    go true h =
+        let is : min k (length xs) ≡ k = grind (arith, nat_tests) in
+        ap (λ n. drop n xs) is
+    go false h =
+        let beyond : length xs ≤ k = grind (arith, nat_tests) in
+        let is : min k (length xs) ≡ length xs = omega arith in
+        ap (λ n. drop n xs) is ∙ drop_of_length-le xs (omega arith) ∙ sym (drop_of_length-le xs beyond)
 
 module _ {X : Type 0} (f : X → Text) where
   mark_map : (xs : List X) → position_or_len is_mark (map f xs) ≡ position_or_len (λ w. is_mark (f w)) xs
@@ -40,10 +53,14 @@ module _ {X : Type 0} (f : X → Text) where
 
   -- what the tests say of the values that are read, they say of the words
   pub first_is : (xs : List X) (n : ℕ) (g : GivenTexts) (found : Option UsageKind) → n ≡ mark_at (map f xs) → g ≡ given_by (map f xs)
-      → found ≡ first_usage (usage_tests g (nat_lt n (length xs))) → found ≡ first_usage (usage_tests (given_by (map f xs)) (has_mark (map f xs)))
+      → found ≡ first_usage (usage_tests g (n + 1 == length xs)) → found ≡ first_usage (usage_tests (given_by (map f xs)) (ends_in_mark (map f xs)))
   first_is xs n g found at given is =
-      is ∙ ap (λ (x : GivenTexts). first_usage (usage_tests x (nat_lt n (length xs)))) given
-      ∙ ap₂ (λ (k l : ℕ). first_usage (usage_tests (given_by (map f xs)) (nat_lt k l))) at (sym (length-map xs f))
+      is ∙ ap (λ (x : GivenTexts). first_usage (usage_tests x (n + 1 == length xs))) given
+      ∙ ap₂ (λ (k l : ℕ). first_usage (usage_tests (given_by (map f xs)) (k + 1 == l))) at (sym (length-map xs f))
+
+  -- the words behind the mark, also where there is none
+  pub words_behind : (xs : List X) (n : ℕ) → n ≡ mark_at (map f xs) → map f (drop (min (n + 1) (length xs)) xs) ≡ base_words (map f xs)
+  words_behind xs n is = ap (map f) (drop_within (n + 1) xs) ∙ sym (drop-map f (n + 1) xs) ∙ ap (λ k. drop (k + 1) (map f xs)) is
 
 -- ---- words that can't be read
 
@@ -98,19 +115,19 @@ never_words g b kind h is = never (first_other (usage_tests g b) Words refl (h �
 -- ---- what the words ask for
 
 pub usage_is : (words : List Text) (kind : UsageKind) → word_errors words ≡ []
-    → Some kind ≡ first_usage (usage_tests (given_by words) (has_mark words)) → IsUsageOf words kind
+    → Some kind ≡ first_usage (usage_tests (given_by words) (ends_in_mark words)) → IsUsageOf words kind
 unfolding asked
 usage_is words kind read is =
-    let never = never_words (given_by words) (has_mark words) kind (sym is) in
+    let never = never_words (given_by words) (ends_in_mark words) kind (sym is) in
     record {
       not_taken = λ h. absurd (never h);
       unread = λ h. absurd (never h);
       read = λ _. read;
-      first = λ _. ap (λ (o : Option UsageKind). unless_usage o (options_in (given_by words))) (sym is);
+      first = λ _. ap (λ (o : Option UsageKind). unless_usage o (options_in (given_by words) (base_words words))) (sym is);
     }
 
-pub options_are : (words : List Text) (o : Options) → None ≡ first_usage (usage_tests (given_by words) (has_mark words))
-    → o ≡ options_in (given_by words) → asked words ≡ Ok o
+pub options_are : (words : List Text) (o : Options) → None ≡ first_usage (usage_tests (given_by words) (ends_in_mark words))
+    → o ≡ options_in (given_by words) (base_words words) → asked words ≡ Ok o
 unfolding asked
 options_are words o is made =
-    ap (λ (k : Option UsageKind). unless_usage k (options_in (given_by words))) (sym is) ∙ ap (λ (x : Options). Ok x) (sym made)
+    ap (λ (k : Option UsageKind). unless_usage k (options_in (given_by words) (base_words words))) (sym is) ∙ ap (λ (x : Options). Ok x) (sym made)

@@ -8,7 +8,7 @@ use Rattle.size_core.specs.declared.choices.Sort.TheVariants as sort
 use Rattle.size_options.specs.Command.{rows_by}
 use Rattle.size_options.specs.Given.{GivenTexts, given_in}
 use Rattle.size_options.specs.Values.{domain_of, is_bad, is_bad_list, names_in, number_of, small_number_of, sort_of, value_or}
-use Rattle.size_options.specs.Words.{has_mark, profile_words}
+use Rattle.size_options.specs.Words.{base_words, ends_in_mark, profile_words}
 use Rattle.size_options.specs.declared.answer.UsageKind.{UsageKind}
 use Rattle.size_options.specs.declared.answer.UsageKind.TheVariants.{BadNumber, BadSort, BadDomain, TwoFormats, BadSourceList, NoFile, SynthWithFile, NoBase}
 use Rattle.size_options.specs.declared.chosen.Options.{Options}
@@ -19,14 +19,14 @@ source_names g = names_in (unwrap_or g.sources (codes "sections"))
 
 -- each kind of misuse beside its test, in the order in which they are tried
 abbrev pub usage_tests : GivenTexts → Bool → List (Bool × UsageKind)
-usage_tests g is_marked = (is_bad number_of g.limit || is_bad small_number_of g.synth, BadNumber)
+usage_tests g has_no_base = (is_bad number_of g.limit || is_bad small_number_of g.synth, BadNumber)
     ∷ (is_bad sort_of g.sort, BadSort)
     ∷ (is_bad domain_of g.domain, BadDomain)
     ∷ (g.csv && g.tsv, TwoFormats)
     ∷ (is_bad_list (source_names g), BadSourceList)
     ∷ (length g.files == 0 && is_none g.synth, NoFile)
     ∷ (not (length g.files == 0) && is_some g.synth, SynthWithFile)
-    ∷ (is_marked, NoBase) ∷ []
+    ∷ (has_no_base, NoBase) ∷ []
 
 -- the kind of the first test that holds
 abbrev pub first_usage : List (Bool × UsageKind) → Option UsageKind
@@ -36,9 +36,9 @@ first_usage (p ∷ ps) = if p.0 then Some p.1 else first_usage ps
 abbrev pub format_of : GivenTexts → Format
 format_of g = if g.csv then format.Csv else (if g.tsv then format.Tsv else format.Text)
 
--- the options that are given, and for each other one its default
-abbrev pub options_in : GivenTexts → Options
-options_in g = record {
+-- the options that are given, and for each other one its default, with these base files
+abbrev pub options_in : GivenTexts → List Text → Options
+options_in g bases = record {
   sources = source_names g;
   limit = value_or number_of 20 g.limit;
   sort = value_or sort_of sort.Both g.sort;
@@ -49,6 +49,7 @@ options_in g = record {
   config = g.config;
   synth = option_and_then small_number_of g.synth;
   files = g.files;
+  bases = bases;
 }
 
 abbrev pub unless_usage : Option UsageKind → Options → Result Options UsageKind
@@ -61,4 +62,4 @@ given_by words = given_in (rows_by (profile_words words))
 
 -- what the words ask for by the matches that clap's definition gives: the options, or the first kind of misuse other than words that can't be read
 unfoldable pub asked : List Text → Result Options UsageKind
-asked words = unless_usage (first_usage (usage_tests (given_by words) (has_mark words))) (options_in (given_by words))
+asked words = unless_usage (first_usage (usage_tests (given_by words) (ends_in_mark words))) (options_in (given_by words) (base_words words))

@@ -28,7 +28,7 @@ pub enum UsageKind {
     NoFile,
     /// There are both `--synth` and a file.
     SynthWithFile,
-    /// There is a word `--`, after which base files would stand; none are read.
+    /// The first word `--`, after which base files stand, is the last word.
     NoBase,
 }
 

@@ -1,6 +1,6 @@
 //! The options of a run.
 
-ghost use Rattle.std.specs.Prelude.{◌≡◌, IfOk, map, option_and_then, option_map};
+ghost use Rattle.std.specs.Prelude.{◌≡◌, IfOk, map, option_and_then, option_map, string_bytes};
 ghost use Rattle.size_core.specs.declared.choices.Domain.TheVariants as domain;
 ghost use Rattle.size_core.specs.declared.choices.Sort.TheVariants as sort;
 ghost use Rattle.size_options.specs.Asked.{format_of, options_in};
@@ -41,6 +41,9 @@ pub struct Options {
     pub synth: Option<u32>,
     /// The names of the files, in order. There is one at least, unless `synth` is given, and then none.
     pub files: Names,
+    /// The names of the base files, in order, against which the files have grown. There is none where no growth is
+    /// asked for.
+    pub bases: Names,
 }
 
 fn limit_of(value: Option<&str>) -> u32
@@ -98,6 +101,17 @@ fn names_of(alloc: Global, texts: &[&str]) -> Result<Names, NoMemory>
     Ok(names)
 }
 
+// The names that words are.
+fn names_by(alloc: Global, words: &[String]) -> Result<Names, NoMemory>
+    ensures { IfOk result (λ n. n ≡ map string_bytes words.entry.now) }
+{
+    let mut names = Names::new(alloc);
+    for word in words {
+        names.push(Text::of(alloc, word.as_str())?)?;
+    }
+    Ok(names)
+}
+
 // The names between the commas.
 fn names_in(alloc: Global, list: &str) -> Result<Names, NoMemory>
     ensures { IfOk result (λ n. n ≡ names_in list.entry.now) }
@@ -112,9 +126,13 @@ fn names_in(alloc: Global, list: &str) -> Result<Names, NoMemory>
     Ok(names)
 }
 
-/// The options that were given, and for each other one its default.
-pub fn options_of(alloc: Global, given: &Given<'_, '_>) -> Result<Options, NoMemory>
-    ensures { IfOk result (λ o. o ≡ options_in (texts_of given.entry.now)) }
+/// The options that were given, and for each other one its default; `bases` are the words that name base files.
+pub fn options_of(
+    alloc: Global,
+    given: &Given<'_, '_>,
+    bases: &[String],
+) -> Result<Options, NoMemory>
+    ensures { IfOk result (λ o. o ≡ options_in (texts_of given.entry.now) (map string_bytes bases.entry.now)) }
 {
     let sources = names_in(alloc, given.sources.unwrap_or(SOURCES))?;
     let filter = text_of(alloc, given.filter)?;
@@ -134,5 +152,6 @@ pub fn options_of(alloc: Global, given: &Given<'_, '_>) -> Result<Options, NoMem
         config,
         synth: synth_of(given.synth),
         files,
+        bases: names_by(alloc, bases)?,
     })
 }

@@ -59,6 +59,10 @@ fn line_of(alloc: Global, options: &Options) -> Result<String, Fail> {
     }
     line.push_str(" FILE ")?;
     push_names(&mut line, &options.files, " ")?;
+    if options.bases.len() > 0 {
+        line.push_str(" BASE ")?;
+        push_names(&mut line, &options.bases, " ")?;
+    }
     Ok(line)
 }
 
@@ -167,6 +171,18 @@ fn reads_the_options(rt: HostRuntime) -> Result<(), Fail> {
             "-d sections -n 20 -s Both --domain Both -w FILE a.elf",
         ),
         (
+            "a.elf -- b.so",
+            "-d sections -n 20 -s Both --domain Both FILE a.elf BASE b.so",
+        ),
+        (
+            "a.elf b.so -- -- --nope  a.elf",
+            "-d sections -n 20 -s Both --domain Both FILE a.elf b.so BASE -- --nope  a.elf",
+        ),
+        (
+            "--synth 5 -n 0 -- a.elf",
+            "-d sections -n 0 -s Both --domain Both --synth 5 FILE  BASE a.elf",
+        ),
+        (
             "--csv -n 0 -d sections --domain=file a.elf",
             "-d sections -n 0 -s Both --domain File --csv FILE a.elf",
         ),
@@ -214,9 +230,7 @@ fn refuses_misused_words(rt: HostRuntime) -> Result<(), Fail> {
         ("a.elf --synth 5 -- b.so", UsageKind::SynthWithFile),
         ("--", UsageKind::NoFile),
         ("-- a.elf", UsageKind::NoFile),
-        ("a.elf -- b.so", UsageKind::NoBase),
         ("a.elf --", UsageKind::NoBase),
-        ("a.elf -- -- --nope", UsageKind::NoBase),
         ("--synth 5 --", UsageKind::NoBase),
         ("--nope a.elf", UsageKind::Words),
         ("-x a.elf", UsageKind::Words),

@@ -5,7 +5,7 @@ ghost use Rattle.size_options.specs.Answers.{IsRefusalOf, KeepsLimits, word_erro
 ghost use Rattle.size_options.specs.Asked.{asked, first_usage, usage_tests};
 ghost use Rattle.size_options.specs.Given.{texts_of};
 ghost use Rattle.size_options.specs.Values.{domain_of, is_bad, number_of, small_number_of, sort_of};
-ghost use Rattle.size_options.specs.Words.{is_mark, mark_at, seen_words};
+ghost use Rattle.size_options.specs.Words.{base_words, is_mark, mark_at, seen_words};
 
 use crate::answer::{OptionAnswer, UsageKind};
 use crate::chosen::{Options, SOURCES, options_of};
@@ -39,8 +39,8 @@ fn is_bad_domain(value: Option<&str>) -> bool
 }
 
 // The first way in which what was given is misused.
-fn usage_of(given: &Given<'_, '_>, is_marked: bool) -> Option<UsageKind>
-    ensures { result ≡ first_usage (usage_tests (texts_of given.now) is_marked) }
+fn usage_of(given: &Given<'_, '_>, has_no_base: bool) -> Option<UsageKind>
+    ensures { result ≡ first_usage (usage_tests (texts_of given.now) has_no_base) }
 {
     let has_no_file = given.files.is_none_or(|files| files.is_empty());
     if is_bad_number(given.limit) || is_bad_small_number(given.synth) {
@@ -57,7 +57,7 @@ fn usage_of(given: &Given<'_, '_>, is_marked: bool) -> Option<UsageKind>
         Some(UsageKind::NoFile)
     } else if !has_no_file && given.synth.is_some() {
         Some(UsageKind::SynthWithFile)
-    } else if is_marked {
+    } else if has_no_base {
         Some(UsageKind::NoBase)
     } else {
         None
@@ -79,8 +79,18 @@ fn mark_at(words: &[String]) -> usize
     mark_found(words).unwrap_or(words.len())
 }
 
+// The words after the first mark.
+fn base_words(words: &[String], mark: usize) -> &[String]
+    requires at { mark ≡ mark_at (seen_words words.now) }
+    requires within { mark ≤ length words.now }
+    ensures { map string_bytes result.now ≡ base_words (seen_words words.now) }
+{
+    &words[(mark + 1).min(words.len())..]
+}
+
 /// The options that the words ask for. `words` are those after the program's name; the first word that is
-/// `--` ends the words of the profile, and those before it are read as clap reads the words of a command.
+/// `--` ends the words of the profile, and those before it are read as clap reads the words of a command. The words
+/// after it are the names of base files, whatever they are.
 ///
 /// `Usage` tells how the words are misused: `Words` comes only where clap doesn't take the words of the
 /// profile, and each other kind exactly where it is the first that applies. Want of memory may come
@@ -94,8 +104,8 @@ pub fn options(alloc: Global, words: &[String]) -> Result<Options, OptionAnswer>
     let end = mark_at(words);
     let matches = matches_of(alloc, &words[..end])?;
     let given = given_of(&matches);
-    match usage_of(&given, end < words.len()) {
+    match usage_of(&given, end + 1 == words.len()) {
         Some(kind) => Err(OptionAnswer::Usage(kind)),
-        None => Ok(options_of(alloc, &given)?),
+        None => Ok(options_of(alloc, &given, base_words(words, end))?),
     }
 }

@@ -10,6 +10,8 @@ mod faults;
 #[cfg(test)]
 mod formats;
 #[cfg(test)]
+mod growth;
+#[cfg(test)]
 mod refusals;
 #[cfg(test)]
 mod reports;

@@ -74,7 +74,7 @@ const MISUSES: [Misuse<'static>; 22] = [
         "bloaty: usage: no base file",
     ),
     (
-        &["a.elf", "--", "a.elf"],
+        &["--synth", "0", "--"],
         UsageKind::NoBase,
         "bloaty: usage: no base file",
     ),

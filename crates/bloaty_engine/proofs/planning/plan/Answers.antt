@@ -20,6 +20,7 @@ returns-clause-plan g c =
     let read : IfSome c.args.options.now.filter IsPattern = rw c.as_ref.ensures.value at c.in_ok-filter.ensures.read in
     rw c.of.ensures (record {
       sources = rw c.in_ok-rewrites.ensures.same c.in_ok-choices.ensures.chosen;
+      rewrites = c.in_ok-rewrites.ensures.same;
       filter = c.in_ok-filter.ensures.same ∙ c.as_ref.ensures.value;
       patterns = patterns-read names c.args.options.now.filter c.args.custom.now read c.in_ok-rewrites.ensures.read;
     })

@@ -1,7 +1,6 @@
 -- What is answered is what is decided of the file, and what is added is what its bytes count.
 use Rattle.std.proofs.Common.{◌≡◌, ◌+◌, length, Err, sym, ap, ◌∙◌, arith}
 use Rattle.std.proofs.lemmas.Result.{err_from_is_err_and}
-use Rattle.size_model.specs.Loads.{mapped_count}
 use Rattle.data_sources.specs.Groups.{bytes_of}
 use Rattle.data_sources.specs.Loads.{loads_of}
 use Rattle.data_sources.specs.Views.{view_of}

@@ -2,6 +2,7 @@
 use Rattle.std.proofs.Common.{Ok}
 use Rattle.size_options.specs.Asked.{asked as options_of}
 use Rattle.size_options.specs.Words.{seen_words}
+use Rattle.bloaty_engine.proofs.ReadLemmas.{reads-none}
 use Rattle.bloaty_engine.proofs.RunLemmas.{complete-run, named-file, no-memory-run, usage-complete, usage-run}
 use Rattle.bloaty_engine.proofs.run.bloaty.Goals as goal
 
@@ -27,3 +28,18 @@ pub returns-in-Err-NoMemory-clause-run : goal.returns-in-Err-NoMemory-clause-run
 returns-in-Err-NoMemory-clause-run g c =
     let r = no-memory-run (g.F.Files.held c.args.files.now) c.args.limits.now (options_of (seen_words c.args.words.now)) (g.P.Patterns.last_refused c.args.patterns.now) (g.O.Sink.written c.args.out.now) in
     (r.0, r.1, λ ok taken a b e. tt)
+
+pub returns-in-Ok-clause-asked : goal.returns-in-Ok-clause-asked
+returns-in-Ok-clause-asked g c = rw c.in-Ok.ensures.asked c.answer-outcome.ensures.asked
+
+pub returns-in-Ok-clause-all : goal.returns-in-Ok-clause-all
+returns-in-Ok-clause-all g c = rw c.in-Ok.ensures.asked c.answer-outcome.ensures.all
+
+pub returns-in-Err-Usage-clause-asked : goal.returns-in-Err-Usage-clause-asked
+returns-in-Err-Usage-clause-asked g c = reads-none _ _
+
+pub returns-in-Err-NoMemory-clause-asked : goal.returns-in-Err-NoMemory-clause-asked
+returns-in-Err-NoMemory-clause-asked g c = reads-none _ _
+
+pub returns-in-Ok-clause-long : goal.returns-in-Ok-clause-long
+returns-in-Ok-clause-long g c = rw c.in-Ok.ensures.asked c.answer-outcome.ensures.long

@@ -1,11 +1,14 @@
-use Rattle.std.proofs.Common.{◌<◌, ◌+◌, ◌-◌, ◌++◌, ◌∙◌, sym, ap, arith, length, map, take, drop, get_or}
+use Rattle.std.proofs.Common.{List, ◌<◌, ◌+◌, ◌-◌, ◌++◌, ◌∙◌, sym, ap, arith, length, map, take, drop, get_or}
 use Rattle.std.specs.List.{flat_map}
 use Rattle.std.proofs.lemmas.List.{take_all}
+use Rattle.rollup.specs.declared.table.RollupRow.{RollupRow}
 use Rattle.report_rows.specs.declared.groups.Group.{Group}
 use Rattle.report_rows.specs.declared.groups.Kind.TheVariants.{Label}
 use Rattle.report_rows.specs.Groups.{table_at, group_entry, IsPart}
-use Rattle.report_rows.proofs.GroupLemmas.{seen, deep_rows}
-use Rattle.report_rows.proofs.ListLemmas.{block, listing-none, listing-more, part-of, list-more}
+use Rattle.report_rows.specs.Rows.{Entry, entries_of, listing, row_of}
+use Rattle.report_rows.proofs.GroupLemmas.{seen, seen-mid, deep_rows}
+use Rattle.report_rows.proofs.LevelLemmas.{block, block-more, rows-more, rows-none}
+use Rattle.report_rows.proofs.ListLemmas.{part-of}
 use Rattle.report_rows.proofs.listing.+list.Goals as goal
 
 -- the group that stands for one past the end
@@ -14,7 +17,7 @@ any = record { key = record { 0 = 0 }; from = 0; to = 0; kind = Label; vm = 0; f
 
 pub returns-then-level-depth : goal.returns-then-level-depth
 returns-then-level-depth t c =
-    listing-none c.args.options.now c.args.depth c.args.level (table_at c.args.level (seen c.args.rows.now)) c.args.out.now (omega arith)
+    rows-none (entries_of c.args.options.now) (λ (e : Entry). e.below) row_of c.args.depth c.args.level (table_at c.args.level (seen c.args.rows.now)) c.args.out.now (omega arith)
 
 pub make_row-requires-clause-deep : goal.make_row-requires-clause-deep
 make_row-requires-clause-deep t c = deep_rows c.args.depth c.args.level c.args.rows.now c.requires.part (omega arith)
@@ -29,8 +32,11 @@ list-requires t c =
 
 pub loop-group-preserved : goal.loop-group-preserved
 loop-group-preserved t c =
-    list-more c.args.options.now c.args.depth c.args.level c.args.rows.now c.deref-group-items.result.now c.loop-group.group-index any c.args.out.now c.loop-group.out c.push.new.self c.list.new.out c.in_ok-make_row.field-0
-    c.loop-group-test.true c.loop-group.invariant c.in_ok-make_row.ensures c.in_ok-push.ensures.ok c.in_ok-list.ensures
+    let g = get_or c.deref-group-items.result.now c.loop-group.group-index any in
+    let o = c.args.options.now in
+    let below = λ (t : List RollupRow). listing o (c.args.depth - (c.args.level + 1)) (c.args.level + 1) (table_at (c.args.level + 1) t) in
+    block-more (entries_of o) (λ (e : Entry). e.below) row_of c.args.depth c.args.level (group_entry c.args.level (seen c.args.rows.now)) c.deref-group-items.result.now c.loop-group.group-index any c.args.out.now c.loop-group.out c.push.new.self c.list.new.out c.in_ok-make_row.field-0
+    c.loop-group-test.true c.loop-group.invariant c.in_ok-make_row.ensures c.in_ok-push.ensures.ok (c.in_ok-list.ensures ∙ ap (λ t. c.push.new.self ++ below t) (seen-mid c.args.rows.now g.from (g.to - g.from)))
 
 pub returns : goal.returns
 returns t c =
@@ -38,8 +44,8 @@ returns t c =
     let items = c.in_ok-groups.groups.items in
     let table = table_at c.args.level (seen c.args.rows.now) in
     let ge = group_entry c.args.level (seen c.args.rows.now) in
-    let f = block o c.args.depth c.args.level in
+    let f = block (entries_of o) (λ (e : Entry). e.below) row_of c.args.depth c.args.level in
     c.loop-group.invariant
     ∙ ap (λ rows. c.args.out.now ++ rows)
     (ap (λ gs. flat_map f (map ge gs)) (take_all c.loop-group.group-index c.deref-group-items.result.now (omega arith) ∙ c.deref-group-items.ensures.value)
-    ∙ (ap (flat_map f) c.in_ok-groups.ensures.entries ∙ sym (listing-more o c.args.depth c.args.level table (omega arith))))
+    ∙ (ap (flat_map f) c.in_ok-groups.ensures.entries ∙ sym (rows-more (entries_of o) (λ (e : Entry). e.below) row_of c.args.depth c.args.level table (omega arith))))

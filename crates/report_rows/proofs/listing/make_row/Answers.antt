@@ -1,11 +1,12 @@
-use Rattle.std.proofs.Common.{◌∙◌, sym, ap, get_or, []}
+use Rattle.std.proofs.Common.{◌∙◌, sym, ap, get_or, [], Bor}
+use Rattle.rollup.specs.declared.table.RollupRow.{RollupRow}
 use Rattle.report_rows.specs.declared.row.RowKind.{RowKind}
 use Rattle.report_rows.specs.declared.row.RowKind.TheVariants.{Label}
 use Rattle.report_rows.specs.declared.row.Row.{Row}
 use Rattle.report_rows.specs.GroupKinds.{kind_of}
 use Rattle.report_rows.specs.Groups.{labels_at}
 use Rattle.report_rows.proofs.GroupLemmas.{seen}
-use Rattle.report_rows.proofs.RowLemmas.{label_at}
+use Rattle.report_rows.proofs.RowLemmas.{label_at, seen-labels}
 use Rattle.report_rows.proofs.listing.make_row.Goals as goal
 use Rattle.report_rows.proofs.listing.make_row.Goals.{in-Label+in_ok-copy-in-Label, in-Others}
 
@@ -16,7 +17,7 @@ returns c =
     elim c.match-group.branch [
       | in-Label+in_ok-copy-in-Label w ↦
           ap row (w.kind-is
-          ∙ (ap Label (w.in_ok-copy-in-Label.ensures ∙ sym (label_at c.args.rows.now c.args.level c.args.group.now.from w.index-rows-group.result w.get.result.now (c.requires.some w.in-Label.is) w.get.ensures))
+          ∙ (ap Label (w.in_ok-copy-in-Label.ensures ∙ sym (ap (λ ls. get_or ls c.args.group.now.from []) (seen-labels c.args.level c.args.rows.now) ∙ label_at (λ (r : Bor RollupRow). r.now.path) c.args.rows.now c.args.level c.args.group.now.from w.index-rows-group.result w.get.result.now (c.requires.some w.in-Label.is) w.get.ensures))
           ∙ sym (ap (kind_of label) w.in-Label.is)))
       | in-Others w ↦ ap row (w.kind-is ∙ sym (ap (kind_of label) w.in-Others.is))
     ]

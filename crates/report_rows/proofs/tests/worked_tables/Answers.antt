@@ -1,11 +1,12 @@
 use Rattle.std.proofs.Common.{refl}
-use Rattle.report_rows.specs.Order.{placed, in_order}
+use Rattle.report_rows.specs.Levels.{rows_over}
+use Rattle.report_rows.specs.Order.{placed, in_order, within}
 use Rattle.report_rows.specs.Tables.{under, first_labels}
-use Rattle.report_rows.specs.Rows.{children, limited, listing}
+use Rattle.report_rows.specs.Rows.{children}
 use Rattle.report_rows.proofs.tests.worked_tables.Goals as goal
 
 pub returns : goal.returns
-unfolding placed in_order under first_labels children limited listing
+unfolding placed in_order under first_labels children within rows_over
 returns c = record {
   before_its_equal = refl;
   no_limit = refl;

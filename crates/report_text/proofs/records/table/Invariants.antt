@@ -5,5 +5,6 @@ use Rattle.report_text.proofs.records.table.Given as goal
 
 -- so many rows are behind
 abbrev pub invariant-loop-i : goal.invariant-loop-i
-invariant-loop-i l =
-    HasCome (λ v. Some v.items) l.delimiter l.tree l.domain (table_text l.delimiter l.tree l.domain l.sources) l.i (map (λ f. f.now) l.path.items) l.writer
+invariant-loop-i g l =
+    HasCome (λ v. Some v.items) l.delimiter g.T.Entry.ReportRow.as_row (g.T.Entry.ReportRow.sizes l.domain) (g.T.ReportTree.depth l.tree) (g.T.ReportTree.rows l.tree)
+    (table_text l.delimiter g.T.Entry.ReportRow.as_row (g.T.Entry.ReportRow.sizes l.domain) (g.T.ReportTree.depth l.tree) l.domain l.sources (g.T.ReportTree.rows l.tree)) l.i (map (λ f. f.now) l.path.items) l.writer

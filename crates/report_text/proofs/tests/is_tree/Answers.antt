@@ -1,4 +1,4 @@
-use Rattle.std.proofs.Common.{◌≡◌, Bool, true, false, not, refl, subst, sym, ◌∙◌}
+use Rattle.std.proofs.Common.{◌≡◌, Bool, true, false, not, map, refl, ap, subst, sym, ◌∙◌}
 use mathlib.Core.Bool.{beq}
 use Rattle.report_rows.specs.Trees.{AreLevels}
 use Rattle.report_text.proofs.RecordLemmas.{rows-from}
@@ -11,8 +11,11 @@ differ false true e = refl
 differ false false e = sym e
 
 pub loop-i-preserved : goal.loop-i-preserved
-loop-i-preserved c = λ all.
+loop-i-preserved g c = λ all.
     let row = c.get-row.result.now in
-    let rows = c.args.tree.now.rows in
+    let rows = c.args.rows.now in
+    let level = sym c.level-level.ensures in
     let is = sym (c.has_children.ensures row c.get-row.ensures) ∙ (differ c.has_children.result c.is_last.result c.if-has_children-is_last.false ∙ rw c.is_last.ensures refl) in
-    c.loop-i.invariant (subst (AreLevels c.args.tree.now.depth c.loop-i.highest) (sym (rows-from rows c.loop-i.i row c.get-row.ensures)) (c.if-row-highest.false, c.if-row-tree.false, is, all))
+    c.loop-i.invariant
+    (subst (AreLevels c.args.depth c.loop-i.highest) (sym (ap (map g.R.ReportRow.as_row) (rows-from rows c.loop-i.i row c.get-row.ensures)))
+    (rw level c.if-level-highest.false, rw level c.if-level-depth.false, is, rw level all))

@@ -1,4 +1,4 @@
-use Rattle.std.proofs.Common.{rules, ◌≡◌, ◌∙◌, ap, sym, subst, [], string_bytes}
+use Rattle.std.proofs.Common.{rules, ◌≡◌, ◌∙◌, ap, ap₂, sym, subst, [], map, string_bytes}
 use Rattle.std.proofs.lemmas.Result.{err_from_is_err_and}
 use Rattle.size_options.specs.Answers.{KeepsLimits, word_errors}
 use Rattle.size_options.specs.Asked.{given_by, options_in}
@@ -32,9 +32,9 @@ returns-clause-asked c =
     let before = words_before string_bytes c.args.words.now _ c.mark_at-end.ensures.at in
     let given : texts_of c.given_of-given.result ≡ given_by words
     = c.given_of-given.ensures ∙ ap given_in (c.in_ok-matches.ensures.rows ∙ ap rows_by before) in
-    let made : c.in_ok-options_of-in-None.field-0 ≡ options_in (texts_of c.given_of-given.result) = search rules in
+    let made : c.in_ok-options_of-in-None.field-0 ≡ options_in (texts_of c.given_of-given.result) (map string_bytes c.base_words.result.now) = search rules in
     options_are words _ (sym c.in-None.is ∙ first_is string_bytes c.args.words.now _ _ _ c.mark_at-end.ensures.at given c.usage_of.ensures)
-    (made ∙ ap options_in given)
+    (made ∙ ap₂ options_in given c.base_words.ensures)
 
 pub returns-clause-read : goal.returns-clause-read
 returns-clause-read c =
@@ -43,5 +43,5 @@ returns-clause-read c =
 
 pub returns-clause-limits : goal.returns-clause-limits
 returns-clause-limits c =
-    let made : c.in_ok-options_of-in-None.field-0 ≡ options_in (texts_of c.given_of-given.result) = search rules in
-    subst (λ (o : Options). KeepsLimits o) (sym made) (limits_kept (texts_of c.given_of-given.result) _ (sym c.usage_of.ensures ∙ c.in-None.is))
+    let made : c.in_ok-options_of-in-None.field-0 ≡ options_in (texts_of c.given_of-given.result) (map string_bytes c.base_words.result.now) = search rules in
+    subst (λ (o : Options). KeepsLimits o) (sym made) (limits_kept (texts_of c.given_of-given.result) _ _ (sym c.usage_of.ensures ∙ c.in-None.is))

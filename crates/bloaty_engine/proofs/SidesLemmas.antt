@@ -1,0 +1,211 @@
+-- Files and base files, counted one after the other.
+use Rattle.std.proofs.Common.{◌≡◌, ℕ, ◌+◌, ◌-◌, ◌<◌, ◌≤◌, true, false, cond, nat_le, List, [], ◌∷◌, length, take, Option, None, Some, Result, Ok, Err, refl, sym, ap, ◌∙◌, arith}
+use Rattle.std.specs.Prelude.{IsOk, if◌then◌else◌, Vec}
+use Rattle.std.specs.declared.alloc.Global.{Global}
+use Rattle.std.proofs.lemmas.Bool.Decides.{nat_tests}
+use Rattle.std.proofs.lemmas.List.{length-append, length-take-le, take_all}
+use Rattle.std.proofs.lemmas.Option.{slice_get_within}
+use Rattle.size_core.specs.declared.limits.Limits.{Limits}
+use Rattle.size_model.specs.declared.view.FileView.{FileView}
+use Rattle.outside.specs.Held.{Pairs}
+use Rattle.rollup.specs.Totals.{IsTotals, Totals}
+use Rattle.report_rows.specs.declared.row.RowOptions.{RowOptions}
+use Rattle.report_rows.specs.Rows.{row_tree}
+use Rattle.size_options.specs.declared.chosen.Options.{Options}
+use Rattle.bloaty_engine.specs.declared.outcome.Outcome.{Outcome}
+use Rattle.bloaty_engine.specs.declared.outcome.Outcome.TheVariants.{Done, Usage, ReadFailed, TooLong, Config, UnknownSource, PatternSyntax, PatternTooBig, Bad, TooManyClaims, MappedTooLarge, WriteFailed, NoMemory}
+use Rattle.bloaty_engine.specs.Counts.{filter_test}
+use Rattle.bloaty_engine.specs.GrowthReport.{EndsGrowth, IsGrowthReport, PrintsGrowth}
+use Rattle.bloaty_engine.specs.Named.{AreFiles, AreHeld, file_names, names_of}
+use Rattle.bloaty_engine.specs.Report.{AreSizes, IsSizeReport, depth_of, printed, report_tree, row_options}
+use Rattle.bloaty_engine.specs.Reports.{EndsCounting, IsReportFor, IsUnmade}
+use Rattle.bloaty_engine.specs.Sources.{Chosen}
+use Rattle.bloaty_engine.specs.Steps.{EndsFiles, HasCounted, batch_of}
+use Rattle.bloaty_engine.specs.Verdict.{◌>>=◌, Sides, counted_from, counted_sides, lengths_of}
+use Rattle.bloaty_engine.proofs.FileLemmas.{same-counted}
+use Rattle.bloaty_engine.proofs.ReadLemmas.{take-none}
+
+-- the bytes of files up to a number, and those of others behind it
+pub beyond : ℕ → (ℕ → List ℕ) → (ℕ → List ℕ) → ℕ → List ℕ
+beyond count a b j = if nat_le j count then a j else b j
+
+beyond-front : (count : ℕ) (a b : ℕ → List ℕ) (j : ℕ) → j ≤ count → beyond count a b j ≡ a j
+unfolding beyond
+beyond-front count a b j le = ap (λ t. cond t (a j) (b j)) (let p : nat_le j count ≡ true = grind (arith, nat_tests) in p)
+
+beyond-behind : (count : ℕ) (a b : ℕ → List ℕ) (j : ℕ) → count < j → beyond count a b j ≡ b j
+unfolding beyond
+beyond-behind count a b j lt = ap (λ t. cond t (a j) (b j)) (let p : nat_le j count ≡ false = grind (arith, nat_tests) in p)
+
+-- the files have their bytes, and so have the base files
+pub front-files : (held : Option Pairs) (synth : Option ℕ) (names : List (List ℕ)) (a b : ℕ → List ℕ) → AreFiles held synth names a → AreFiles held synth names (beyond (length (names_of synth names)) a b)
+front-files None None names a b are = tt
+front-files (Some pairs) None names a b are = λ k name at. beyond-front (length names) a b (1 + k) (omega (arith, slice_get_within names k name at)) ∙ are k name at
+front-files None (Some n) names a b are = beyond-front 1 a b 1 (omega arith) ∙ are
+front-files (Some pairs) (Some n) names a b are = beyond-front 1 a b 1 (omega arith) ∙ are
+
+pub behind-held : (held : Option Pairs) (count : ℕ) (names : List (List ℕ)) (a b : ℕ → List ℕ) → AreHeld held (count + 1) names b → AreHeld held (count + 1) names (beyond count a b)
+behind-held None count names a b are = tt
+behind-held (Some pairs) count names a b are = λ k name at. beyond-behind count a b (count + 1 + k) (omega arith) ∙ are k name at
+
+front-counted : (limits : Limits) (sources : List Chosen) (count : ℕ) (a b : ℕ → List ℕ) (names : List (List ℕ)) → length names ≤ count
+    → counted_from limits sources (beyond count a b) 1 0 0 names ≡ counted_from limits sources a 1 0 0 names
+front-counted limits sources count a b names le =
+    same-counted limits sources (beyond count a b) a 1 0 0 names (λ j low high. beyond-front count a b j (omega (arith, high)))
+
+behind-counted : (limits : Limits) (sources : List Chosen) (count lengths : ℕ) (a b : ℕ → List ℕ) (names : List (List ℕ))
+    → counted_from limits sources (beyond count a b) (count + 1) lengths 0 names ≡ counted_from limits sources b (count + 1) lengths 0 names
+behind-counted limits sources count lengths a b names =
+    same-counted limits sources (beyond count a b) b (count + 1) lengths 0 names (λ j low high. beyond-behind count a b j (omega (arith, low)))
+
+pub no-names : (names : List (List ℕ)) → length names ≡ 0 → names ≡ []
+no-names [] e = refl
+no-names (n ∷ names) e = absurd (omega arith)
+
+-- the report of sizes is that of files with no base file, and that of growth that of files with some
+sizes-for : (bases : List (List ℕ)) (o : Options) (s : Sides) (text : List ℕ) → bases ≡ [] → IsSizeReport o s.files text → IsReportFor bases o s text
+sizes-for [] o s text none is = is
+sizes-for (base ∷ bases) o s text none is = absurd (let wrong : base ∷ bases ≡ [] = none in cc)
+
+growth-for : (bases : List (List ℕ)) (o : Options) (s : Sides) (text : List ℕ) → 0 < length bases → IsGrowthReport o s.files s.bases text → IsReportFor bases o s text
+growth-for [] o s text some is = absurd (omega arith)
+growth-for (base ∷ bases) o s text some is = is
+
+-- the tree of a report hangs on the depth and the rows alone
+tree-same : (ro : RowOptions) (t : Totals) (n : ℕ) → t.depth ≡ n → row_tree ro t ≡ row_tree ro (record { depth = n; rows = t.rows; lengths = 0; mapped = 0 })
+tree-same ro t n e = ap (λ d. row_tree ro (record { depth = d; rows = t.rows; lengths = 0; mapped = 0 })) e
+
+is-ok : {X E : Type 0} (r : Result X E) → IsOk r → (x : X) × (r ≡ Ok x)
+is-ok (Ok x) ok = (x, refl)
+is-ok (Err e) ok = cc
+
+take-front : (names rest : List (List ℕ)) (k : ℕ) → k ≤ length names → take (k - length names) rest ≡ []
+take-front names rest k le =
+    let p : k - length names ≡ 0 = omega arith in
+    rw p (take-none rest)
+
+module _ (limits : Limits) (sources : List Chosen) (o : Options) (filter : Option (List ℕ)) (same : filter ≡ o.filter) (depth : length o.sources ≡ length sources) (a b : ℕ → List ℕ) where
+  count : ℕ
+  count = length (file_names o)
+
+  all : ℕ → List ℕ
+  all = beyond count a b
+
+  sides-of : (names bases : List (List ℕ)) (fs : List FileView) → length names ≤ count → counted_from limits sources a 1 0 0 names ≡ Ok fs
+      → counted_sides limits sources all names bases ≡ (counted_from limits sources all (length names + 1) (lengths_of fs) 0 bases >>= λ bs. Ok (record { files = fs; bases = bs }))
+  unfolding counted_sides count all
+  sides-of names bases fs le e =
+      ap (λ r. r >>= λ counted. (counted_from limits sources all (length names + 1) (lengths_of counted) 0 bases >>= λ bs. Ok (record { files = counted; bases = bs }))) (front-counted limits sources count a b names le ∙ e)
+
+  sides-none : (names : List (List ℕ)) (fs : List FileView) → length names ≤ count → counted_from limits sources a 1 0 0 names ≡ Ok fs → counted_sides limits sources all names [] ≡ Ok (record { files = fs; bases = [] })
+  sides-none names fs le e = sides-of names [] fs le e
+
+  sides-end : (end : Outcome) → counted_from limits sources a 1 0 0 (file_names o) ≡ Err end → counted_sides limits sources all (file_names o) o.bases ≡ Err end
+  unfolding counted_sides count all
+  sides-end end e =
+      ap (λ r. r >>= λ counted. (counted_from limits sources all (length (file_names o) + 1) (lengths_of counted) 0 o.bases >>= λ bs. Ok (record { files = counted; bases = bs }))) (front-counted limits sources count a b (file_names o) (omega arith) ∙ e)
+
+  sides-behind : (fs : List FileView) (bases : List (List ℕ)) (r : Result (List FileView) Outcome) → counted_from limits sources a 1 0 0 (file_names o) ≡ Ok fs
+      → counted_from limits sources b (count + 1) (lengths_of fs) 0 bases ≡ r → counted_sides limits sources all (file_names o) bases ≡ (r >>= λ bs. Ok (record { files = fs; bases = bs }))
+  unfolding count all
+  sides-behind fs bases r e f =
+      sides-of (file_names o) bases fs (omega arith) e ∙ ap (λ q. q >>= λ bs. Ok (record { files = fs; bases = bs })) (behind-counted limits sources count (lengths_of fs) a b bases ∙ f)
+
+  Counts : Result (Vec ℕ Global) Outcome → Type 0
+  Counts r = EndsCounting limits sources all o r
+
+  ok-is : {X E : Type 0} (r : Result X E) (x : X) → r ≡ Ok x → IsOk r
+  ok-is (Ok y) x e = refl
+  ok-is (Err y) x e = cc
+
+  -- the run ends at the files
+  pub front-ends : (end : Outcome) → ((k : ℕ) → end ≡ ReadFailed (k + 1) → IsUnmade o.synth k) → EndsFiles limits sources (filter_test filter) (batch_of 0 0 (file_names o)) a (Err end) → EndsCounting limits sources (beyond (length (file_names o)) a b) o (Err end)
+  unfolding count all
+  front-ends (ReadFailed i) unmade e =
+      let k = e.0 in
+      let number : i ≡ k + 1 = omega (arith, e.1) in
+      let some = length-append (file_names o) o.bases in
+      let inside : k ≤ length (file_names o) = omega (arith, e.2) in
+      let le : length (take k (file_names o)) ≤ count = omega (arith, length-take-le k (file_names o) inside, inside) in
+      let fs = is-ok _ e.3 in
+      (k, number, unmade k (ap ReadFailed number), omega (arith, e.2, some), rw (take-front (file_names o) o.bases k (omega (arith, e.2))) (ok-is _ _ (sides-none (take k (file_names o)) fs.0 le fs.1)))
+  front-ends NoMemory unmade e = tt
+  front-ends (TooLong i) unmade e = sides-end (TooLong i) e
+  front-ends Done unmade e = sides-end Done e
+  front-ends (Usage kind) unmade e = sides-end (Usage kind) e
+  front-ends (Config kind offset) unmade e = sides-end (Config kind offset) e
+  front-ends (UnknownSource i) unmade e = sides-end (UnknownSource i) e
+  front-ends (PatternSyntax i) unmade e = sides-end (PatternSyntax i) e
+  front-ends (PatternTooBig i) unmade e = sides-end (PatternTooBig i) e
+  front-ends (Bad i fault offset) unmade e = sides-end (Bad i fault offset) e
+  front-ends (TooManyClaims i) unmade e = sides-end (TooManyClaims i) e
+  front-ends MappedTooLarge unmade e = sides-end MappedTooLarge e
+  front-ends WriteFailed unmade e = sides-end WriteFailed e
+
+  -- the report of sizes of the files that were counted
+  pub sizes-end : (t : Totals) (out : Vec ℕ Global) → o.bases ≡ [] → EndsFiles limits sources (filter_test filter) (batch_of 0 0 (file_names o)) a (Ok t) → IsTotals t.depth t.rows t.lengths t.mapped
+      → out.items ≡ printed o (row_tree (row_options o) t) → EndsCounting limits sources (beyond (length (file_names o)) a b) o (Ok out)
+  unfolding count all
+  sizes-end t out none e totals is =
+      let depth : t.depth ≡ length o.sources = e.2.depth ∙ sym depth in
+      let tree : row_tree (row_options o) t ≡ report_tree o t.rows = tree-same (row_options o) t (length o.sources) depth in
+      let sizes : AreSizes (filter_test o.filter) (depth_of o) e.0 t.rows = record {
+        ordered = totals.ordered;
+        deep = rw depth at totals.deep;
+        some = totals.some;
+        file = rw same at e.2.file;
+        vm = rw same at e.2.vm;
+      } in
+      let report : IsSizeReport o e.0 out.items = record { rows = t.rows; sizes = sizes; is = is ∙ ap (printed o) tree } in
+      let s : Sides = record { files = e.0; bases = [] } in
+      (s, ap (counted_sides limits sources all (file_names o)) none ∙ sides-none (file_names o) e.0 (omega arith) e.1, sizes-for o.bases o s out.items none report)
+
+  -- the run ends at the base files, or there is the report of growth
+  module _ (t : Totals) (some : 0 < length o.bases) (e : EndsFiles limits sources (filter_test filter) (batch_of 0 0 (file_names o)) a (Ok t)) where
+    behind-end : (end : Outcome) → counted_from limits sources b (count + 1) t.lengths 0 o.bases ≡ Err end → counted_sides limits sources all (file_names o) o.bases ≡ Err end
+    unfolding count all
+    behind-end end f = sides-behind e.0 o.bases (Err end) e.1 (rw (← e.2.lengths) f)
+
+    grown : (u : Totals) (text : List ℕ) (bs : List FileView) → HasCounted (filter_test filter) (length sources) bs u → PrintsGrowth o t.rows u.rows text → IsGrowthReport o e.0 bs text
+    grown u text bs has prints = record {
+      paths = prints.paths;
+      growths = record {
+        is = prints.are;
+        new_file = λ test. prints.between.new_file test ∙ (rw same at e.2.file) test;
+        new_vm = λ test. prints.between.new_vm test ∙ (rw same at e.2.vm) test;
+        base_file = λ test. prints.between.base_file test ∙ (rw same at has.file) test;
+        base_vm = λ test. prints.between.base_vm test ∙ (rw same at has.vm) test;
+      };
+      is = prints.is;
+    }
+
+    pub growth-ends : (r : Result (Vec ℕ Global) Outcome) → EndsGrowth limits sources (filter_test filter) (batch_of (length (file_names o)) t.lengths o.bases) b o t.rows r
+        → EndsCounting limits sources (beyond (length (file_names o)) a b) o r
+    unfolding count all
+    growth-ends (Ok out) g =
+        let s : Sides = record { files = e.0; bases = g.1.0 } in
+        (s, sides-behind e.0 o.bases (Ok g.1.0) e.1 (rw (← e.2.lengths) g.1.1), growth-for o.bases o s out.items some (grown g.0 out.items g.1.0 g.1.2 g.2))
+    growth-ends (Err (ReadFailed i)) g =
+        let k = g.0 in
+        let number : i ≡ count + k + 1 = omega (arith, g.1) in
+        let long = length-append (file_names o) o.bases in
+        let names : take (count + k) (file_names o) ≡ file_names o = take_all (count + k) (file_names o) (omega arith) in
+        let bases : count + k - length (file_names o) ≡ k = omega arith in
+        let bs = is-ok _ g.3 in
+        (count + k, number, unmade-behind o.synth o.files k, omega (arith, g.2, long), rw (names, bases) (ok-is _ _ (sides-behind e.0 (take k o.bases) (Ok bs.0) e.1 (rw (← e.2.lengths) bs.1))))
+      where
+        unmade-behind : (synth : Option ℕ) (files : List (List ℕ)) (k : ℕ) → IsUnmade synth (length (names_of synth files) + k)
+        unmade-behind None files k = tt
+        unmade-behind (Some n) files k = omega arith
+    growth-ends (Err NoMemory) g = tt
+    growth-ends (Err (TooLong i)) g = behind-end (TooLong i) g
+    growth-ends (Err Done) g = behind-end Done g
+    growth-ends (Err (Usage kind)) g = behind-end (Usage kind) g
+    growth-ends (Err (Config kind offset)) g = behind-end (Config kind offset) g
+    growth-ends (Err (UnknownSource i)) g = behind-end (UnknownSource i) g
+    growth-ends (Err (PatternSyntax i)) g = behind-end (PatternSyntax i) g
+    growth-ends (Err (PatternTooBig i)) g = behind-end (PatternTooBig i) g
+    growth-ends (Err (Bad i fault offset)) g = behind-end (Bad i fault offset) g
+    growth-ends (Err (TooManyClaims i)) g = behind-end (TooManyClaims i) g
+    growth-ends (Err MappedTooLarge) g = behind-end MappedTooLarge g
+    growth-ends (Err WriteFailed) g = behind-end WriteFailed g

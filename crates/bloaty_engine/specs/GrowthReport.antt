@@ -1,0 +1,61 @@
+-- The report of the growth of files from base files.
+use Rattle.std.specs.Prelude.{◌≡◌, ℕ, Bool, List, Option, Result, Ok, Err, Vec}
+use Rattle.std.specs.List.{sum_by}
+use Rattle.std.specs.declared.alloc.Global.{Global}
+use Rattle.size_core.specs.declared.choices.Format.{Format}
+use Rattle.size_core.specs.declared.choices.Format.TheVariants.{Text, Csv, Tsv}
+use Rattle.size_core.specs.declared.limits.Limits.{Limits}
+use Rattle.size_model.specs.declared.view.FileView.{FileView}
+use Rattle.rollup.specs.declared.table.RollupRow.{RollupRow}
+use Rattle.rollup.specs.Totals.{Totals}
+use Rattle.size_growth.specs.declared.growth.GrowthPath.{GrowthPath}
+use Rattle.size_growth.specs.declared.growth.GrowthSizes.{GrowthSizes}
+use Rattle.size_growth.specs.declared.row.GrowthTree.{GrowthTree}
+use Rattle.size_growth.specs.Between.{IsBetween, size_where}
+use Rattle.size_growth.specs.Paths.{IsGrowth}
+use Rattle.size_growth.specs.Rows.{growth_tree}
+use Rattle.report_text.specs.Growth.{growth_csv_text, growth_report_text, growth_tsv_text}
+use Rattle.size_options.specs.declared.chosen.Options.{Options}
+use Rattle.bloaty_engine.specs.Counts.{file_size_where, filter_test, vm_size_where}
+use Rattle.bloaty_engine.specs.declared.outcome.Outcome.{Outcome}
+use Rattle.bloaty_engine.specs.Report.{depth_of, row_options}
+use Rattle.bloaty_engine.specs.Sources.{Chosen}
+use Rattle.bloaty_engine.specs.Steps.{Batch, EndsFiles}
+
+-- The growth of files from base files: each full path with a size above 0 in one of them, once and in ascending order, with
+-- its sizes over all files and over all base files. For whatever set of paths, the sizes of the paths in it are the numbers
+-- of bytes, and of mapped addresses, whose path is in the set.
+pub record AreGrowths (filter : Option (List ℕ → Bool)) (depth : ℕ) (files bases : List FileView) (paths : List GrowthPath) : Type 0 where
+  pub is : IsGrowth depth paths
+  pub new_file : (test : List (List ℕ) → Bool) → size_where (λ (s : GrowthSizes). s.new_file) test paths ≡ sum_by (file_size_where filter test) files
+  pub new_vm : (test : List (List ℕ) → Bool) → size_where (λ (s : GrowthSizes). s.new_vm) test paths ≡ sum_by (vm_size_where filter test) files
+  pub base_file : (test : List (List ℕ) → Bool) → size_where (λ (s : GrowthSizes). s.base_file) test paths ≡ sum_by (file_size_where filter test) bases
+  pub base_vm : (test : List (List ℕ) → Bool) → size_where (λ (s : GrowthSizes). s.base_vm) test paths ≡ sum_by (vm_size_where filter test) bases
+
+abbrev pub growth_printed_as : Format → Options → GrowthTree → List ℕ
+growth_printed_as Text o tree = growth_report_text tree o.domain o.wide
+growth_printed_as Csv o tree = growth_csv_text tree o.domain o.sources
+growth_printed_as Tsv o tree = growth_tsv_text tree o.domain o.sources
+
+-- the text of a tree of growth
+unfoldable pub growth_printed : Options → GrowthTree → List ℕ
+growth_printed o tree = growth_printed_as o.format o tree
+
+-- this is the text of the growth of the paths of one rollup from those of another
+pub record PrintsGrowth (o : Options) (new base : List RollupRow) (text : List ℕ) : Type 0 where
+  pub paths : List GrowthPath
+  pub are : IsGrowth (depth_of o) paths
+  pub between : IsBetween new base paths
+  pub is : text ≡ growth_printed o (growth_tree (row_options o) (depth_of o) paths)
+
+-- base files were counted, and this is the text of the growth from them; or the run ended at one of them
+abbrev pub EndsGrowth : Limits → List Chosen → Option (List ℕ → Bool) → Batch → (ℕ → List ℕ) → Options → List RollupRow → Result (Vec ℕ Global) Outcome → Type 0
+EndsGrowth limits sources filter b files o new (Ok text) =
+    (t : Totals) × EndsFiles limits sources filter b files (Ok t) × PrintsGrowth o new t.rows text.items
+EndsGrowth limits sources filter b files o new (Err end) = EndsFiles limits sources filter b files (Err end)
+
+-- the report of the growth of files from base files
+pub record IsGrowthReport (o : Options) (files bases : List FileView) (text : List ℕ) : Type 0 where
+  pub paths : List GrowthPath
+  pub growths : AreGrowths (filter_test o.filter) (depth_of o) files bases paths
+  pub is : text ≡ growth_printed o (growth_tree (row_options o) (depth_of o) paths)

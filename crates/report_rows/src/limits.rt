@@ -1,0 +1,56 @@
+//! Groups within a limit, and the others taken together.
+
+ghost use Rattle.std.specs.Prelude.{◌≡◌, ℕ, List, OnOk, drop, nat_le};
+ghost use Rattle.std.specs.List.{position_or_len};
+ghost use Rattle.std.specs.Ordering.{nat_cmp};
+ghost use Rattle.report_rows.specs.declared.row.RowOptions.{RowOptions};
+ghost use Rattle.report_rows.specs.Order.{within};
+
+use crate::row::RowOptions;
+use size_core::NoMemory;
+
+/// What stands in a level: a label, or labels left over. The larger key stands first.
+pub trait Grouped: Copy {
+    ghost key: { Self → ℕ };
+
+    ghost fits: { List Self → Type 0 };
+
+    ghost together: { RowOptions → List Self → Self };
+
+    /// The shown size that orders.
+    fn key(&self) -> u64
+        ensures { result ≡ key self.now };
+
+    /// Groups that are left over, taken together.
+    fn together(options: &RowOptions, left: &[Self]) -> Self
+        requires { fits left.now }
+        ensures { result ≡ together options.now left.now };
+}
+
+// Where a group of others stands: before the first group whose key is not larger.
+fn place<G: Grouped>(groups: &[G], others: &G) -> usize
+    ensures { result ≡ position_or_len (λ g. nat_le (G.key g) (G.key others.now)) groups.now }
+{
+    for (i, group) in groups.iter().enumerate() {
+        if group.key() <= others.key() {
+            return i;
+        }
+    }
+    groups.len()
+}
+
+/// Leaves the groups within the limit, and one of the others where there are more. A limit of 0 is none.
+pub fn limit<G: Grouped>(options: &RowOptions, groups: &mut Vec<G>) -> Result<(), NoMemory>
+    requires { G.fits (drop options.now.limit groups.old.items) }
+    ensures { OnOk result (groups.new.items ≡ within options.now.limit (λ a b. nat_cmp (G.key b) (G.key a)) (G.together options.now) groups.old.items) }
+{
+    let kept = options.limit as usize;
+    if kept == 0 || groups.len() <= kept {
+        return Ok(());
+    }
+    let others = G::together(options, &groups[kept..]);
+    groups.truncate(kept);
+    let place = place(groups.as_slice(), &others);
+    groups.insert(place, others)?;
+    Ok(())
+}

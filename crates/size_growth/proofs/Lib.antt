@@ -1,0 +1,10 @@
+pub mod BetweenLemmas
+pub mod EntryLemmas
+pub mod GatherLemmas
+pub mod LawLemmas
+pub mod ListLemmas
+pub mod MergeLemmas
+pub mod RunLemmas
+pub mod SortLemmas
+pub mod SumLemmas
+pub mod TreeLemmas

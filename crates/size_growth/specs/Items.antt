@@ -1,0 +1,71 @@
+-- Groups of paths that share the label of a level, and how they and what a limit leaves stand for entries.
+use Rattle.std.specs.Prelude.{◌≡◌, ◌≢◌, ℕ, ◌+◌, ◌-◌, ◌<◌, ◌≤◌, List, [], ◌∷◌, ⊤, All, length, map, take, drop, get_or}
+use Rattle.std.specs.List.{AllByRecursion}
+use Rattle.report_rows.specs.declared.row.RowOptions.{RowOptions}
+use Rattle.size_growth.specs.declared.growth.GrowthPath.{GrowthPath}
+use Rattle.size_growth.specs.declared.groups.Group.{Group}
+use Rattle.size_growth.specs.declared.items.Item.{Item}
+use Rattle.report_rows.specs.declared.groups.Kind.TheVariants as kinds
+use Rattle.size_growth.specs.declared.row.GrowthKind.TheVariants.{Label}
+use Rattle.size_growth.specs.ItemKinds.{kind_of}
+use Rattle.size_growth.specs.Keys.{growth_key}
+use Rattle.size_growth.specs.Paths.{sums}
+use Rattle.size_growth.specs.Rows.{Entry}
+use Rattle.size_growth.specs.Runs.{table_at}
+use Rattle.size_growth.specs.Sizes.{Fits, sums_by}
+
+-- the labels of a level
+abbrev pub labels_at : ℕ → List GrowthPath → List (List ℕ)
+labels_at level paths = map (λ (p : GrowthPath). get_or p.path level []) paths
+
+-- paths of this depth, whose sizes a 63-bit number holds
+pub record IsPart (depth : ℕ) (paths : List GrowthPath) : Type 0 where
+  pub deep : All (λ (p : GrowthPath). length p.path ≡ depth) paths
+  pub fits : Fits (sums paths)
+
+-- the paths from one place up to another
+abbrev pub mid : ℕ → ℕ → List GrowthPath → List GrowthPath
+mid from to paths = take (to - from) (drop from paths)
+
+-- what a group stands for
+abbrev pub group_entry : ℕ → List GrowthPath → Group → Entry
+group_entry level paths g = record { kind = Label (get_or (labels_at level paths) g.from []); sizes = g.sizes; below = table_at (level + 1) (mid g.from g.to paths) }
+
+-- paths from one place up to another that share their label of a level, which no path behind them has next
+pub record IsRun (level : ℕ) (paths : List GrowthPath) (from to : ℕ) : Type 0 where
+  pub same : (k : ℕ) → from ≤ k → k < to → get_or (labels_at level paths) k [] ≡ get_or (labels_at level paths) from []
+  pub next : to < length paths → get_or (labels_at level paths) to [] ≢ get_or (labels_at level paths) from []
+
+-- some paths, and their sizes and key
+pub record IsGroup (o : RowOptions) (paths : List GrowthPath) (g : Group) : Type 0 where
+  pub some : g.from < g.to
+  pub within : g.to ≤ length paths
+  pub key : g.key.0 ≡ growth_key o g.sizes
+  pub sizes : g.sizes ≡ sums (mid g.from g.to paths)
+
+-- groups stand in the order of their paths
+abbrev pub Rise : List Group → Type 0
+Rise [] = ⊤
+Rise (g ∷ gs) = AllByRecursion (λ (h : Group). g.from < h.from) gs × Rise gs
+
+-- what an item stands for
+abbrev pub item_entry : ℕ → List GrowthPath → Item → Entry
+item_entry level paths i = record { kind = kind_of (get_or (labels_at level paths) i.from []) i.kind; sizes = i.sizes; below = table_at (level + 1) (mid i.from i.to paths) }
+
+abbrev pub item_of : Group → Item
+item_of g = record { key = g.key.0; kind = kinds.Label; from = g.from; to = g.to; sizes = g.sizes }
+
+-- paths that stand under what stands in a level; under a label there are some
+pub record IsRange (paths : List GrowthPath) (i : Item) : Type 0 where
+  pub inside : i.from ≤ i.to
+  pub within : i.to ≤ length paths
+  pub some : i.kind ≡ kinds.Label → i.from < i.to
+
+abbrev pub HasKey : RowOptions → Group → Type 0
+HasKey o g = g.key.0 ≡ growth_key o g.sizes
+
+-- items that are left over, taken together
+abbrev pub others_item : RowOptions → List Item → Item
+others_item o left =
+    let sizes = sums_by (λ (i : Item). i.sizes) left in
+    record { key = growth_key o sizes; kind = kinds.Others (length left); from = 0; to = 0; sizes = sizes }

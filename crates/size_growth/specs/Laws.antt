@@ -1,0 +1,32 @@
+-- What follows of paths in order.
+use Rattle.std.specs.Prelude.{◌≡◌, ◌<◌, ℕ, List, All, length, map, if◌then◌else◌}
+use Rattle.std.specs.Cmp.Lexicographic.{slice_cmp}
+use Rattle.std.specs.List.{sum_by}
+use Rattle.std.specs.List.Sorted.{IsStrictlySortedBy}
+use Rattle.std.specs.Ordering.{nat_cmp}
+use Rattle.std.specs.Str.{bytes_eq}
+use Rattle.size_growth.specs.declared.growth.GrowthPath.{GrowthPath}
+use Rattle.size_growth.specs.declared.growth.GrowthSizes.{GrowthSizes}
+use Rattle.size_growth.specs.Paths.{growth_cmp}
+use Rattle.size_growth.specs.Runs.{Under, first_label, runs}
+
+-- a size of the paths that begin with a label
+abbrev pub size_from : (GrowthSizes → ℕ) → List ℕ → List GrowthPath → ℕ
+size_from size label paths = sum_by (λ (p : GrowthPath). if bytes_eq (first_label p) label then size p.sizes else 0) paths
+
+-- and of those that stand under it
+abbrev pub size_under : (GrowthSizes → ℕ) → List ℕ → List Under → ℕ
+size_under size label us = sum_by (λ (u : Under). if bytes_eq u.label label then sum_by (λ (p : GrowthPath). size p.sizes) u.below else 0) us
+
+abbrev pub labels_of : List Under → List (List ℕ)
+labels_of us = map (λ (u : Under). u.label) us
+
+-- The labels that paths begin with stand in order, byte by byte, each once. To a label belong the sizes of the paths that
+-- begin with it, and these are in order without it.
+pub record AreLabels (paths : List GrowthPath) : Type 0 where
+  pub once : IsStrictlySortedBy (λ (a b : List ℕ). slice_cmp nat_cmp a b) (labels_of (runs paths))
+  pub sizes : (size : GrowthSizes → ℕ) (label : List ℕ) → size_under size label (runs paths) ≡ size_from size label paths
+  pub below : All (λ (u : Under). IsStrictlySortedBy growth_cmp u.below) (runs paths)
+
+abbrev pub LabelsStandOnce : Type 0
+LabelsStandOnce = (paths : List GrowthPath) → IsStrictlySortedBy growth_cmp paths → All (λ (p : GrowthPath). 0 < length p.path) paths → AreLabels paths

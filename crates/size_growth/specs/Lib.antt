@@ -1,0 +1,12 @@
+pub mod Between
+pub mod ItemKinds
+pub mod Items
+pub mod Keys
+pub mod Laws
+pub mod Merged
+pub mod Paths
+pub mod Rows
+pub mod Runs
+pub mod Sizes
+pub mod Trees
+pub mod Worked

@@ -1,0 +1,29 @@
+-- Paths with their sizes in new files and in base files.
+use Rattle.std.specs.Prelude.{◌≡◌, ℕ, List, length, All}
+use Rattle.std.specs.declared.cmp.Ordering.{Ordering}
+use Rattle.std.specs.List.Sorted.{IsStrictlySortedBy}
+use Rattle.rollup.specs.Totals.{path_cmp}
+use Rattle.size_growth.specs.declared.growth.GrowthPath.{GrowthPath}
+use Rattle.size_growth.specs.declared.growth.GrowthSizes.{GrowthSizes}
+use Rattle.size_growth.specs.Sizes.{Fits, HasSize, sums_by}
+
+-- what contracts see of a growth
+pub record Paths : Type 0 where
+  pub depth : ℕ
+  pub paths : List GrowthPath
+
+-- paths ascend label by label, and labels byte by byte
+abbrev pub growth_cmp : GrowthPath → GrowthPath → Ordering
+growth_cmp a b = path_cmp a.path b.path
+
+-- the sizes of all paths
+abbrev pub sums : List GrowthPath → GrowthSizes
+sums paths = sums_by (λ (p : GrowthPath). p.sizes) paths
+
+-- What is known of every growth: its paths ascend, each stands once, and each has its labels and a size above 0. A 63-bit
+-- number holds each size of all paths together.
+pub record IsGrowth (depth : ℕ) (paths : List GrowthPath) : Type 0 where
+  pub ordered : IsStrictlySortedBy growth_cmp paths
+  pub deep : All (λ (p : GrowthPath). length p.path ≡ depth) paths
+  pub some : All (λ (p : GrowthPath). HasSize p.sizes) paths
+  pub fits : Fits (sums paths)

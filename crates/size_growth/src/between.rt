@@ -1,0 +1,170 @@
+//! The rows of two rollups side by side.
+
+ghost use Rattle.std.specs.Prelude.{◌≡◌, ◌+◌, ◌^◌, ◌<◌, ◌≤◌, ◌++◌, IfOk, OnOk, drop, length, map};
+ghost use Rattle.size_growth.specs.Between.{IsBetween, Stands};
+ghost use Rattle.size_growth.specs.Merged.{base_path, both_path, new_path, left};
+
+use crate::compare::{compare, copy};
+use crate::growth::{Growth, GrowthPath, GrowthSizes};
+use rollup::{Rollup, RollupRow};
+use size_core::NoMemory;
+use std::alloc::Global;
+use std::cmp::Ordering;
+
+/// How many rows of each rollup are passed.
+#[derive(Clone, Copy, Debug)]
+pub struct Place {
+    pub new: usize,
+    pub base: usize,
+}
+
+// A path that only the new files have.
+fn only_new(alloc: Global, row: &RollupRow) -> Result<GrowthPath, NoMemory>
+    ensures { IfOk result (λ p. p ≡ new_path row.now) }
+{
+    Ok(GrowthPath {
+        path: copy(alloc, &row.path)?,
+        sizes: GrowthSizes {
+            new_vm: row.vm,
+            new_file: row.file,
+            base_vm: 0,
+            base_file: 0,
+        },
+    })
+}
+
+// A path that only the base files have.
+fn only_base(alloc: Global, row: &RollupRow) -> Result<GrowthPath, NoMemory>
+    ensures { IfOk result (λ p. p ≡ base_path row.now) }
+{
+    Ok(GrowthPath {
+        path: copy(alloc, &row.path)?,
+        sizes: GrowthSizes {
+            new_vm: 0,
+            new_file: 0,
+            base_vm: row.vm,
+            base_file: row.file,
+        },
+    })
+}
+
+// A path that both have.
+fn in_both(alloc: Global, new: &RollupRow, base: &RollupRow) -> Result<GrowthPath, NoMemory>
+    ensures { IfOk result (λ p. p ≡ both_path new.now base.now) }
+{
+    Ok(GrowthPath {
+        path: copy(alloc, &new.path)?,
+        sizes: GrowthSizes {
+            new_vm: new.vm,
+            new_file: new.file,
+            base_vm: base.vm,
+            base_file: base.file,
+        },
+    })
+}
+
+// Passes the lesser of the two paths that stand at a place, or both where they are one.
+fn pass_lesser(
+    alloc: Global,
+    new: &Rollup,
+    base: &Rollup,
+    at: Place,
+    paths: &mut Vec<GrowthPath>,
+) -> Result<Place, NoMemory>
+    requires new { at.new < length new.now.rows }
+    requires base { at.base < length base.now.rows }
+    requires new_fits { length new.now.rows < 2 ^ 64 }
+    requires base_fits { length base.now.rows < 2 ^ 64 }
+    ensures left { IfOk result (λ to. paths.new.items ++ left new.now.rows base.now.rows to ≡ paths.old.items ++ left new.now.rows base.now.rows at) }
+    ensures stands { IfOk result (Stands new.now.rows base.now.rows) }
+    ensures further { IfOk result (λ to. at.new + at.base < to.new + to.base) }
+{
+    let ours = new.row(at.new);
+    let theirs = base.row(at.base);
+    match compare(&ours.path, &theirs.path) {
+        Ordering::Less => {
+            paths.push(only_new(alloc, ours)?)?;
+            Ok(Place {
+                new: at.new + 1,
+                base: at.base,
+            })
+        }
+        Ordering::Equal => {
+            paths.push(in_both(alloc, ours, theirs)?)?;
+            Ok(Place {
+                new: at.new + 1,
+                base: at.base + 1,
+            })
+        }
+        Ordering::Greater => {
+            paths.push(only_base(alloc, theirs)?)?;
+            Ok(Place {
+                new: at.new,
+                base: at.base + 1,
+            })
+        }
+    }
+}
+
+// Passes the next path, up to a row of the new rollup.
+fn pass(
+    alloc: Global,
+    new: &Rollup,
+    base: &Rollup,
+    at: Place,
+    paths: &mut Vec<GrowthPath>,
+) -> Result<Place, NoMemory>
+    requires new { at.new < length new.now.rows }
+    requires base { at.base ≤ length base.now.rows }
+    requires new_fits { length new.now.rows < 2 ^ 64 }
+    requires base_fits { length base.now.rows < 2 ^ 64 }
+    ensures left { IfOk result (λ to. paths.new.items ++ left new.now.rows base.now.rows to ≡ paths.old.items ++ left new.now.rows base.now.rows at) }
+    ensures stands { IfOk result (Stands new.now.rows base.now.rows) }
+    ensures further { IfOk result (λ to. at.new + at.base < to.new + to.base) }
+{
+    if at.base < base.len() {
+        return pass_lesser(alloc, new, base, at, paths);
+    }
+    paths.push(only_new(alloc, new.row(at.new))?)?;
+    Ok(Place {
+        new: at.new + 1,
+        base: at.base,
+    })
+}
+
+// Passes the rows of the base rollup from a place on, behind which the new one has none.
+fn pass_rest(
+    alloc: Global,
+    base: &Rollup,
+    at: Place,
+    paths: &mut Vec<GrowthPath>,
+) -> Result<(), NoMemory>
+    requires { at.base ≤ length base.now.rows }
+    ensures { OnOk result (paths.new.items ≡ paths.old.items ++ map base_path (drop at.base base.now.rows)) }
+{
+    for i in at.base..base.len() {
+        paths.push(only_base(alloc, base.row(i))?)?;
+    }
+    Ok(())
+}
+
+impl Growth {
+    /// The paths that one of two rollups has, each with its sizes in both, which are 0 where a rollup doesn't have
+    /// the path. The only error is want of memory.
+    pub fn between(alloc: Global, new: &Rollup, base: &Rollup) -> Result<Growth, NoMemory>
+        requires { new.now.depth ≡ base.now.depth }
+        ensures depth { IfOk result (λ g. g.depth ≡ new.now.depth) }
+        ensures sizes { IfOk result (λ g. IsBetween new.now.rows base.now.rows g.paths) }
+    {
+        let mut paths = Vec::with_capacity(alloc, new.len().max(base.len()))?;
+        let mut at = Place { new: 0, base: 0 };
+        while at.new < new.len() {
+            at = pass(alloc, new, base, at, &mut paths)?;
+        }
+        pass_rest(alloc, base, at, &mut paths)?;
+        Ok(Growth {
+            depth: new.depth(),
+            paths,
+        })
+    }
+}

@@ -1,0 +1,156 @@
+//! The labels of a level with their paths, in the order of a report.
+
+ghost use Rattle.std.specs.Prelude.{◌≡◌, ◌<◌, ◌++◌, ◌∷◌, [], All, IfOk, OnOk, filter, length, map, if◌then◌else◌};
+ghost use Rattle.size_growth.specs.Items.{IsGroup, IsPart, IsRun, Rise, group_entry};
+ghost use Rattle.size_growth.specs.Keys.{amount, file_amount, growth_key, has_changed, vm_amount};
+ghost use Rattle.size_growth.specs.Paths.{sums};
+ghost use Rattle.size_growth.specs.Rows.{children, is_child, label_entry};
+ghost use Rattle.size_growth.specs.Runs.{runs, table_at};
+ghost use Rattle.size_growth.specs.Sizes.{Fits};
+
+use crate::growth::{GrowthPath, GrowthSizes};
+use report_rows::{HasPath, RowOptions, is_shown, key, run_len};
+use size_core::{NoMemory, Path};
+use std::alloc::Global;
+use std::cmp::Reverse;
+
+/// The paths of a growth from `from` up to `to`, which share a label. Groups come in the order of a report: the
+/// larger key first, and of one key the lesser label, which stands first among the paths.
+#[derive(Clone, Copy, PartialEq, Eq, PartialOrd, Ord, Debug)]
+pub struct Group {
+    pub key: Reverse<u64>,
+    pub from: usize,
+    pub to: usize,
+    pub sizes: GrowthSizes,
+}
+
+/// The sizes of paths, added up.
+#[tactic(auto, using(crate::proofs::SumLemmas::sums_more, crate::proofs::SumLemmas::fits_more))]
+pub fn sums(paths: &[GrowthPath]) -> GrowthSizes
+    requires { Fits (sums paths.now) }
+    ensures { result ≡ sums paths.now }
+{
+    let mut sizes = GrowthSizes::none();
+    for path in paths {
+        sizes = sizes.plus(path.sizes);
+    }
+    sizes
+}
+
+// The difference of a new size and a base size.
+fn amount(new: u64, base: u64) -> u64
+    ensures { result ≡ amount new base }
+{
+    if new < base { base - new } else { new - base }
+}
+
+fn vm_amount(sizes: &GrowthSizes) -> u64
+    ensures { result ≡ vm_amount sizes.now }
+{
+    amount(sizes.new_vm, sizes.base_vm)
+}
+
+fn file_amount(sizes: &GrowthSizes) -> u64
+    ensures { result ≡ file_amount sizes.now }
+{
+    amount(sizes.new_file, sizes.base_file)
+}
+
+/// The shown amount that orders.
+pub fn growth_key(options: &RowOptions, sizes: &GrowthSizes) -> u64
+    ensures { result ≡ growth_key options.now sizes.now }
+{
+    key(options, vm_amount(sizes), file_amount(sizes))
+}
+
+// Whether a shown size has changed.
+fn has_changed(options: &RowOptions, sizes: &GrowthSizes) -> bool
+    ensures { result ≡ has_changed options.now sizes.now }
+{
+    is_shown(options, vm_amount(sizes), file_amount(sizes))
+}
+
+impl HasPath for GrowthPath {
+    ghost path = { λ p. p.path };
+
+    fn path(&self) -> &Path {
+        &self.path
+    }
+}
+
+// The group that begins at a path.
+fn make_group(
+    options: &RowOptions,
+    depth: u32,
+    paths: &[GrowthPath],
+    level: u32,
+    from: usize,
+) -> Group
+    requires part { IsPart depth paths.now }
+    requires below { level < depth }
+    requires inside { from < length paths.now }
+    ensures from { result.from ≡ from }
+    ensures group { IsGroup options.now paths.now result }
+    ensures run { IsRun level paths.now from result.to }
+{
+    let to = from + run_len(&paths[from..], level as usize);
+    let sizes = sums(&paths[from..to]);
+    Group {
+        key: Reverse(growth_key(options, &sizes)),
+        from,
+        to,
+        sizes,
+    }
+}
+
+// Adds a group of which a shown size has changed.
+fn keep(options: &RowOptions, groups: &mut Vec<Group>, group: Group) -> Result<(), NoMemory>
+    ensures { OnOk result (groups.new.items ≡ groups.old.items ++ (if has_changed options.now group.sizes then group ∷ [] else [])) }
+{
+    if has_changed(options, &group.sizes) {
+        groups.push(group)?;
+    }
+    Ok(())
+}
+
+// The groups of a level of which a shown size has changed, in the order of the paths.
+fn groups_of(
+    alloc: Global,
+    options: &RowOptions,
+    depth: u32,
+    paths: &[GrowthPath],
+    level: u32,
+) -> Result<Vec<Group>, NoMemory>
+    requires part { IsPart depth paths.now }
+    requires below { level < depth }
+    ensures entries { IfOk result (λ groups. map (group_entry level paths.now) groups.items ≡ filter (is_child options.now) (map label_entry (runs (table_at level paths.now)))) }
+    ensures groups { IfOk result (λ groups. All (IsGroup options.now paths.now) groups.items) }
+    ensures rise { IfOk result (λ groups. Rise groups.items) }
+{
+    let mut groups = Vec::new(alloc);
+    let mut from = 0;
+    while from < paths.len() {
+        let group = make_group(options, depth, paths, level, from);
+        keep(options, &mut groups, group)?;
+        from = group.to;
+    }
+    Ok(groups)
+}
+
+/// The labels of a level of which a shown size has changed, in order.
+pub fn children(
+    alloc: Global,
+    options: &RowOptions,
+    depth: u32,
+    paths: &[GrowthPath],
+    level: u32,
+) -> Result<Vec<Group>, NoMemory>
+    requires part { IsPart depth paths.now }
+    requires below { level < depth }
+    ensures entries { IfOk result (λ groups. map (group_entry level paths.now) groups.items ≡ children options.now (table_at level paths.now)) }
+    ensures groups { IfOk result (λ groups. All (IsGroup options.now paths.now) groups.items) }
+{
+    let mut groups = groups_of(alloc, options, depth, paths, level)?;
+    groups.sort_unstable();
+    Ok(groups)
+}

@@ -1,0 +1,19 @@
+//! Growth: the sizes of new files beside those of base files, path by path, and the rows of a report over them.
+#![tactic(auto)]
+
+mod between;
+mod compare;
+mod groups;
+mod growth;
+mod items;
+mod laws;
+mod listing;
+mod row;
+
+pub use growth::{Growth, GrowthPath, GrowthSizes};
+pub use laws::labels_stand_once;
+pub use listing::growth_rows;
+pub use row::{GrowthKind, GrowthRow, GrowthRows, GrowthTree};
+
+#[cfg(test)]
+mod tests;

@@ -1,0 +1,90 @@
+//! The rows of all levels.
+
+ghost use Rattle.std.specs.Prelude.{◌≡◌, ◌-◌, ◌<◌, ◌≤◌, ◌++◌, All, IfOk, OnOk, length, map};
+ghost use Rattle.report_rows.specs.declared.groups.Kind.TheVariants.{Label};
+ghost use Rattle.size_growth.specs.Items.{IsPart, item_entry};
+ghost use Rattle.size_growth.specs.Rows.{growth_tree, listing, row_of};
+ghost use Rattle.size_growth.specs.Runs.{table_at};
+ghost use Rattle.size_growth.specs.Trees.{GrowsAlike, IsGrowthTree};
+
+use crate::groups::sums;
+use crate::growth::{Growth, GrowthPath};
+use crate::items::{Item, items};
+use crate::row::{GrowthKind, GrowthRow, GrowthRows, GrowthTree};
+use report_rows::{Kind, RowOptions};
+use size_core::{Domain, NoMemory, Sort};
+use std::alloc::Global;
+
+// The row of an item.
+fn make_row(paths: &[GrowthPath], level: u32, item: &Item) -> Result<GrowthRow, NoMemory>
+    requires some { item.now.kind ≡ Label → item.now.from < length paths.now }
+    requires deep { All (λ p. level < length p.path) paths.now }
+    ensures { IfOk result (λ r. r ≡ row_of level (item_entry level paths.now item.now)) }
+{
+    let kind = match item.kind {
+        Kind::Label => GrowthKind::Label(paths[item.from].path.get(level as usize).copy()?),
+        Kind::Others(count) => GrowthKind::Others(count),
+    };
+    Ok(GrowthRow {
+        level,
+        kind,
+        sizes: item.sizes,
+    })
+}
+
+// Adds the rows of the levels from this one on.
+fn list(
+    alloc: Global,
+    options: &RowOptions,
+    depth: u32,
+    paths: &[GrowthPath],
+    level: u32,
+    out: &mut GrowthRows,
+) -> Result<(), NoMemory>
+    requires part { IsPart depth paths.now }
+    requires within { level ≤ depth }
+    ensures { OnOk result (out.new ≡ out.old ++ listing options.now (depth - level) level (table_at level paths.now)) }
+{
+    if level == depth {
+        return Ok(());
+    }
+    let items = items(alloc, options, depth, paths, level)?;
+    for item in &items {
+        let below = &paths[item.from..item.to];
+        out.push(make_row(paths, level, item)?)?;
+        list(alloc, options, depth, below, level + 1, out)?;
+    }
+    Ok(())
+}
+
+/// The rows of a report over a growth: the labels of each level of which a shown size has changed, the larger amount
+/// first, and of one amount the lesser label. Where there is a limit, the labels beyond it are one row, before the
+/// labels of its amount. An amount is the difference of a new size and a base size, without its sign. `sort` says
+/// which of the two amounts orders, and `domain` which are shown; an amount that is not shown counts as 0. A limit of
+/// 0 is none. The only error is want of memory.
+pub fn growth_rows(
+    alloc: Global,
+    growth: &Growth,
+    limit: u32,
+    sort: Sort,
+    domain: Domain,
+) -> Result<GrowthTree, NoMemory>
+    ensures rows { IfOk result (λ t. t ≡ growth_tree (record { limit = limit; sort = sort; domain = domain }) growth.now.depth growth.now.paths) }
+    ensures levels { IfOk result (λ t. IsGrowthTree t.depth t.rows) }
+    ensures growths { IfOk result (GrowsAlike domain) }
+{
+    let options = RowOptions {
+        limit,
+        sort,
+        domain,
+    };
+    let depth = growth.depth();
+    let paths = growth.paths();
+    let mut rows = GrowthRows::new(alloc);
+    list(alloc, &options, depth, paths, 0, &mut rows)?;
+    Ok(GrowthTree {
+        depth,
+        sizes: sums(paths),
+        rows,
+    })
+}
