@@ -1,5 +1,5 @@
 -- How files are counted one after the other.
-use Rattle.std.proofs.Common.{◌≡◌, ℕ, zero, suc, ◌+◌, ◌-◌, ◌^◌, ◌<◌, ◌≤◌, min, Bool, true, false, cond, ◌||◌, ◌==◌, nat_lt, List, [], ◌∷◌, ◌++◌, length, take, drop, Option, None, Some, Result, Ok, Err, refl, sym, ap, ◌∙◌, subst, arith}
+use Rattle.std.proofs.Common.{◌≡◌, ℕ, zero, suc, ◌+◌, ◌-◌, ◌<◌, ◌≤◌, min, Bool, true, false, cond, ◌||◌, ◌==◌, nat_lt, List, [], ◌∷◌, ◌++◌, length, take, drop, Option, None, Some, Result, Ok, Err, refl, sym, ap, ◌∙◌, subst, arith}
 use Rattle.std.specs.Prelude.{IsOk, if◌then◌else◌, slice_get}
 use Rattle.std.specs.List.{sum_by}
 use Rattle.std.proofs.lemmas.Bool.Decides.{nat_tests}
@@ -8,27 +8,27 @@ use Rattle.std.proofs.lemmas.List.Sums.{sum_by-append, sum_by-cons}
 use Rattle.size_core.specs.declared.fault.BadFile.{BadFile}
 use Rattle.size_core.specs.declared.limits.Limits.{Limits}
 use Rattle.size_model.specs.declared.view.FileView.{FileView}
-use Rattle.size_model.specs.declared.view.SourceView.{SourceView}
 use Rattle.size_model.specs.Loads.{mapped_count}
 use Rattle.size_model.proofs.Firsts.{drop-get}
 use Rattle.data_sources.specs.declared.binary.Binary.{Binary}
-use Rattle.data_sources.specs.Groups.{bytes_of}
 use Rattle.data_sources.specs.Opened.{opened}
-use Rattle.data_sources.specs.Views.{view_of}
 use Rattle.data_sources.proofs.OpenedLemmas.{opened-bytes}
 use Rattle.outside.specs.Held.{Pairs, held_bytes, IsHeld}
 use Rattle.rollup.specs.Adding.{file_where, vm_where}
 use Rattle.rollup.specs.Totals.{Totals}
-use Rattle.bloaty_engine.specs.declared.answer.ProfileAnswer.{ProfileAnswer}
-use Rattle.bloaty_engine.specs.declared.answer.ProfileAnswer.TheVariants as profile
+use Rattle.file_profile.specs.declared.answer.ProfileAnswer.{ProfileAnswer}
+use Rattle.file_profile.specs.declared.answer.ProfileAnswer.TheVariants as profile
 use Rattle.bloaty_engine.specs.declared.outcome.Outcome.{Outcome}
-use Rattle.bloaty_engine.specs.declared.outcome.Outcome.TheVariants.{Done, Usage, ReadFailed, TooLong, Config, UnknownSource, PatternSyntax, PatternTooBig, Bad, TooManyClaims, MappedTooLarge, WriteFailed, NoMemory}
-use Rattle.bloaty_engine.specs.Counts.{file_size_where, vm_size_where}
+use Rattle.bloaty_engine.specs.declared.outcome.Outcome.TheVariants.{Done, Usage, ReadFailed, TooLong, Config, UnknownSource, PatternSyntax, PatternTooBig, Bad, TooManyClaims, MappedTooLarge, NoMatch, PlaceOutside, WriteFailed, NoMemory}
+use Rattle.file_profile.specs.Counts.{file_size_where, vm_size_where}
 use Rattle.bloaty_engine.specs.Named.{AreHeld}
-use Rattle.bloaty_engine.specs.Sources.{Chosen}
+use Rattle.file_profile.specs.Sources.{Chosen}
 use Rattle.bloaty_engine.specs.Steps.{Batch, EndsAs, EndsFiles, Finds, HasCounted, batch_of}
 use Rattle.bloaty_engine.specs.Verdict.{◌>>=◌, counted_file, counted_from, end_at, file_limit, if_viewed, total_limit}
-use Rattle.bloaty_engine.specs.Views.{Answers, as_view, file_view, of_opened, view_within, viewed, views_of}
+use Rattle.file_profile.specs.Reasons.{of_file_alone, refused_as}
+use Rattle.file_profile.specs.Views.{Answers, alone, if_opened, opened_viewed, viewed}
+use Rattle.file_profile.proofs.AloneLemmas.{ok-before}
+use Rattle.file_profile.proofs.LawLemmas.{of-viewed}
 use Rattle.bloaty_engine.proofs.ReadLemmas.{take-next, take-none}
 
 -- One file.
@@ -72,26 +72,16 @@ viewed-ok i (Ok g) f e = cc
 viewed-ok i (Err a) f e = cc
 
 -- the length of a view is that of the file
-view-choice : (b : Bool) (v f : FileView) → cond b (Err profile.MappedTooLarge) (Ok v) ≡ Ok f → f ≡ v
-view-choice true v f e = cc
-view-choice false v f e = cc
-
-within-same : (mapped : ℕ) (r : Result FileView ProfileAnswer) (f : FileView) → view_within mapped r ≡ Ok f → r ≡ Ok f
-within-same mapped (Ok g) f e = ap Ok (sym (view-choice (nat_lt (2 ^ 63 - 1) (mapped + mapped_count g.loads)) g f e))
-within-same mapped (Err a) f e = cc
-
-as-view-len : (binary : Binary) (r : Result (List SourceView) ProfileAnswer) (f : FileView) → as_view binary r ≡ Ok f → f.len ≡ length (bytes_of binary)
-as-view-len binary (Ok views) f e = let same : f ≡ view_of binary views = cc in ap (λ (g : FileView). g.len) same
-as-view-len binary (Err a) f e = cc
-
-opened-len : (limit : ℕ) (name file : List ℕ) (sources : List Chosen) (o : Result Binary BadFile) (f : FileView) → opened file ≡ o
-    → of_opened o (λ binary. as_view binary (views_of limit name binary sources)) ≡ Ok f → f.len ≡ length file
-opened-len limit name file sources (Ok binary) f is e = as-view-len binary (views_of limit name binary sources) f e ∙ ap length (opened-bytes file binary is)
-opened-len limit name file sources (Err bad) f is e = cc e
+alone-len : (mapped limit : ℕ) (name file : List ℕ) (sources : List Chosen) (o : Result Binary BadFile) (f : FileView) → opened file ≡ o
+    → if_opened o (λ binary. refused_as of_file_alone (opened_viewed mapped limit (alone name binary) sources)) ≡ Ok f → f.len ≡ length file
+alone-len mapped limit name file sources (Ok binary) f is e =
+    let viewed = ok-before of_file_alone (opened_viewed mapped limit (alone name binary) sources) f e in
+    (of-viewed mapped limit (alone name binary) sources f viewed).len ∙ ap length (opened-bytes file binary is)
+alone-len mapped limit name file sources (Err bad) f is e = cc e
 
 pub view-len : (mapped limit : ℕ) (name file : List ℕ) (sources : List Chosen) (f : FileView) → viewed mapped limit name file sources ≡ Ok f → f.len ≡ length file
 unfolding viewed
-view-len mapped limit name file sources f e = opened-len limit name file sources (opened file) f refl (within-same mapped (file_view limit name file sources) f e)
+view-len mapped limit name file sources f e = alone-len mapped limit name file sources (opened file) f refl e
 
 -- a sum over one file more
 pub sum-more : (size : FileView → ℕ) (files : List FileView) (f : FileView) → sum_by size (files ++ f ∷ []) ≡ sum_by size files + size f
@@ -310,6 +300,8 @@ module _ (held : Option Pairs) (limits : Limits) (sources : List Chosen) (filter
   read-ends k lengths limit t name b (Bad i fault offset) to more at lt le is e = absurd e
   read-ends k lengths limit t name b (TooManyClaims i) to more at lt le is e = absurd e
   read-ends k lengths limit t name b MappedTooLarge to more at lt le is e = absurd e
+  read-ends k lengths limit t name b NoMatch to more at lt le is e = absurd e
+  read-ends k lengths limit t name b PlaceOutside to more at lt le is e = absurd e
   read-ends k lengths limit t name b WriteFailed to more at lt le is e = absurd e
 
   -- how a run ends at a file that is read
@@ -336,6 +328,8 @@ module _ (held : Option Pairs) (limits : Limits) (sources : List Chosen) (filter
       by-end (Bad i fault offset) e = (more.bytes, more.are, stopped (Bad i fault offset) e)
       by-end (TooManyClaims i) e = (more.bytes, more.are, stopped (TooManyClaims i) e)
       by-end MappedTooLarge e = (more.bytes, more.are, stopped MappedTooLarge e)
+      by-end NoMatch e = (more.bytes, more.are, stopped NoMatch e)
+      by-end PlaceOutside e = (more.bytes, more.are, stopped PlaceOutside e)
       by-end WriteFailed e = (more.bytes, more.are, stopped WriteFailed e)
 
   -- all files
@@ -392,6 +386,8 @@ made-ends limits sources filter name file end e = by-end end e
     by-end (Bad i fault offset) e = stopped (Bad i fault offset) e
     by-end (TooManyClaims i) e = stopped (TooManyClaims i) e
     by-end MappedTooLarge e = stopped MappedTooLarge e
+    by-end NoMatch e = stopped NoMatch e
+    by-end PlaceOutside e = stopped PlaceOutside e
     by-end WriteFailed e = stopped WriteFailed e
 
 -- what may still be read is within the limit of all files

@@ -1,12 +1,9 @@
-pub mod CountLemmas
 pub mod FileLemmas
 pub mod HeldLemmas
-pub mod MapLemmas
-pub mod NumberLemmas
-pub mod PlanLemmas
-pub mod ProfileLemmas
+pub mod KindLemmas
+pub mod PairLemmas
+pub mod PlaceLemmas
 pub mod ReadLemmas
 pub mod RunLemmas
 pub mod SidesLemmas
-pub mod SpellLemmas
 pub mod TakenLemmas

@@ -1,8 +1,13 @@
 -- How a run ends, by what its steps answer.
-use Rattle.std.proofs.Common.{◌≡◌, ℕ, zero, suc, ◌+◌, Bool, true, false, cond, ◌||◌, nat_lt, List, [], ◌∷◌, length, Option, None, Some, Result, Ok, Err, refl, sym, ap, ◌∙◌, arith}
+use Rattle.std.proofs.Common.{◌≡◌, ℕ, zero, suc, ◌+◌, Bool, true, false, cond, ◌||◌, nat_lt, List, [], ◌∷◌, ◌++◌, length, Option, None, Some, Result, Ok, Err, refl, sym, ap, ◌∙◌, arith}
 use Rattle.std.specs.Prelude.{⊤, IfSome, IsOk, slice_get, unwrap_or, Vec}
 use Rattle.std.specs.declared.alloc.Global.{Global}
+use Rattle.size_core.specs.declared.fault.BadFile.{BadFile}
 use Rattle.size_core.specs.declared.limits.Limits.{Limits}
+use Rattle.size_core.specs.declared.place.Place.{Place}
+use Rattle.data_sources.specs.declared.binary.Binary.{Binary}
+use Rattle.data_sources.specs.Opened.{opened}
+use Rattle.place_explain.specs.declared.named.PlaceSource.{PlaceSource}
 use Rattle.size_model.specs.declared.view.FileView.{FileView}
 use Rattle.size_model.specs.Loads.{mapped_count}
 use Rattle.outside.specs.Held.{Pairs}
@@ -13,21 +18,27 @@ use Rattle.elf_synth.specs.Made.{made}
 use Rattle.size_options.specs.declared.chosen.Options.{Options}
 use Rattle.size_options.specs.declared.answer.UsageKind.{UsageKind}
 use Rattle.size_options.specs.declared.answer.UsageKind.TheVariants as usage
-use Rattle.bloaty_engine.specs.declared.answer.ProfileAnswer.{ProfileAnswer}
-use Rattle.bloaty_engine.specs.declared.answer.ProfileAnswer.TheVariants as profile
+use Rattle.file_profile.specs.declared.answer.ProfileAnswer.{ProfileAnswer}
+use Rattle.file_profile.specs.declared.answer.ProfileAnswer.TheVariants as profile
 use Rattle.bloaty_engine.specs.declared.outcome.Outcome.{Outcome}
-use Rattle.bloaty_engine.specs.declared.outcome.Outcome.TheVariants.{Done, Usage, ReadFailed, TooLong, Config, UnknownSource, PatternSyntax, PatternTooBig, Bad, TooManyClaims, MappedTooLarge, WriteFailed, NoMemory}
+use Rattle.bloaty_engine.specs.declared.outcome.Outcome.TheVariants.{Done, Usage, ReadFailed, TooLong, Config, UnknownSource, PatternSyntax, PatternTooBig, Bad, TooManyClaims, MappedTooLarge, NoMatch, PlaceOutside, WriteFailed, NoMemory}
 use Rattle.size_options.specs.Answers.{IsUsageOf, are_taken}
 use Rattle.size_options.specs.Asked.{asked as options_of}
 use Rattle.bloaty_engine.specs.Answers.{IsFinished, EndsReport, IsAnswer, IsAsked, IsReached, IsRun}
-use Rattle.bloaty_engine.specs.Named.{AreContents, AreFiles, AreHeld, Contents, IsText, file_name, file_names, name_at}
-use Rattle.bloaty_engine.specs.Patterns.{ArePatterns}
-use Rattle.bloaty_engine.specs.Plans.{EndsPlan, IsPlan, Plans}
-use Rattle.bloaty_engine.specs.Reports.{EndsCounting}
-use Rattle.bloaty_engine.specs.Sources.{Chosen, chosen_before, chosen_from, chosen_named, chosen_sources}
-use Rattle.bloaty_engine.specs.Steps.{EndsConfig}
-use Rattle.bloaty_engine.specs.Verdict.{◌>>=◌, Request, Sides, asked, config_limit, counted_file, counted_from, counted_sides, customs_in, end_at, file_limit, if_config, if_unknown, if_viewed, lengths_of, total_limit, verdict}
-use Rattle.bloaty_engine.specs.Views.{viewed}
+use Rattle.bloaty_engine.specs.Named.{AreContents, AreFiles, AreHeld, Contents, IsText, debug_names, file_name, file_names, name_at, other_names}
+use Rattle.file_profile.specs.Patterns.{ArePatterns}
+use Rattle.file_profile.specs.Plans.{IsPlan, Plans}
+use Rattle.bloaty_engine.specs.Reports.{EndsFinding}
+use Rattle.file_profile.specs.Sources.{Chosen, chosen_before, chosen_from, chosen_named, chosen_sources}
+use Rattle.bloaty_engine.specs.Steps.{EndsConfig, EndsPlan}
+use Rattle.bloaty_engine.specs.Verdict.{◌>>=◌, Finding, Request, Sides, as_counted, as_explained, asked, config_limit, counted_file, counted_from, counted_pair, counted_sides, customs_in, end_at, end_of_pair, end_of_place, explained_file, file_limit, first_name, found, found_by, if_config, if_explained, if_paired, if_sound, if_unknown, if_viewed, lengths_of, opened_first, total_limit, verdict}
+use Rattle.file_profile.specs.declared.answer.PairAnswer.{PairAnswer}
+use Rattle.file_profile.specs.declared.answer.PairAnswer.TheVariants as pair
+use Rattle.file_profile.specs.declared.answer.PlaceAnswer.{PlaceAnswer}
+use Rattle.file_profile.specs.declared.answer.PlaceAnswer.TheVariants as explaining
+use Rattle.file_profile.specs.PairViews.{pair_viewed}
+use Rattle.file_profile.specs.Places.{explained_place, named_sources}
+use Rattle.file_profile.specs.Views.{viewed}
 use Rattle.bloaty_engine.proofs.FileLemmas.{some-held}
 use Rattle.bloaty_engine.proofs.HeldLemmas.{held-some}
 use Rattle.bloaty_engine.proofs.ReadLemmas.{get-behind, get-front}
@@ -65,13 +76,13 @@ asked-known limits o contents customs sources e k =
 verdict-asked : (limits : Limits) (o : Options) (contents : Contents) (end : Outcome) → asked limits (Ok o) contents ≡ Err end → verdict limits (Ok o) contents ≡ Err end
 unfolding verdict
 verdict-asked limits o contents end e =
-    ap (λ r. r >>= λ q. counted_sides limits q.sources contents.files (file_names q.options) q.options.bases >>= λ sides. Ok (record { request = q; sides = sides })) e
+    ap (λ r. r >>= λ q. found limits q.sources contents.files q.options >>= λ finding. Ok (record { request = q; finding = finding })) e
 
 verdict-files : (limits : Limits) (o : Options) (contents : Contents) (r : Request) → asked limits (Ok o) contents ≡ Ok r
-    → verdict limits (Ok o) contents ≡ (counted_sides limits r.sources contents.files (file_names r.options) r.options.bases >>= λ sides. Ok (record { request = r; sides = sides }))
+    → verdict limits (Ok o) contents ≡ (found limits r.sources contents.files r.options >>= λ finding. Ok (record { request = r; finding = finding }))
 unfolding verdict
 verdict-files limits o contents r e =
-    ap (λ p. p >>= λ q. counted_sides limits q.sources contents.files (file_names q.options) q.options.bases >>= λ sides. Ok (record { request = q; sides = sides })) e
+    ap (λ p. p >>= λ q. found limits q.sources contents.files q.options >>= λ finding. Ok (record { request = q; finding = finding })) e
 
 -- Which ends a step may have.
 
@@ -105,6 +116,8 @@ IsFileEnd (TooLong i) = ⊤
 IsFileEnd (Bad i fault offset) = ⊤
 IsFileEnd (TooManyClaims i) = ⊤
 IsFileEnd MappedTooLarge = ⊤
+IsFileEnd NoMatch = ⊤
+IsFileEnd PlaceOutside = ⊤
 IsFileEnd NoMemory = ⊤
 IsFileEnd end = ⊥
 
@@ -160,6 +173,80 @@ sides-error limits sources files names bases end e = by-files (counted_from limi
     by-files (Ok fs) at = by-bases fs (counted_from limits sources files (length names + 1) (lengths_of fs) 0 bases) refl (rw at at e)
     by-files (Err x) at = file-end end x (counted-error limits sources files 1 0 0 names x at) (err-same _ _ (rw at at e))
 
+pair-is : (why : PairAnswer) → IsFileEnd (end_of_pair why)
+unfolding IsFileEnd
+pair-is (pair.Bad i bad) = tt
+pair-is pair.NoMatch = tt
+pair-is pair.TooManyClaims = tt
+pair-is pair.MappedTooLarge = tt
+pair-is pair.NoMemory = tt
+
+paired-error : (decided : Result FileView PairAnswer) (end : Outcome) → if_paired decided ≡ Err end → IsFileEnd end
+paired-error (Ok f) end e = cc
+paired-error (Err why) end e = file-end end (end_of_pair why) (pair-is why) (err-same _ _ e)
+
+place-is : (why : PlaceAnswer) → IsFileEnd (end_of_place why)
+unfolding IsFileEnd
+place-is (explaining.Bad bad) = tt
+place-is explaining.PlaceOutside = tt
+place-is explaining.TooManyClaims = tt
+place-is explaining.MappedTooLarge = tt
+place-is explaining.NoMemory = tt
+
+explained-error : (decided : Result (List PlaceSource) PlaceAnswer) (end : Outcome) → if_explained decided ≡ Err end → IsFileEnd end
+explained-error (Ok said) end e = cc
+explained-error (Err why) end e = file-end end (end_of_place why) (place-is why) (err-same _ _ e)
+
+-- a file over a limit is too long, and another one ends the run as it is decided
+short-error : {X : Type 0} (b : Bool) (i : ℕ) (next : Result X Outcome) (end : Outcome) → ((x : Outcome) → next ≡ Err x → IsFileEnd x) → cond b (Err (TooLong i)) next ≡ Err end → IsFileEnd end
+unfolding IsFileEnd
+short-error true i next end decided e = file-end end (TooLong i) tt (err-same _ _ e)
+short-error false i next end decided e = decided end e
+
+sound-error : (o : Result Binary BadFile) (end : Outcome) → if_sound o ≡ Err end → IsFileEnd end
+unfolding IsFileEnd
+sound-error (Ok binary) end e = cc
+sound-error (Err bad) end e = file-end end (Bad 1 bad.fault bad.offset) tt (err-same _ _ e)
+
+first-error : (limits : Limits) (file : List ℕ) (end : Outcome) → opened_first limits file ≡ Err end → IsFileEnd end
+unfolding opened_first
+first-error limits file end e =
+    short-error (nat_lt (file_limit limits) (length file) || nat_lt (total_limit limits) (0 + length file)) 1 (if_sound (opened file)) end (sound-error (opened file)) e
+
+pair-error : (limits : Limits) (sources : List Chosen) (name file debug : List ℕ) (end : Outcome) → counted_pair limits sources name file debug ≡ Err end → IsFileEnd end
+unfolding counted_pair
+pair-error limits sources name file debug end e = by-first (opened_first limits file) refl e
+  where
+    by-first : (r : Result Binary Outcome) → opened_first limits file ≡ r
+        → (r >>= λ binary. cond (nat_lt (file_limit limits) (length debug) || nat_lt (total_limit limits) (length file + length debug)) (Err (TooLong 2)) (if_paired (pair_viewed 0 limits.claims name file debug sources))) ≡ Err end → IsFileEnd end
+    by-first (Ok binary) at wrong =
+        short-error (nat_lt (file_limit limits) (length debug) || nat_lt (total_limit limits) (length file + length debug)) 2 (if_paired (pair_viewed 0 limits.claims name file debug sources)) end
+        (paired-error (pair_viewed 0 limits.claims name file debug sources)) wrong
+    by-first (Err x) at wrong = file-end end x (first-error limits file x at) (err-same _ _ wrong)
+
+place-error : (limits : Limits) (sources : List Chosen) (o : Options) (place : Place) (name file : List ℕ) (end : Outcome) → explained_file limits sources o place name file ≡ Err end → IsFileEnd end
+unfolding explained_file
+place-error limits sources o place name file end e =
+    short-error (nat_lt (file_limit limits) (length file) || nat_lt (total_limit limits) (0 + length file)) 1 _ end
+    (explained-error (explained_place limits.claims o.limit place name file (named_sources o.sources sources))) e
+
+counted-err : (r : Result Sides Outcome) (end : Outcome) → as_counted r ≡ Err end → r ≡ Err end
+counted-err (Ok s) end e = cc
+counted-err (Err x) end e = cc
+
+explained-err : (place : Place) (r : Result (List PlaceSource) Outcome) (end : Outcome) → as_explained place r ≡ Err end → r ≡ Err end
+explained-err place (Ok s) end e = cc
+explained-err place (Err x) end e = cc
+
+found-by-error : (place : Option Place) (debug : Option (List ℕ)) (limits : Limits) (sources : List Chosen) (files : ℕ → List ℕ) (o : Options) (end : Outcome) → found_by place debug limits sources files o ≡ Err end → IsFileEnd end
+found-by-error None None limits sources files o end e = sides-error limits sources files (file_names o) o.bases end (counted-err _ end e)
+found-by-error None (Some debug) limits sources files o end e = pair-error limits sources (first_name o) (files 1) (files 2) end (counted-err _ end e)
+found-by-error (Some place) debug limits sources files o end e = place-error limits sources o place (first_name o) (files 1) end (explained-err place _ end e)
+
+found-error : (limits : Limits) (sources : List Chosen) (files : ℕ → List ℕ) (o : Options) (end : Outcome) → found limits sources files o ≡ Err end → IsFileEnd end
+unfolding found
+found-error limits sources files o end e = found-by-error o.place o.debug limits sources files o end e
+
 -- each name has its data source
 chosen-count : (customs : List CustomSource) (i : ℕ) (names : List (List ℕ)) (sources : List Chosen) → chosen_from customs i names ≡ Ok sources → length sources ≡ length names
 chosen-count customs i [] sources e = let none : [] ≡ sources = ok-same [] sources e in rw (← none) refl
@@ -182,9 +269,9 @@ pub planned-count : (customs : List CustomSource) (names : List (List ℕ)) (sou
 planned-count customs names sources e = chosen-count customs 1 names sources e
 
 -- a file never ends a run by a pattern
-pub never-big : (limits : Limits) (sources : List Chosen) (files : ℕ → List ℕ) (o : Options) (i : ℕ) → EndsCounting limits sources files o (Err (PatternTooBig i)) → ⊥
+pub never-big : (limits : Limits) (sources : List Chosen) (files : ℕ → List ℕ) (o : Options) (i : ℕ) → EndsFinding limits sources files o (Err (PatternTooBig i)) → ⊥
 unfolding IsFileEnd
-never-big limits sources files o i e = sides-error limits sources files (file_names o) o.bases (PatternTooBig i) e
+never-big limits sources files o i e = found-error limits sources files o (PatternTooBig i) e
 
 -- What the steps decide of the run.
 
@@ -193,12 +280,12 @@ some-files : (held : Option Pairs) (synth : Option ℕ) (names : List (List ℕ)
 some-files held None names = some-held held 1 names
 some-files held (Some n) names = (λ i. made n, refl)
 
--- bytes of files and base files, where they aren't read
-pub some-bytes : (held : Option Pairs) (o : Options) → (files : ℕ → List ℕ) × AreFiles held o.synth o.files files × AreHeld held (length (file_names o) + 1) o.bases files
-some-bytes held o =
+-- bytes of files and of others behind them, where they aren't read
+pub some-bytes : (held : Option Pairs) (o : Options) (others : List (List ℕ)) → (files : ℕ → List ℕ) × AreFiles held o.synth o.files files × AreHeld held (length (file_names o) + 1) others files
+some-bytes held o others =
     let front = some-files held o.synth o.files in
-    let behind = some-held held (length (file_names o) + 1) o.bases in
-    (beyond (length (file_names o)) front.0 behind.0, front-files held o.synth o.files front.0 behind.0 front.1, behind-held held (length (file_names o)) o.bases front.0 behind.0 behind.1)
+    let behind = some-held held (length (file_names o) + 1) others in
+    (beyond (length (file_names o)) front.0 behind.0, front-files held o.synth o.files front.0 behind.0 front.1, behind-held held (length (file_names o)) others front.0 behind.0 behind.1)
 
 -- a run ends so over some bytes of its files
 abbrev pub RunsTo : Option Pairs → Limits → Options → List ℕ → Result (Vec ℕ Global) Outcome → Type 0
@@ -214,11 +301,11 @@ no-end false p q = cc
 module _ (held : Option Pairs) (limits : Limits) (o : Options) (last text : List ℕ) (is-text : IsText held o.config text) where
   -- over bytes of files that aren't read
   unread : Contents
-  unread = contents-of text (some-bytes held o).0
+  unread = contents-of text (some-bytes held o (other_names o)).0
 
   unread-are : AreContents held o unread
   unfolding contents-of unread
-  unread-are = record { config = is-text; files = (some-bytes held o).1; bases = (some-bytes held o).2 }
+  unread-are = record { config = is-text; files = (some-bytes held o (other_names o)).1; others = (some-bytes held o (other_names o)).2 }
 
   from-verdict : (end : Outcome) → customs_in limits o.config text ≡ Err end → verdict limits (Ok o) unread ≡ Err end
   unfolding contents-of unread
@@ -240,6 +327,8 @@ module _ (held : Option Pairs) (limits : Limits) (o : Options) (last text : List
   ends-config (Bad i fault offset) e = absurd (customs-error limits o.config text (Bad i fault offset) e)
   ends-config (TooManyClaims i) e = absurd (customs-error limits o.config text (TooManyClaims i) e)
   ends-config MappedTooLarge e = absurd (customs-error limits o.config text MappedTooLarge e)
+  ends-config NoMatch e = absurd (customs-error limits o.config text NoMatch e)
+  ends-config PlaceOutside e = absurd (customs-error limits o.config text PlaceOutside e)
   ends-config WriteFailed e = absurd (customs-error limits o.config text WriteFailed e)
 
   module _ (customs : List CustomSource) (configured : customs_in limits o.config text ≡ Ok customs) where
@@ -266,16 +355,18 @@ module _ (held : Option Pairs) (limits : Limits) (o : Options) (last text : List
     ends-plan (Bad i fault offset) e = absurd e
     ends-plan (TooManyClaims i) e = absurd e
     ends-plan MappedTooLarge e = absurd e
+    ends-plan NoMatch e = absurd e
+    ends-plan PlaceOutside e = absurd e
     ends-plan WriteFailed e = absurd e
 
     module _ (p : Plans) (planned : IsPlan o.sources o.filter customs p) (files : ℕ → List ℕ) (are : AreFiles held o.synth o.files files)
-        (bases-are : AreHeld held (length (file_names o) + 1) o.bases files) where
+        (others-are : AreHeld held (length (file_names o) + 1) (other_names o) files) where
       read : Contents
       read = contents-of text files
 
       read-are : AreContents held o read
       unfolding contents-of read
-      read-are = record { config = is-text; files = are; bases = bases-are }
+      read-are = record { config = is-text; files = are; others = others-are }
 
       asked-read : asked limits (Ok o) read ≡ Ok (request-of o customs p.sources)
       unfolding contents-of read
@@ -285,40 +376,42 @@ module _ (held : Option Pairs) (limits : Limits) (o : Options) (last text : List
       unfolding request-of
       patterns-read = (request-of o customs p.sources, asked-read, planned.patterns)
 
-      counted-read : Result Sides Outcome
-      counted-read = counted_sides limits p.sources files (file_names o) o.bases
+      found-read : Result Finding Outcome
+      found-read = found limits p.sources files o
 
-      verdict-read : (r : Result Sides Outcome) → counted-read ≡ r → verdict limits (Ok o) read ≡ (r >>= λ sides. Ok (record { request = request-of o customs p.sources; sides = sides }))
-      unfolding contents-of read request-of counted-read
-      verdict-read r e = verdict-files limits o read (request-of o customs p.sources) asked-read ∙ ap (λ q. q >>= λ sides. Ok (record { request = request-of o customs p.sources; sides = sides })) e
+      verdict-read : (r : Result Finding Outcome) → found-read ≡ r → verdict limits (Ok o) read ≡ (r >>= λ finding. Ok (record { request = request-of o customs p.sources; finding = finding }))
+      unfolding contents-of read request-of found-read
+      verdict-read r e = verdict-files limits o read (request-of o customs p.sources) asked-read ∙ ap (λ q. q >>= λ finding. Ok (record { request = request-of o customs p.sources; finding = finding })) e
 
-      verdict-end : (end : Outcome) → counted-read ≡ Err end → verdict limits (Ok o) read ≡ Err end
+      verdict-end : (end : Outcome) → found-read ≡ Err end → verdict limits (Ok o) read ≡ Err end
       verdict-end end e = verdict-read (Err end) e
 
-      not-end : (end : Outcome) → counted-read ≡ Err end → IsFileEnd end
-      unfolding counted-read
-      not-end end e = sides-error limits p.sources files (file_names o) o.bases end e
+      not-end : (end : Outcome) → found-read ≡ Err end → IsFileEnd end
+      unfolding found-read
+      not-end end e = found-error limits p.sources files o end e
 
       -- how the run ends at its files, or the report that it has
-      pub ends-counting : (r : Result (Vec ℕ Global) Outcome) → EndsCounting limits p.sources files o r → RunsTo held limits o last r
-      unfolding IsFileEnd counted-read contents-of read request-of
-      ends-counting (Ok out) e = (read, read-are, ((record { request = request-of o customs p.sources; sides = e.0 }, out.items, verdict-read (Ok e.0) e.1, e.2, refl), patterns-read))
-      ends-counting (Err (ReadFailed i)) e =
+      pub ends-finding : (r : Result (Vec ℕ Global) Outcome) → EndsFinding limits p.sources files o r → RunsTo held limits o last r
+      unfolding IsFileEnd found-read contents-of read request-of
+      ends-finding (Ok out) e = (read, read-are, ((record { request = request-of o customs p.sources; finding = e.0 }, out.items, verdict-read (Ok e.0) e.1, e.2, refl), patterns-read))
+      ends-finding (Err (ReadFailed i)) e =
           let i-is : i ≡ suc e.0 = omega (arith, e.1) in
           let reached : IsReached limits (Ok o) read (suc e.0) = (request-of o customs p.sources, asked-read, (e.2, e.3, e.4)) in
           (read, read-are, (rw i-is reached, (λ q. patterns-read), refl))
-      ends-counting (Err NoMemory) e = (read, read-are, (tt, (λ q. cc), refl))
-      ends-counting (Err (TooLong i)) e = (read, read-are, (verdict-end (TooLong i) e, (λ q. patterns-read), refl))
-      ends-counting (Err (Bad i fault offset)) e = (read, read-are, (verdict-end (Bad i fault offset) e, (λ q. patterns-read), refl))
-      ends-counting (Err (TooManyClaims i)) e = (read, read-are, (verdict-end (TooManyClaims i) e, (λ q. patterns-read), refl))
-      ends-counting (Err MappedTooLarge) e = (read, read-are, (verdict-end MappedTooLarge e, (λ q. patterns-read), refl))
-      ends-counting (Err Done) e = absurd (not-end Done e)
-      ends-counting (Err (Usage kind)) e = absurd (not-end (Usage kind) e)
-      ends-counting (Err (Config kind offset)) e = absurd (not-end (Config kind offset) e)
-      ends-counting (Err (UnknownSource i)) e = absurd (not-end (UnknownSource i) e)
-      ends-counting (Err (PatternSyntax i)) e = absurd (not-end (PatternSyntax i) e)
-      ends-counting (Err (PatternTooBig i)) e = absurd (not-end (PatternTooBig i) e)
-      ends-counting (Err WriteFailed) e = absurd (not-end WriteFailed e)
+      ends-finding (Err NoMemory) e = (read, read-are, (tt, (λ q. cc), refl))
+      ends-finding (Err (TooLong i)) e = (read, read-are, (verdict-end (TooLong i) e, (λ q. patterns-read), refl))
+      ends-finding (Err (Bad i fault offset)) e = (read, read-are, (verdict-end (Bad i fault offset) e, (λ q. patterns-read), refl))
+      ends-finding (Err (TooManyClaims i)) e = (read, read-are, (verdict-end (TooManyClaims i) e, (λ q. patterns-read), refl))
+      ends-finding (Err MappedTooLarge) e = (read, read-are, (verdict-end MappedTooLarge e, (λ q. patterns-read), refl))
+      ends-finding (Err NoMatch) e = (read, read-are, (verdict-end NoMatch e, (λ q. patterns-read), refl))
+      ends-finding (Err PlaceOutside) e = (read, read-are, (verdict-end PlaceOutside e, (λ q. patterns-read), refl))
+      ends-finding (Err Done) e = absurd (not-end Done e)
+      ends-finding (Err (Usage kind)) e = absurd (not-end (Usage kind) e)
+      ends-finding (Err (Config kind offset)) e = absurd (not-end (Config kind offset) e)
+      ends-finding (Err (UnknownSource i)) e = absurd (not-end (UnknownSource i) e)
+      ends-finding (Err (PatternSyntax i)) e = absurd (not-end (PatternSyntax i) e)
+      ends-finding (Err (PatternTooBig i)) e = absurd (not-end (PatternTooBig i) e)
+      ends-finding (Err WriteFailed) e = absurd (not-end WriteFailed e)
 
 -- What is told of the words.
 
@@ -331,14 +424,14 @@ named-file o i (Some n) named = sym (ap (λ name. unwrap_or name []) named)
 some-contents : (held : Option Pairs) (given : Result Options UsageKind) → (contents : Contents) × ((o : Options) → given ≡ Ok o → AreContents held o contents)
 unfolding contents-of
 some-contents held (Err kind) = (contents-of [] (λ i. []), λ o e. cc)
-some-contents held (Ok o) = (contents-of (some-text held o.config).0 (some-bytes held o).0, λ p e. of-options held o p (ok-same o p e))
+some-contents held (Ok o) = (contents-of (some-text held o.config).0 (some-bytes held o (other_names o)).0, λ p e. of-options held o p (ok-same o p e))
   where
     some-text : (held : Option Pairs) (name : Option (List ℕ)) → (text : List ℕ) × IsText held name text
     some-text held None = ([], tt)
     some-text held (Some name) = held-some held name
 
-    of-options : (held : Option Pairs) (o p : Options) → o ≡ p → AreContents held p (contents-of (some-text held o.config).0 (some-bytes held o).0)
-    of-options held o p same = rw (← same) (record { config = (some-text held o.config).1; files = (some-bytes held o).1; bases = (some-bytes held o).2 })
+    of-options : (held : Option Pairs) (o p : Options) → o ≡ p → AreContents held p (contents-of (some-text held o.config).0 (some-bytes held o (other_names o)).0)
+    of-options held o p same = rw (← same) (record { config = (some-text held o.config).1; files = (some-bytes held o (other_names o)).1; others = (some-bytes held o (other_names o)).2 })
 
 -- words that are misused end the run so
 usage-verdict : (limits : Limits) (given : Result Options UsageKind) (contents : Contents) (kind : UsageKind) → given ≡ Err kind → verdict limits given contents ≡ Err (Usage kind)
@@ -355,6 +448,10 @@ usage-answer limits words contents last usage.BadSourceList is = usage-verdict l
 usage-answer limits words contents last usage.NoFile is = usage-verdict limits (options_of words) contents usage.NoFile (is.first (λ e. cc))
 usage-answer limits words contents last usage.SynthWithFile is = usage-verdict limits (options_of words) contents usage.SynthWithFile (is.first (λ e. cc))
 usage-answer limits words contents last usage.NoBase is = usage-verdict limits (options_of words) contents usage.NoBase (is.first (λ e. cc))
+usage-answer limits words contents last usage.DebugFile is = usage-verdict limits (options_of words) contents usage.DebugFile (is.first (λ e. cc))
+usage-answer limits words contents last usage.BadPlace is = usage-verdict limits (options_of words) contents usage.BadPlace (is.first (λ e. cc))
+usage-answer limits words contents last usage.TwoPlaces is = usage-verdict limits (options_of words) contents usage.TwoPlaces (is.first (λ e. cc))
+usage-answer limits words contents last usage.PlaceFile is = usage-verdict limits (options_of words) contents usage.PlaceFile (is.first (λ e. cc))
 
 pub usage-run : (held : Option Pairs) (limits : Limits) (words : List (List ℕ)) (last : List ℕ) (out : Option (List ℕ)) (kind : UsageKind) → IsUsageOf words kind
     → (contents : Contents) × IsRun held limits (options_of words) last out out (Usage kind) contents
@@ -371,13 +468,14 @@ no-memory-run held limits given last out =
 pub none-name : (o : Options) (k : ℕ) (name : List ℕ) → o.synth ≡ None → slice_get o.files k ≡ Some name → name_at o (k + 1) ≡ Some name
 none-name o k name e at =
     let p : k + 1 ≡ suc k = omega arith in
-    rw (p, e) (get-front o.files o.bases k name at)
+    rw (p, e) (get-front o.files (other_names o) k name at)
 
 -- behind them stand those of the base files
-pub base-name : (o : Options) (k : ℕ) (name : List ℕ) → slice_get o.bases k ≡ Some name → name_at o (length (file_names o) + k + 1) ≡ Some name
-base-name o k name at =
+pub base-name : (o : Options) (k : ℕ) (name : List ℕ) → o.debug ≡ None → slice_get o.bases k ≡ Some name → name_at o (length (file_names o) + k + 1) ≡ Some name
+base-name o k name none at =
     let p : length (file_names o) + k + 1 ≡ suc (length (file_names o) + k) = omega arith in
-    rw p (get-behind (file_names o) o.bases k ∙ at)
+    let same : other_names o ≡ o.bases = ap (λ d. debug_names d ++ o.bases) none in
+    rw (p, same) (get-behind (file_names o) o.bases k ∙ at)
 
 -- Runs that nothing interrupts.
 
@@ -402,6 +500,8 @@ module _ (held : Option Pairs) (limits : Limits) (given : Result Options UsageKi
   complete-run (Bad i fault offset) run taken failed refused wrote ok a b c = absurd (no-error (verdict limits given contents) (Bad i fault offset) ok run.is)
   complete-run (TooManyClaims i) run taken failed refused wrote ok a b c = absurd (no-error (verdict limits given contents) (TooManyClaims i) ok run.is)
   complete-run MappedTooLarge run taken failed refused wrote ok a b c = absurd (no-error (verdict limits given contents) MappedTooLarge ok run.is)
+  complete-run NoMatch run taken failed refused wrote ok a b c = absurd (no-error (verdict limits given contents) NoMatch ok run.is)
+  complete-run PlaceOutside run taken failed refused wrote ok a b c = absurd (no-error (verdict limits given contents) PlaceOutside ok run.is)
 
 -- words that are misused have no report, or aren't taken
 untaken : (b : Bool) → b ≡ false → b ≡ true → ⊥
@@ -421,3 +521,7 @@ usage-complete limits words contents usage.BadSourceList is ok taken = misused-k
 usage-complete limits words contents usage.NoFile is ok taken = misused-kind limits words contents usage.NoFile is (λ e. cc) ok
 usage-complete limits words contents usage.SynthWithFile is ok taken = misused-kind limits words contents usage.SynthWithFile is (λ e. cc) ok
 usage-complete limits words contents usage.NoBase is ok taken = misused-kind limits words contents usage.NoBase is (λ e. cc) ok
+usage-complete limits words contents usage.DebugFile is ok taken = misused-kind limits words contents usage.DebugFile is (λ e. cc) ok
+usage-complete limits words contents usage.BadPlace is ok taken = misused-kind limits words contents usage.BadPlace is (λ e. cc) ok
+usage-complete limits words contents usage.TwoPlaces is ok taken = misused-kind limits words contents usage.TwoPlaces is (λ e. cc) ok
+usage-complete limits words contents usage.PlaceFile is ok taken = misused-kind limits words contents usage.PlaceFile is (λ e. cc) ok

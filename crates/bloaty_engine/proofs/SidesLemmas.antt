@@ -13,20 +13,20 @@ use Rattle.report_rows.specs.declared.row.RowOptions.{RowOptions}
 use Rattle.report_rows.specs.Rows.{row_tree}
 use Rattle.size_options.specs.declared.chosen.Options.{Options}
 use Rattle.bloaty_engine.specs.declared.outcome.Outcome.{Outcome}
-use Rattle.bloaty_engine.specs.declared.outcome.Outcome.TheVariants.{Done, Usage, ReadFailed, TooLong, Config, UnknownSource, PatternSyntax, PatternTooBig, Bad, TooManyClaims, MappedTooLarge, WriteFailed, NoMemory}
-use Rattle.bloaty_engine.specs.Counts.{filter_test}
+use Rattle.bloaty_engine.specs.declared.outcome.Outcome.TheVariants.{Done, Usage, ReadFailed, TooLong, Config, UnknownSource, PatternSyntax, PatternTooBig, Bad, TooManyClaims, MappedTooLarge, NoMatch, PlaceOutside, WriteFailed, NoMemory}
+use Rattle.file_profile.specs.Counts.{filter_test}
 use Rattle.bloaty_engine.specs.GrowthReport.{EndsGrowth, IsGrowthReport, PrintsGrowth}
 use Rattle.bloaty_engine.specs.Named.{AreFiles, AreHeld, file_names, names_of}
 use Rattle.bloaty_engine.specs.Report.{AreSizes, IsSizeReport, depth_of, printed, report_tree, row_options}
 use Rattle.bloaty_engine.specs.Reports.{EndsCounting, IsReportFor, IsUnmade}
-use Rattle.bloaty_engine.specs.Sources.{Chosen}
+use Rattle.file_profile.specs.Sources.{Chosen}
 use Rattle.bloaty_engine.specs.Steps.{EndsFiles, HasCounted, batch_of}
 use Rattle.bloaty_engine.specs.Verdict.{◌>>=◌, Sides, counted_from, counted_sides, lengths_of}
 use Rattle.bloaty_engine.proofs.FileLemmas.{same-counted}
 use Rattle.bloaty_engine.proofs.ReadLemmas.{take-none}
 
 -- the bytes of files up to a number, and those of others behind it
-pub beyond : ℕ → (ℕ → List ℕ) → (ℕ → List ℕ) → ℕ → List ℕ
+unfoldable pub beyond : ℕ → (ℕ → List ℕ) → (ℕ → List ℕ) → ℕ → List ℕ
 beyond count a b j = if nat_le j count then a j else b j
 
 beyond-front : (count : ℕ) (a b : ℕ → List ℕ) (j : ℕ) → j ≤ count → beyond count a b j ≡ a j
@@ -63,7 +63,7 @@ no-names [] e = refl
 no-names (n ∷ names) e = absurd (omega arith)
 
 -- the report of sizes is that of files with no base file, and that of growth that of files with some
-sizes-for : (bases : List (List ℕ)) (o : Options) (s : Sides) (text : List ℕ) → bases ≡ [] → IsSizeReport o s.files text → IsReportFor bases o s text
+pub sizes-for : (bases : List (List ℕ)) (o : Options) (s : Sides) (text : List ℕ) → bases ≡ [] → IsSizeReport o s.files text → IsReportFor bases o s text
 sizes-for [] o s text none is = is
 sizes-for (base ∷ bases) o s text none is = absurd (let wrong : base ∷ bases ≡ [] = none in cc)
 
@@ -74,6 +74,21 @@ growth-for (base ∷ bases) o s text some is = is
 -- the tree of a report hangs on the depth and the rows alone
 tree-same : (ro : RowOptions) (t : Totals) (n : ℕ) → t.depth ≡ n → row_tree ro t ≡ row_tree ro (record { depth = n; rows = t.rows; lengths = 0; mapped = 0 })
 tree-same ro t n e = ap (λ d. row_tree ro (record { depth = d; rows = t.rows; lengths = 0; mapped = 0 })) e
+
+-- the report of the sizes that a total counts
+pub size-report : (sources : List Chosen) (o : Options) (filter : Option (List ℕ)) → filter ≡ o.filter → length o.sources ≡ length sources → (t : Totals) (files : List FileView)
+    → HasCounted (filter_test filter) (length sources) files t → IsTotals t.depth t.rows t.lengths t.mapped → (text : List ℕ) → text ≡ printed o (row_tree (row_options o) t) → IsSizeReport o files text
+size-report sources o filter same depth t files has totals text is =
+    let deep : t.depth ≡ length o.sources = has.depth ∙ sym depth in
+    let tree : row_tree (row_options o) t ≡ report_tree o t.rows = tree-same (row_options o) t (length o.sources) deep in
+    let sizes : AreSizes (filter_test o.filter) (depth_of o) files t.rows = record {
+      ordered = totals.ordered;
+      deep = rw deep at totals.deep;
+      some = totals.some;
+      file = rw same at has.file;
+      vm = rw same at has.vm;
+    } in
+    record { rows = t.rows; sizes = sizes; is = is ∙ ap (printed o) tree }
 
 is-ok : {X E : Type 0} (r : Result X E) → IsOk r → (x : X) × (r ≡ Ok x)
 is-ok (Ok x) ok = (x, refl)
@@ -140,6 +155,8 @@ module _ (limits : Limits) (sources : List Chosen) (o : Options) (filter : Optio
   front-ends (Bad i fault offset) unmade e = sides-end (Bad i fault offset) e
   front-ends (TooManyClaims i) unmade e = sides-end (TooManyClaims i) e
   front-ends MappedTooLarge unmade e = sides-end MappedTooLarge e
+  front-ends NoMatch unmade e = sides-end NoMatch e
+  front-ends PlaceOutside unmade e = sides-end PlaceOutside e
   front-ends WriteFailed unmade e = sides-end WriteFailed e
 
   -- the report of sizes of the files that were counted
@@ -147,16 +164,7 @@ module _ (limits : Limits) (sources : List Chosen) (o : Options) (filter : Optio
       → out.items ≡ printed o (row_tree (row_options o) t) → EndsCounting limits sources (beyond (length (file_names o)) a b) o (Ok out)
   unfolding count all
   sizes-end t out none e totals is =
-      let depth : t.depth ≡ length o.sources = e.2.depth ∙ sym depth in
-      let tree : row_tree (row_options o) t ≡ report_tree o t.rows = tree-same (row_options o) t (length o.sources) depth in
-      let sizes : AreSizes (filter_test o.filter) (depth_of o) e.0 t.rows = record {
-        ordered = totals.ordered;
-        deep = rw depth at totals.deep;
-        some = totals.some;
-        file = rw same at e.2.file;
-        vm = rw same at e.2.vm;
-      } in
-      let report : IsSizeReport o e.0 out.items = record { rows = t.rows; sizes = sizes; is = is ∙ ap (printed o) tree } in
+      let report : IsSizeReport o e.0 out.items = size-report sources o filter same depth t e.0 e.2 totals out.items is in
       let s : Sides = record { files = e.0; bases = [] } in
       (s, ap (counted_sides limits sources all (file_names o)) none ∙ sides-none (file_names o) e.0 (omega arith) e.1, sizes-for o.bases o s out.items none report)
 
@@ -208,4 +216,6 @@ module _ (limits : Limits) (sources : List Chosen) (o : Options) (filter : Optio
     growth-ends (Err (Bad i fault offset)) g = behind-end (Bad i fault offset) g
     growth-ends (Err (TooManyClaims i)) g = behind-end (TooManyClaims i) g
     growth-ends (Err MappedTooLarge) g = behind-end MappedTooLarge g
+    growth-ends (Err NoMatch) g = behind-end NoMatch g
+    growth-ends (Err PlaceOutside) g = behind-end PlaceOutside g
     growth-ends (Err WriteFailed) g = behind-end WriteFailed g

@@ -3,8 +3,8 @@ use Rattle.std.proofs.Common.{◌≡◌, ℕ, zero, suc, ◌+◌, ◌-◌, ◌<�
 use Rattle.size_core.specs.declared.limits.Limits.{Limits}
 use Rattle.outside.specs.Causes.{RoseBy}
 use Rattle.outside.specs.Held.{Pairs, IsLonger, IsTaken}
-use Rattle.bloaty_engine.specs.declared.answer.ProfileAnswer.{ProfileAnswer}
-use Rattle.bloaty_engine.specs.declared.answer.ProfileAnswer.TheVariants as profile
+use Rattle.file_profile.specs.declared.answer.ProfileAnswer.{ProfileAnswer}
+use Rattle.file_profile.specs.declared.answer.ProfileAnswer.TheVariants as profile
 use Rattle.bloaty_engine.specs.declared.outcome.Outcome.TheVariants.{TooLong}
 use Rattle.bloaty_engine.specs.Reading.{IsOverLimit, made_len}
 use Rattle.bloaty_engine.specs.Verdict.{config_limit, end_at, file_limit, total_limit}
@@ -97,3 +97,20 @@ end-short number (profile.Bad bad) i e = cc
 end-short number profile.TooManyClaims i e = cc
 end-short number profile.MappedTooLarge i e = cc
 end-short number profile.NoMemory i e = cc
+
+-- the first file that is read is over its limit
+pub over-first : (limits : Limits) (held : Option Pairs) (name : List ℕ) (limit before now : ℕ) (i : ℕ) → i ≡ 1 → limit ≡ min (file_limit limits) (total_limit limits)
+    → IsLonger held name limit before now → IsOverLimit limits None i held before now
+over-first limits held name limit before now i at is longer =
+    let left : limit ≡ min (file_limit limits) (total_limit limits - 0) = omega (arith, is) in
+    let none : 0 ≡ 0 + 0 = omega arith in
+    let some : 0 < i = omega (arith, at) in
+    over-plain limits held before now i some (over-file limits held name 0 0 0 limit before before now none (omega arith) left (taken-none held before) longer)
+
+-- and so is the one behind it
+pub over-second : (limits : Limits) (held : Option Pairs) (name : List ℕ) (len limit before between now : ℕ) (i : ℕ) → i ≡ 2 → len ≤ total_limit limits → limit ≡ min (file_limit limits) (total_limit limits - len)
+    → IsTaken held len before between → IsLonger held name limit between now → IsOverLimit limits None i held before now
+over-second limits held name len limit before between now i at within is had longer =
+    let some : 0 < i = omega (arith, at) in
+    let sum : len ≡ 0 + len = omega arith in
+    over-plain limits held before now i some (over-file limits held name 0 len len limit before between now sum within is had longer)

@@ -9,22 +9,22 @@ use Rattle.size_options.specs.declared.chosen.Options.{Options}
 use Rattle.size_options.specs.declared.answer.UsageKind.{UsageKind}
 use Rattle.size_options.specs.declared.answer.UsageKind.TheVariants as usage
 use Rattle.bloaty_engine.specs.declared.outcome.Outcome.{Outcome}
-use Rattle.bloaty_engine.specs.declared.outcome.Outcome.TheVariants.{Done, Usage, ReadFailed, TooLong, Config, UnknownSource, PatternSyntax, PatternTooBig, Bad, TooManyClaims, MappedTooLarge, WriteFailed, NoMemory}
+use Rattle.bloaty_engine.specs.declared.outcome.Outcome.TheVariants.{Done, Usage, ReadFailed, TooLong, Config, UnknownSource, PatternSyntax, PatternTooBig, Bad, TooManyClaims, MappedTooLarge, NoMatch, PlaceOutside, WriteFailed, NoMemory}
 use Rattle.bloaty_engine.specs.Named.{AreContents, Contents, all_names}
-use Rattle.bloaty_engine.specs.Patterns.{ArePatterns, StopsAt}
+use Rattle.file_profile.specs.Patterns.{ArePatterns, StopsAt}
 use Rattle.bloaty_engine.specs.Reports.{IsReport, IsUnmade}
-use Rattle.bloaty_engine.specs.Verdict.{Counted, Request, asked, counted_files, verdict}
+use Rattle.bloaty_engine.specs.Verdict.{Found, IsReadAt, Request, asked, verdict}
 
 -- the words and the configuration have no fault, and what they ask is so
 abbrev pub IsAsked : Limits → Result Options UsageKind → Contents → (Request → Type 0) → Type 0
 IsAsked limits given contents P = (r : Request) × (asked limits given contents ≡ Ok r) × P r
 
--- Where a read of file i may fail: the configuration is read once the words are taken, and a file once the files before
--- it are counted.
+-- Where a read of file i may fail: the configuration is read once the words are taken, and a file once what stands before
+-- it has no fault.
 abbrev pub IsReached : Limits → Result Options UsageKind → Contents → ℕ → Type 0
 IsReached limits given contents zero = (o : Options) × (given ≡ Ok o) × ((name : List ℕ) × (o.config ≡ Some name))
 IsReached limits given contents (suc k) =
-    IsAsked limits given contents (λ r. IsUnmade r.options.synth k × (k < length (all_names r.options)) × IsOk (counted_files limits r.sources contents.files r.options k))
+    IsAsked limits given contents (λ r. IsUnmade r.options.synth k × (k < length (all_names r.options)) × IsReadAt limits r.sources contents.files r.options k)
 
 -- An answer is the verdict, or it interrupts the run at a place that no fault of the verdict stands before. `last` is
 -- the last pattern that was refused for its size.
@@ -53,6 +53,8 @@ is_past_patterns (PatternTooBig i) = false
 is_past_patterns (Bad i fault offset) = true
 is_past_patterns (TooManyClaims i) = true
 is_past_patterns MappedTooLarge = true
+is_past_patterns NoMatch = true
+is_past_patterns PlaceOutside = true
 is_past_patterns WriteFailed = true
 is_past_patterns NoMemory = false
 
@@ -69,6 +71,8 @@ is_failed_read (PatternTooBig i) = false
 is_failed_read (Bad i fault offset) = false
 is_failed_read (TooManyClaims i) = false
 is_failed_read MappedTooLarge = false
+is_failed_read NoMatch = false
+is_failed_read PlaceOutside = false
 is_failed_read WriteFailed = false
 is_failed_read NoMemory = false
 
@@ -84,6 +88,8 @@ is_refused_pattern (PatternTooBig i) = true
 is_refused_pattern (Bad i fault offset) = false
 is_refused_pattern (TooManyClaims i) = false
 is_refused_pattern MappedTooLarge = false
+is_refused_pattern NoMatch = false
+is_refused_pattern PlaceOutside = false
 is_refused_pattern WriteFailed = false
 is_refused_pattern NoMemory = false
 
@@ -94,7 +100,7 @@ ends_without test (Err end) = not (test end)
 
 -- what was written: the report whole, or a proper prefix of it, or nothing
 abbrev pub HasReport : Limits → Result Options UsageKind → Contents → (List ℕ → Type 0) → Type 0
-HasReport limits given contents P = (c : Counted) × (text : List ℕ) × (verdict limits given contents ≡ Ok c) × IsReport c.request.options c.sides text × P text
+HasReport limits given contents P = (f : Found) × (text : List ℕ) × (verdict limits given contents ≡ Ok f) × IsReport f.request.options f.finding text × P text
 
 abbrev pub Writes : Limits → Result Options UsageKind → Contents → Option (List ℕ) → Option (List ℕ) → Outcome → Type 0
 Writes limits given contents old new Done = HasReport limits given contents (Grew old new)
@@ -128,6 +134,8 @@ is_end (PatternTooBig i) = true
 is_end (Bad i fault offset) = true
 is_end (TooManyClaims i) = true
 is_end MappedTooLarge = true
+is_end NoMatch = true
+is_end PlaceOutside = true
 is_end WriteFailed = false
 is_end NoMemory = true
 

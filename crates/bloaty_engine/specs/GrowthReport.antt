@@ -1,11 +1,13 @@
 -- The report of the growth of files from base files.
 use Rattle.std.specs.Prelude.{◌≡◌, ℕ, Bool, List, Option, Result, Ok, Err, Vec}
-use Rattle.std.specs.List.{sum_by}
+use Rattle.std.specs.List.{starts_with, sum_by}
+use Rattle.std.specs.Str.{bytes_eq}
 use Rattle.std.specs.declared.alloc.Global.{Global}
 use Rattle.size_core.specs.declared.choices.Format.{Format}
 use Rattle.size_core.specs.declared.choices.Format.TheVariants.{Text, Csv, Tsv}
 use Rattle.size_core.specs.declared.limits.Limits.{Limits}
 use Rattle.size_model.specs.declared.view.FileView.{FileView}
+use Rattle.size_model.specs.Sizes.{file_size, vm_size}
 use Rattle.rollup.specs.declared.table.RollupRow.{RollupRow}
 use Rattle.rollup.specs.Totals.{Totals}
 use Rattle.size_growth.specs.declared.growth.GrowthPath.{GrowthPath}
@@ -14,13 +16,18 @@ use Rattle.size_growth.specs.declared.row.GrowthTree.{GrowthTree}
 use Rattle.size_growth.specs.Between.{IsBetween, size_where}
 use Rattle.size_growth.specs.Paths.{IsGrowth}
 use Rattle.size_growth.specs.Rows.{growth_tree}
+use Rattle.size_growth.specs.Trees.{GrowsAlike}
 use Rattle.report_text.specs.Growth.{growth_csv_text, growth_report_text, growth_tsv_text}
 use Rattle.size_options.specs.declared.chosen.Options.{Options}
-use Rattle.bloaty_engine.specs.Counts.{file_size_where, filter_test, vm_size_where}
+use Rattle.file_profile.specs.Counts.{file_size_where, filter_test, vm_size_where}
 use Rattle.bloaty_engine.specs.declared.outcome.Outcome.{Outcome}
 use Rattle.bloaty_engine.specs.Report.{depth_of, row_options}
-use Rattle.bloaty_engine.specs.Sources.{Chosen}
+use Rattle.file_profile.specs.Sources.{Chosen}
 use Rattle.bloaty_engine.specs.Steps.{Batch, EndsFiles}
+
+-- a path begins with this one
+abbrev pub begins_with : List (List ℕ) → List (List ℕ) → Bool
+begins_with prefix path = starts_with bytes_eq path prefix
 
 -- The growth of files from base files: each full path with a size above 0 in one of them, once and in ascending order, with
 -- its sizes over all files and over all base files. For whatever set of paths, the sizes of the paths in it are the numbers
@@ -59,3 +66,20 @@ pub record IsGrowthReport (o : Options) (files bases : List FileView) (text : Li
   pub paths : List GrowthPath
   pub growths : AreGrowths (filter_test o.filter) (depth_of o) files bases paths
   pub is : text ≡ growth_printed o (growth_tree (row_options o) (depth_of o) paths)
+
+-- the sizes of the paths that begin with a path are the numbers of bytes and of mapped addresses whose paths do, over the
+-- files and over the base files
+pub record CountsGrowth (filter : Option (List ℕ → Bool)) (files bases : List FileView) (paths : List GrowthPath) (path : List (List ℕ)) : Type 0 where
+  pub new_file : size_where (λ (s : GrowthSizes). s.new_file) (begins_with path) paths ≡ file_size filter files path
+  pub new_vm : size_where (λ (s : GrowthSizes). s.new_vm) (begins_with path) paths ≡ vm_size filter files path
+  pub base_file : size_where (λ (s : GrowthSizes). s.base_file) (begins_with path) paths ≡ file_size filter bases path
+  pub base_vm : size_where (λ (s : GrowthSizes). s.base_vm) (begins_with path) paths ≡ vm_size filter bases path
+
+abbrev pub GrowthsCountPaths : Type 0
+GrowthsCountPaths = (filter : Option (List ℕ → Bool)) (depth : ℕ) (files bases : List FileView) (paths : List GrowthPath)
+    → AreGrowths filter depth files bases paths → (path : List (List ℕ)) → CountsGrowth filter files bases paths path
+
+-- in a report of growth the growths of each shown size add up
+abbrev pub GrowthsAddUp : Type 0
+GrowthsAddUp = (o : Options) (files bases : List FileView) (paths : List GrowthPath)
+    → AreGrowths (filter_test o.filter) (depth_of o) files bases paths → GrowsAlike o.domain (growth_tree (row_options o) (depth_of o) paths)

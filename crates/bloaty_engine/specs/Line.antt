@@ -5,9 +5,9 @@ use Rattle.config_text.specs.declared.config.ConfigKind.{ConfigKind}
 use Rattle.config_text.specs.declared.config.ConfigKind.TheVariants.{Syntax, BadString, NotUtf8, UnknownField, RepeatedField, MissingField, BadName, BadBase, BadReplacement, TooMany}
 use Rattle.size_options.specs.declared.chosen.Options.{Options}
 use Rattle.size_options.specs.declared.answer.UsageKind.{UsageKind}
-use Rattle.size_options.specs.declared.answer.UsageKind.TheVariants.{Words, BadNumber, BadSort, BadDomain, TwoFormats, BadSourceList, NoFile, SynthWithFile, NoBase}
+use Rattle.size_options.specs.declared.answer.UsageKind.TheVariants.{Words, BadNumber, BadSort, BadDomain, TwoFormats, BadSourceList, NoFile, SynthWithFile, NoBase, DebugFile, BadPlace, TwoPlaces, PlaceFile}
 use Rattle.bloaty_engine.specs.declared.outcome.Outcome.{Outcome}
-use Rattle.bloaty_engine.specs.declared.outcome.Outcome.TheVariants.{Done, Usage, ReadFailed, TooLong, Config, UnknownSource, PatternSyntax, PatternTooBig, Bad, TooManyClaims, MappedTooLarge, WriteFailed, NoMemory}
+use Rattle.bloaty_engine.specs.declared.outcome.Outcome.TheVariants.{Done, Usage, ReadFailed, TooLong, Config, UnknownSource, PatternSyntax, PatternTooBig, Bad, TooManyClaims, MappedTooLarge, NoMatch, PlaceOutside, WriteFailed, NoMemory}
 use Rattle.bloaty_engine.specs.Named.{file_name, source_name}
 
 abbrev pub usage_text : UsageKind → List ℕ
@@ -20,6 +20,10 @@ usage_text BadSourceList = codes "bad source list"
 usage_text NoFile = codes "no file"
 usage_text SynthWithFile = codes "--synth with a file"
 usage_text NoBase = codes "no base file"
+usage_text DebugFile = codes "--debug-file needs one file"
+usage_text BadPlace = codes "bad place"
+usage_text TwoPlaces = codes "two places"
+usage_text PlaceFile = codes "a place needs one file"
 
 -- the number of a kind of fault of a configuration
 abbrev pub config_number : ConfigKind → ℕ
@@ -56,5 +60,7 @@ line_of asked (Bad i fault offset) =
     codes "bloaty: " ++ file_name asked i ++ codes ": offset " ++ decimal offset ++ codes ": " ++ fault_name fault ++ codes "\n"
 line_of asked (TooManyClaims i) = file_line asked i (codes "too many claims")
 line_of asked MappedTooLarge = codes "bloaty: mapped size too large\n"
+line_of asked NoMatch = file_line asked 2 (codes "no match")
+line_of asked PlaceOutside = codes "bloaty: place outside the file\n"
 line_of asked WriteFailed = codes "bloaty: output failed\n"
 line_of asked NoMemory = codes "bloaty: out of memory\n"

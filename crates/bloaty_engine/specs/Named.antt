@@ -1,5 +1,5 @@
--- The files of a run by number: the configuration is file 0, the files of the words have the numbers from 1 on, and the
--- base files those behind them.
+-- The files of a run by number: the configuration is file 0, the files of the words have the numbers from 1 on, and a debug
+-- file, or the base files, those behind them.
 use Rattle.std.specs.Prelude.{◌≡◌, ℕ, ◌+◌, zero, suc, List, [], ◌∷◌, ◌++◌, codes, length, slice_get, unwrap_or, Option, None, Some, Result, Ok, Err, ⊤}
 use Rattle.outside.specs.Held.{Pairs, held_bytes, IsHeld}
 use Rattle.elf_synth.specs.Made.{made}
@@ -19,9 +19,21 @@ names_of (Some n) files = codes "synth" ∷ []
 abbrev pub file_names : Options → List (List ℕ)
 file_names o = names_of o.synth o.files
 
--- and those of the base files
+-- those of the base files behind them
+abbrev pub side_names : Options → List (List ℕ)
+side_names o = file_names o ++ o.bases
+
+-- the name of the debug file, if there is one
+abbrev pub debug_names : Option (List ℕ) → List (List ℕ)
+debug_names None = []
+debug_names (Some name) = name ∷ []
+
+-- the names behind those of the files; a run has no debug file beside base files
+abbrev pub other_names : Options → List (List ℕ)
+other_names o = debug_names o.debug ++ o.bases
+
 abbrev pub all_names : Options → List (List ℕ)
-all_names o = file_names o ++ o.bases
+all_names o = file_names o ++ other_names o
 
 -- the name of the file of a number
 abbrev pub name_at : Options → ℕ → Option (List ℕ)
@@ -57,4 +69,4 @@ AreFiles held (Some n) names files = files 1 ≡ made n
 pub record AreContents (held : Option Pairs) (o : Options) (c : Contents) : Type 0 where
   pub config : IsText held o.config c.config
   pub files : AreFiles held o.synth o.files c.files
-  pub bases : AreHeld held (length (file_names o) + 1) o.bases c.files
+  pub others : AreHeld held (length (file_names o) + 1) (other_names o) c.files

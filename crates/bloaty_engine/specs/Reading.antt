@@ -5,6 +5,7 @@ use Rattle.outside.specs.Held.{Pairs, IsTaken}
 use Rattle.elf_synth.specs.Made.{made}
 use Rattle.size_options.specs.declared.chosen.Options.{Options}
 use Rattle.size_options.specs.declared.answer.UsageKind.{UsageKind}
+use Rattle.bloaty_engine.specs.Named.{other_names}
 use Rattle.bloaty_engine.specs.Verdict.{config_limit, file_limit, total_limit}
 
 -- the configuration, if there is one
@@ -17,9 +18,9 @@ abbrev pub unmade_names : Option ℕ → List (List ℕ) → List (List ℕ)
 unmade_names None files = files
 unmade_names (Some n) files = []
 
--- the files, and then the base files
+-- the files, and then the debug file or the base files
 abbrev pub files_to_read : Options → List (List ℕ)
-files_to_read o = unmade_names o.synth o.files ++ o.bases
+files_to_read o = unmade_names o.synth o.files ++ other_names o
 
 -- the configuration, and then these
 abbrev pub names_to_read : Options → List (List ℕ)

@@ -18,7 +18,7 @@ use Rattle.report_rows.specs.Tables.{file_sum, under_path, vm_sum}
 use Rattle.report_text.specs.Lines.{report_text}
 use Rattle.report_text.specs.Records.{csv_text, tsv_text}
 use Rattle.size_options.specs.declared.chosen.Options.{Options}
-use Rattle.bloaty_engine.specs.Counts.{file_size_where, filter_test, vm_size_where}
+use Rattle.file_profile.specs.Counts.{file_size_where, filter_test, vm_size_where}
 
 -- The rows of files: each full path with a size above 0, once and in ascending order, with its sizes over all files. For
 -- every set of paths, as that of one path or of those that begin so, the sizes of its rows add up to the numbers of bytes

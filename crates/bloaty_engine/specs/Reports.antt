@@ -6,30 +6,41 @@ use Rattle.size_options.specs.declared.chosen.Options.{Options}
 use Rattle.bloaty_engine.specs.declared.outcome.Outcome.{Outcome}
 use Rattle.bloaty_engine.specs.declared.outcome.Outcome.TheVariants.{ReadFailed, NoMemory}
 use Rattle.bloaty_engine.specs.GrowthReport.{IsGrowthReport}
-use Rattle.bloaty_engine.specs.Named.{all_names, file_names}
+use Rattle.bloaty_engine.specs.Named.{all_names, file_names, side_names}
 use Rattle.bloaty_engine.specs.Report.{IsSizeReport}
-use Rattle.bloaty_engine.specs.Sources.{Chosen}
-use Rattle.bloaty_engine.specs.Verdict.{Sides, counted_files, counted_sides}
+use Rattle.file_profile.specs.Sources.{Chosen}
+use Rattle.bloaty_engine.specs.Verdict.{Finding, Counted, Explained, IsReadAt, Sides, counted_files, counted_sides, found}
+use Rattle.report_text.specs.Places.{place_report_text}
 
 abbrev pub IsReportFor : List (List ℕ) → Options → Sides → List ℕ → Type 0
 IsReportFor [] o s text = IsSizeReport o s.files text
 IsReportFor (base ∷ bases) o s text = IsGrowthReport o s.files s.bases text
 
--- the report of the sizes of the files, or, where there are base files, of their growth
-abbrev pub IsReport : Options → Sides → List ℕ → Type 0
-IsReport o s text = IsReportFor o.bases o s text
+-- the report of the sizes of the files, or, where there are base files, of their growth, or what explains a place
+abbrev pub IsReport : Options → Finding → List ℕ → Type 0
+IsReport o (Counted s) text = IsReportFor o.bases o s text
+IsReport o (Explained place sources) text = text ≡ place_report_text place sources o.wide
 
 -- a made file isn't read
 abbrev pub IsUnmade : Option ℕ → ℕ → Type 0
 IsUnmade None k = ⊤
 IsUnmade (Some n) k = 0 < k
 
--- all files with these bytes were counted and this is their report, or the run ended at one of them, or at a read that failed
--- where the files before it were counted
+-- all files with these bytes were counted, and the base files, and this is their report, or the run ended at one of them, or
+-- at a read that failed where the files before it were counted
 abbrev pub EndsCounting : Limits → List Chosen → (ℕ → List ℕ) → Options → Result (Vec ℕ Global) Outcome → Type 0
 EndsCounting limits sources files o (Ok text) =
-    (s : Sides) × (counted_sides limits sources files (file_names o) o.bases ≡ Ok s) × IsReport o s text.items
+    (s : Sides) × (counted_sides limits sources files (file_names o) o.bases ≡ Ok s) × IsReportFor o.bases o s text.items
 EndsCounting limits sources files o (Err (ReadFailed i)) =
-    (k : ℕ) × (i ≡ k + 1) × IsUnmade o.synth k × (k < length (all_names o)) × IsOk (counted_files limits sources files o k)
+    (k : ℕ) × (i ≡ k + 1) × IsUnmade o.synth k × (k < length (side_names o)) × IsOk (counted_files limits sources files o k)
 EndsCounting limits sources files o (Err NoMemory) = ⊤
 EndsCounting limits sources files o (Err end) = counted_sides limits sources files (file_names o) o.bases ≡ Err end
+
+-- what the options ask was found in files with these bytes, and this is its report, or the run ended at one of them, or at a
+-- read that failed where it may be made
+abbrev pub EndsFinding : Limits → List Chosen → (ℕ → List ℕ) → Options → Result (Vec ℕ Global) Outcome → Type 0
+EndsFinding limits sources files o (Ok text) = (f : Finding) × (found limits sources files o ≡ Ok f) × IsReport o f text.items
+EndsFinding limits sources files o (Err (ReadFailed i)) =
+    (k : ℕ) × (i ≡ k + 1) × IsUnmade o.synth k × (k < length (all_names o)) × IsReadAt limits sources files o k
+EndsFinding limits sources files o (Err NoMemory) = ⊤
+EndsFinding limits sources files o (Err end) = found limits sources files o ≡ Err end

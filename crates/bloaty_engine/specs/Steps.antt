@@ -9,9 +9,11 @@ use Rattle.config_text.specs.declared.config.CustomSource.{CustomSource}
 use Rattle.rollup.specs.Adding.{file_where, vm_where}
 use Rattle.rollup.specs.Totals.{Totals}
 use Rattle.bloaty_engine.specs.declared.outcome.Outcome.{Outcome}
-use Rattle.bloaty_engine.specs.declared.outcome.Outcome.TheVariants.{ReadFailed, TooLong, NoMemory}
-use Rattle.bloaty_engine.specs.Counts.{file_size_where, vm_size_where}
-use Rattle.bloaty_engine.specs.Sources.{Chosen}
+use Rattle.bloaty_engine.specs.declared.outcome.Outcome.TheVariants.{ReadFailed, TooLong, UnknownSource, PatternSyntax, PatternTooBig, NoMemory}
+use Rattle.file_profile.specs.Counts.{file_size_where, vm_size_where}
+use Rattle.custom_rewrites.specs.Pattern.{IsNoPattern}
+use Rattle.file_profile.specs.Patterns.{StopsAt}
+use Rattle.file_profile.specs.Sources.{Chosen, chosen_sources}
 use Rattle.bloaty_engine.specs.Verdict.{counted_from, customs_in}
 
 -- a read of file i, of which so many bytes may be read, found these bytes: it gave them, or they are too long
@@ -65,3 +67,11 @@ EndsFiles limits sources filter b files (Err (ReadFailed i)) =
     (k : ℕ) × (i ≡ b.first + k) × (k < length b.names) × IsOk (counted_batch limits sources files (record b { names = take k b.names }))
 EndsFiles limits sources filter b files (Err NoMemory) = ⊤
 EndsFiles limits sources filter b files (Err end) = counted_batch limits sources files b ≡ Err end
+
+-- how a run ends where there is no plan
+abbrev pub EndsPlan : List (List ℕ) → Option (List ℕ) → List CustomSource → List ℕ → Outcome → Type 0
+EndsPlan names filter customs last (UnknownSource i) = chosen_sources customs names ≡ Err i
+EndsPlan names filter customs last (PatternSyntax i) = IsOk (chosen_sources customs names) × StopsAt filter customs i IsNoPattern
+EndsPlan names filter customs last (PatternTooBig i) = IsOk (chosen_sources customs names) × StopsAt filter customs i (λ pattern. last ≡ pattern)
+EndsPlan names filter customs last NoMemory = Unit {0}
+EndsPlan names filter customs last end = ⊥

@@ -1,21 +1,32 @@
 -- What the words and the bytes of the files decide.
-use Rattle.std.specs.Prelude.{ℕ, ◌+◌, ◌-◌, ◌^◌, min, ◌||◌, nat_lt, List, [], ◌∷◌, length, take, Option, None, Some, Result, Ok, Err, if◌then◌else◌}
+use Rattle.std.specs.Prelude.{ℕ, zero, suc, ◌+◌, ◌-◌, ◌^◌, min, ◌||◌, nat_lt, ⊤, List, [], ◌∷◌, length, slice_get, take, unwrap_or, Option, None, Some, Result, Ok, Err, IsOk, if◌then◌else◌}
 use Rattle.std.specs.List.{sum_by}
+use Rattle.size_core.specs.declared.fault.BadFile.{BadFile}
 use Rattle.size_core.specs.declared.limits.Limits.{Limits}
+use Rattle.size_core.specs.declared.place.Place.{Place}
 use Rattle.size_model.specs.declared.view.FileView.{FileView}
 use Rattle.size_model.specs.Loads.{mapped_count}
 use Rattle.config_text.specs.declared.config.CustomSource.{CustomSource}
+use Rattle.data_sources.specs.declared.binary.Binary.{Binary}
+use Rattle.data_sources.specs.Opened.{opened}
+use Rattle.place_explain.specs.declared.named.PlaceSource.{PlaceSource}
 use Rattle.config_text.specs.Config.{config}
 use Rattle.config_text.specs.Grammar.{Fault as ConfigFault}
 use Rattle.size_options.specs.declared.chosen.Options.{Options}
 use Rattle.size_options.specs.declared.answer.UsageKind.{UsageKind}
-use Rattle.bloaty_engine.specs.declared.answer.ProfileAnswer.{ProfileAnswer}
-use Rattle.bloaty_engine.specs.declared.answer.ProfileAnswer.TheVariants as profile
+use Rattle.file_profile.specs.declared.answer.ProfileAnswer.{ProfileAnswer}
+use Rattle.file_profile.specs.declared.answer.ProfileAnswer.TheVariants as profile
 use Rattle.bloaty_engine.specs.declared.outcome.Outcome.{Outcome}
 use Rattle.bloaty_engine.specs.declared.outcome.Outcome.TheVariants as outcome
 use Rattle.bloaty_engine.specs.Named.{Contents, file_names}
-use Rattle.bloaty_engine.specs.Sources.{Chosen, chosen_sources}
-use Rattle.bloaty_engine.specs.Views.{viewed}
+use Rattle.file_profile.specs.declared.answer.PairAnswer.{PairAnswer}
+use Rattle.file_profile.specs.declared.answer.PairAnswer.TheVariants as pair
+use Rattle.file_profile.specs.declared.answer.PlaceAnswer.{PlaceAnswer}
+use Rattle.file_profile.specs.declared.answer.PlaceAnswer.TheVariants as explaining
+use Rattle.file_profile.specs.PairViews.{pair_viewed}
+use Rattle.file_profile.specs.Places.{explained_place, named_sources}
+use Rattle.file_profile.specs.Sources.{Chosen, chosen_sources}
+use Rattle.file_profile.specs.Views.{viewed}
 
 -- what comes next, unless the run ends before
 infixl 10 ◌>>=◌
@@ -75,11 +86,14 @@ abbrev pub if_viewed : ℕ → Result FileView ProfileAnswer → Result FileView
 if_viewed i (Ok file) = Ok file
 if_viewed i (Err answer) = Err (end_at i answer)
 
+-- file i is within the limits, where the files before it have these lengths together
+abbrev pub if_short : {X : Type 0} → Limits → ℕ → ℕ → List ℕ → Result X Outcome → Result X Outcome
+if_short limits i lengths file next =
+    if nat_lt (file_limit limits) (length file) || nat_lt (total_limit limits) (lengths + length file) then Err (outcome.TooLong i) else next
+
 -- file i, where the files before it have these lengths and mapped sizes together
 unfoldable pub counted_file : Limits → List Chosen → ℕ → ℕ → ℕ → List ℕ → List ℕ → Result FileView Outcome
-counted_file limits sources i lengths mapped name file =
-    if nat_lt (file_limit limits) (length file) || nat_lt (total_limit limits) (lengths + length file) then Err (outcome.TooLong i)
-    else if_viewed i (viewed mapped limits.claims name file sources)
+counted_file limits sources i lengths mapped name file = if_short limits i lengths file (if_viewed i (viewed mapped limits.claims name file sources))
 
 -- the files of these names, the first of which is file i, one after the other
 abbrev pub counted_from : Limits → List Chosen → (ℕ → List ℕ) → ℕ → ℕ → ℕ → List (List ℕ) → Result (List FileView) Outcome
@@ -106,18 +120,106 @@ counted_sides limits sources files names base_names = do
   bases ← counted_from limits sources files (length names + 1) (lengths_of counted) 0 base_names
   Ok (record { files = counted; bases = bases })
 
+-- how a run ends at a fault of the first file
+abbrev pub if_sound : Result Binary BadFile → Result Binary Outcome
+if_sound (Ok binary) = Ok binary
+if_sound (Err bad) = Err (outcome.Bad 1 bad.fault bad.offset)
+
+-- the first file as it stands before its debug file is read
+unfoldable pub opened_first : Limits → List ℕ → Result Binary Outcome
+opened_first limits file = if_short limits 1 0 file (if_sound (opened file))
+
+-- how a run ends where a file and its debug file, which are files 1 and 2, aren't counted
+abbrev pub end_of_pair : PairAnswer → Outcome
+end_of_pair (pair.Bad i bad) = outcome.Bad i bad.fault bad.offset
+end_of_pair pair.NoMatch = outcome.NoMatch
+end_of_pair pair.TooManyClaims = outcome.TooManyClaims 1
+end_of_pair pair.MappedTooLarge = outcome.MappedTooLarge
+end_of_pair pair.NoMemory = outcome.NoMemory
+
+-- one file, and no base file
+abbrev pub one_file : FileView → Sides
+one_file file = record { files = file ∷ []; bases = [] }
+
+abbrev pub if_paired : Result FileView PairAnswer → Result Sides Outcome
+if_paired (Ok file) = Ok (one_file file)
+if_paired (Err answer) = Err (end_of_pair answer)
+
+-- the file of this name with its debug file; the lengths of both are added up, and the sizes are those of the file alone
+unfoldable pub counted_pair : Limits → List Chosen → List ℕ → List ℕ → List ℕ → Result Sides Outcome
+counted_pair limits sources name file debug = do
+  binary ← opened_first limits file
+  if_short limits 2 (length file) debug (if_paired (pair_viewed 0 limits.claims name file debug sources))
+
+-- how a run ends where a place of the one file isn't explained
+abbrev pub end_of_place : PlaceAnswer → Outcome
+end_of_place (explaining.Bad bad) = outcome.Bad 1 bad.fault bad.offset
+end_of_place explaining.PlaceOutside = outcome.PlaceOutside
+end_of_place explaining.TooManyClaims = outcome.TooManyClaims 1
+end_of_place explaining.MappedTooLarge = outcome.MappedTooLarge
+end_of_place explaining.NoMemory = outcome.NoMemory
+
+abbrev pub if_explained : Result (List PlaceSource) PlaceAnswer → Result (List PlaceSource) Outcome
+if_explained (Ok sources) = Ok sources
+if_explained (Err answer) = Err (end_of_place answer)
+
+-- a place of the file of this name, as the data sources asked explain it
+unfoldable pub explained_file : Limits → List Chosen → Options → Place → List ℕ → List ℕ → Result (List PlaceSource) Outcome
+explained_file limits sources o place name file =
+    if_short limits 1 0 file (if_explained (explained_place limits.claims o.limit place name file (named_sources o.sources sources)))
+
 -- the first n of the files asked, and behind the last of them the first of the base files
 abbrev pub counted_files : Limits → List Chosen → (ℕ → List ℕ) → Options → ℕ → Result Sides Outcome
 counted_files limits sources files o n = counted_sides limits sources files (take n (file_names o)) (take (n - length (file_names o)) o.bases)
 
--- what a report is made of: what is asked, and the files as they are counted
-pub record Counted : Type 0 where
+-- the name of the first file
+abbrev pub first_name : Options → List ℕ
+first_name o = unwrap_or (slice_get (file_names o) 0) []
+
+-- what a report shows: files as they are counted, or a place as data sources explain it
+pub data Finding : Type 0 where
+  Counted : Sides → Finding
+  Explained : Place → List PlaceSource → Finding
+
+abbrev pub as_counted : Result Sides Outcome → Result Finding Outcome
+as_counted (Ok sides) = Ok (Counted sides)
+as_counted (Err end) = Err end
+
+abbrev pub as_explained : Place → Result (List PlaceSource) Outcome → Result Finding Outcome
+as_explained place (Ok sources) = Ok (Explained place sources)
+as_explained place (Err end) = Err end
+
+-- the place that is asked, or else the file with its debug file, or else the files and the base files
+abbrev pub found_by : Option Place → Option (List ℕ) → Limits → List Chosen → (ℕ → List ℕ) → Options → Result Finding Outcome
+found_by None None limits sources files o = as_counted (counted_sides limits sources files (file_names o) o.bases)
+found_by None (Some debug) limits sources files o = as_counted (counted_pair limits sources (first_name o) (files 1) (files 2))
+found_by (Some place) debug limits sources files o = as_explained place (explained_file limits sources o place (first_name o) (files 1))
+
+unfoldable pub found : Limits → List Chosen → (ℕ → List ℕ) → Options → Result Finding Outcome
+found limits sources files o = found_by o.place o.debug limits sources files o
+
+-- a debug file is read once its file is opened
+abbrev pub IsPairRead : Limits → List ℕ → ℕ → Type 0
+IsPairRead limits file zero = ⊤
+IsPairRead limits file (suc k) = IsOk (opened_first limits file)
+
+-- The file at place k may be read: the files before it are counted, or, where it is a debug file, the file before it is
+-- opened.
+abbrev pub IsReadBy : Option (List ℕ) → Limits → List Chosen → (ℕ → List ℕ) → Options → ℕ → Type 0
+IsReadBy None limits sources files o k = IsOk (counted_files limits sources files o k)
+IsReadBy (Some debug) limits sources files o k = IsPairRead limits (files 1) k
+
+abbrev pub IsReadAt : Limits → List Chosen → (ℕ → List ℕ) → Options → ℕ → Type 0
+IsReadAt limits sources files o k = IsReadBy o.debug limits sources files o k
+
+-- what a report is made of: what is asked, and what was found
+pub record Found : Type 0 where
   pub request : Request
-  pub sides : Sides
+  pub finding : Finding
 
 -- how a run over these bytes ends, or what its report is made of
-unfoldable pub verdict : Limits → Result Options UsageKind → Contents → Result Counted Outcome
+unfoldable pub verdict : Limits → Result Options UsageKind → Contents → Result Found Outcome
 verdict limits given contents = do
   r ← asked limits given contents
-  sides ← counted_sides limits r.sources contents.files (file_names r.options) r.options.bases
-  Ok (record { request = r; sides = sides })
+  finding ← found limits r.sources contents.files r.options
+  Ok (record { request = r; finding = finding })

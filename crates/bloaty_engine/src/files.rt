@@ -6,17 +6,15 @@ ghost use Rattle.outside.specs.Held.{IsHeld, IsLonger, IsTaken};
 ghost use Rattle.size_model.specs.declared.view.FileView.{FileView as FileViewSpec};
 ghost use Rattle.elf_synth.specs.Made.{made};
 ghost use Rattle.bloaty_engine.specs.Answers.{ends_without, is_failed_read};
-ghost use Rattle.bloaty_engine.specs.Counts.{filter_test};
+ghost use Rattle.file_profile.specs.Counts.{filter_test};
 ghost use Rattle.bloaty_engine.specs.Named.{AreHeld, file_names};
 ghost use Rattle.bloaty_engine.specs.Reading.{ReadsFirst};
 ghost use Rattle.bloaty_engine.specs.Steps.{EndsAs, EndsFiles, Finds, HasCounted, batch_of};
 ghost use Rattle.bloaty_engine.specs.Verdict.{counted_file, end_at, file_limit, total_limit};
 
-use crate::answer::ProfileAnswer;
-use crate::asked::Plan;
 use crate::outcome::Outcome;
-use crate::profile::profile_file;
 use elf_synth::synth;
+use file_profile::{Plan, ProfileAnswer, profile_file};
 use outside::{FileAnswer, Files};
 use rollup::Rollup;
 use size_core::{BadFile, Limits, Names, Steps, Text};
@@ -25,15 +23,15 @@ use std::alloc::Global;
 use std::marker::Brand;
 use std::sync::ledger::{Blank, Ledger};
 
-// The most bytes of a file.
-fn file_limit(limits: &Limits) -> u64
+/// The most bytes of a file.
+pub fn file_limit(limits: &Limits) -> u64
     ensures { result ≡ file_limit limits.now }
 {
     limits.file.min(u64::from(u32::MAX))
 }
 
-// The most bytes of all files.
-fn total_limit(limits: &Limits) -> u64
+/// The most bytes of all files.
+pub fn total_limit(limits: &Limits) -> u64
     ensures { result ≡ total_limit limits.now }
 {
     limits.total.min(1 << 62)

@@ -5,16 +5,16 @@ ghost use Rattle.outside.specs.Causes.{Rose};
 ghost use Rattle.outside.specs.Held.{IsTaken};
 ghost use Rattle.size_growth.specs.Trees.{IsGrowthTree};
 ghost use Rattle.bloaty_engine.specs.Answers.{ends_without, is_failed_read};
-ghost use Rattle.bloaty_engine.specs.Counts.{filter_test};
+ghost use Rattle.file_profile.specs.Counts.{filter_test};
 ghost use Rattle.bloaty_engine.specs.GrowthReport.{EndsGrowth, PrintsGrowth, growth_printed};
 ghost use Rattle.bloaty_engine.specs.Named.{AreHeld, file_names};
 ghost use Rattle.bloaty_engine.specs.Reading.{ReadsFirst};
 ghost use Rattle.bloaty_engine.specs.Steps.{batch_of};
 ghost use Rattle.bloaty_engine.specs.Verdict.{file_limit, total_limit};
 
-use crate::asked::Plan;
 use crate::files::{count_files, file_count};
 use crate::outcome::Outcome;
+use file_profile::Plan;
 use outside::Files;
 use report_text::{growth_csv, growth_text, growth_tsv};
 use rollup::Rollup;

@@ -1,5 +1,6 @@
-//! What follows for the rows of a report and its totals.
+//! What follows for the rows of a report, of sizes and of growth, and its totals.
 
+ghost use Rattle.bloaty_engine.specs.GrowthReport.{GrowthsAddUp, GrowthsCountPaths};
 ghost use Rattle.bloaty_engine.specs.Report.{RowsCountPaths, RowsShowFiles, TotalsAreWhole};
 
 /// A law: the sizes of the row of a path are the numbers of bytes and of mapped addresses whose paths begin with it.
@@ -25,4 +26,18 @@ pub fn totals_are_whole()
 {
     rows_count_paths();
     size_model::totals_are_whole();
+}
+
+/// A law: the sizes of a path in a report of growth are the numbers of bytes and of mapped addresses whose paths begin with
+/// it, over the files and over the base files; its growth is their difference.
+pub fn growths_count_paths()
+    ensures { GrowthsCountPaths }
+{}
+
+/// A law: in a report of growth the growths of the first level's rows add up to that of the whole, and those of the
+/// children of each row that has any to that of the row, for each size that is shown.
+pub fn growths_add_up()
+    ensures { GrowthsAddUp }
+{
+    size_growth::growths_add_up();
 }

@@ -5,7 +5,7 @@ ghost use Rattle.outside.specs.Causes.{Rose};
 ghost use Rattle.outside.specs.Grown.{Grew};
 ghost use Rattle.size_options.specs.declared.answer.UsageKind.{UsageKind as UsageKindSpec};
 ghost use Rattle.bloaty_engine.specs.Line.{config_number, line_of, pattern_line, usage_text};
-ghost use Rattle.bloaty_engine.specs.Named.{file_name, source_name};
+ghost use Rattle.bloaty_engine.specs.Named.{file_name, other_names, source_name};
 ghost use Rattle.bloaty_engine.specs.declared.outcome.Outcome.TheVariants.{Done, Usage, NoMemory as OutOfMemory};
 
 use crate::outcome::Outcome;
@@ -27,6 +27,10 @@ fn usage_text(kind: UsageKind) -> &'static str
         UsageKind::NoFile => "no file",
         UsageKind::SynthWithFile => "--synth with a file",
         UsageKind::NoBase => "no base file",
+        UsageKind::DebugFile => "--debug-file needs one file",
+        UsageKind::BadPlace => "bad place",
+        UsageKind::TwoPlaces => "two places",
+        UsageKind::PlaceFile => "a place needs one file",
     }
 }
 
@@ -58,6 +62,17 @@ fn base_name(options: &Options, place: usize) -> &[u8]
     &[]
 }
 
+// The name of a debug file, or of a base file, by its place behind the files.
+fn other_name(options: &Options, place: usize) -> &[u8]
+    ensures { result.now ≡ unwrap_or (slice_get (other_names options.now) place) [] }
+{
+    match &options.debug {
+        Some(name) if place == 0 => name.as_slice(),
+        Some(_) => base_name(options, place - 1),
+        None => base_name(options, place),
+    }
+}
+
 // The name of a file by its number.
 fn file_name(options: &Options, number: usize) -> &[u8]
     ensures { result.now ≡ file_name (Ok options.now) number }
@@ -70,9 +85,9 @@ fn file_name(options: &Options, number: usize) -> &[u8]
     }
     match options.synth {
         Some(_) if number == 1 => b"synth",
-        Some(_) => base_name(options, number - 2),
+        Some(_) => other_name(options, number - 2),
         None if number <= options.files.len() => options.files.get(number - 1).as_slice(),
-        None => base_name(options, number - 1 - options.files.len()),
+        None => other_name(options, number - 1 - options.files.len()),
     }
 }
 
@@ -221,6 +236,8 @@ pub fn tell<E: Sink>(err: &mut E, options: &Options, outcome: &Outcome) -> Resul
         ),
         Outcome::TooManyClaims(i) => tell_file(err, file_name(options, i), b"too many claims"),
         Outcome::MappedTooLarge => write_pieces(err, &[b"bloaty: mapped size too large\n"]),
+        Outcome::NoMatch => tell_file(err, file_name(options, 2), b"no match"),
+        Outcome::PlaceOutside => write_pieces(err, &[b"bloaty: place outside the file\n"]),
         Outcome::WriteFailed => write_pieces(err, &[b"bloaty: output failed\n"]),
         Outcome::NoMemory => tell_no_memory(err),
     }

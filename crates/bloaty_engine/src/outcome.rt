@@ -35,6 +35,10 @@ pub enum Outcome {
     TooManyClaims(usize),
     /// The mapped sizes of the files pass 2^63 - 1.
     MappedTooLarge,
+    /// The identifiers of the file and its debug file differ, or one has none.
+    NoMatch,
+    /// The place isn't below the file's end, or isn't mapped.
+    PlaceOutside,
     /// The output didn't take the whole report.
     WriteFailed,
     /// There was not enough memory.
@@ -50,12 +54,13 @@ impl Outcome {
     {
         match self {
             Outcome::Done => 0,
-            Outcome::Bad { .. } => 1,
+            Outcome::Bad { .. } | Outcome::NoMatch => 1,
             Outcome::Usage(_)
             | Outcome::Config(..)
             | Outcome::UnknownSource(_)
             | Outcome::PatternSyntax(_)
-            | Outcome::PatternTooBig(_) => 2,
+            | Outcome::PatternTooBig(_)
+            | Outcome::PlaceOutside => 2,
             Outcome::ReadFailed(_) => 3,
             Outcome::WriteFailed => 4,
             Outcome::NoMemory => 5,

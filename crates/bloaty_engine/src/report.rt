@@ -1,31 +1,29 @@
 //! The report of a run, up to its text.
 
-ghost use Rattle.std.specs.Prelude.{◌≡◌, ◌+◌, ◌-◌, ◌^◌, ◌<◌, ◌≤◌, ◌++◌, ℕ, List, Some, length, IfOk, IfSome, OnOk, IsErrOf, true};
+ghost use Rattle.std.specs.Prelude.{◌≡◌, ◌+◌, ◌-◌, ◌^◌, ◌<◌, ◌≤◌, ◌++◌, ℕ, List, None, Some, length, IfOk, IfSome, OnOk, IsErrOf, true};
 ghost use Rattle.outside.specs.Causes.{Rose};
 ghost use Rattle.outside.specs.Held.{IsTaken};
-ghost use Rattle.report_rows.specs.Rows.{row_tree};
-ghost use Rattle.report_rows.specs.Trees.{IsTree};
 ghost use Rattle.size_options.specs.Answers.{HasInput, KeepsLimits};
 ghost use Rattle.bloaty_engine.specs.Answers.{EndsReport, ends_without, is_failed_read, is_refused_pattern};
-ghost use Rattle.bloaty_engine.specs.Counts.{filter_test};
-ghost use Rattle.bloaty_engine.specs.Named.{AreContents, AreFiles, AreHeld, Contents, file_names, name_at};
+ghost use Rattle.file_profile.specs.Counts.{filter_test};
+ghost use Rattle.bloaty_engine.specs.Named.{AreContents, AreFiles, AreHeld, Contents, file_names, name_at, other_names};
 ghost use Rattle.bloaty_engine.specs.Reading.{IsOverLimit, ReadsFirst, files_to_read, made_len, names_to_read, unmade_names};
-ghost use Rattle.bloaty_engine.specs.Report.{printed, row_options};
-ghost use Rattle.bloaty_engine.specs.Reports.{EndsCounting, IsUnmade};
+ghost use Rattle.bloaty_engine.specs.Reports.{EndsCounting, EndsFinding, IsUnmade};
 ghost use Rattle.bloaty_engine.specs.Steps.{EndsFiles, batch_of};
 ghost use Rattle.bloaty_engine.specs.Verdict.{total_limit};
 
-use crate::asked::Plan;
 use crate::files::{count_files, count_made, file_count};
 use crate::growth::growth_report;
 use crate::outcome::Outcome;
+use crate::pair::pair_report;
+use crate::place::place_report;
 use crate::request::{customs_of, plan_of};
+use crate::sizes::report_of;
 use custom_rewrites::Patterns;
+use file_profile::Plan;
 use outside::Files;
-use report_rows::{RowOptions, RowTree, rows};
-use report_text::{csv, text, tsv};
 use rollup::Rollup;
-use size_core::{Format, Limits, NoMemory};
+use size_core::Limits;
 use size_options::Options;
 use std::alloc::Global;
 
@@ -69,41 +67,6 @@ fn total_of<F: Files>(
     }
 }
 
-// Appends the text of a report's rows.
-#[tactic(auto, unfolding(crate::specs::Report::printed))]
-fn append(
-    alloc: Global,
-    options: &Options,
-    tree: &RowTree,
-    out: &mut Vec<u8>,
-) -> Result<(), NoMemory>
-    requires names { length options.now.sources ≡ tree.now.depth }
-    requires levels { IsTree tree.now.depth tree.now.rows }
-    ensures { OnOk result (out.new.items ≡ out.old.items ++ printed options.now tree.now) }
-{
-    match options.format {
-        Format::Text => text(alloc, tree, options.domain, options.wide, out),
-        Format::Csv => csv(alloc, tree, options.domain, &options.sources, out),
-        Format::Tsv => tsv(alloc, tree, options.domain, &options.sources, out),
-    }
-}
-
-// The report over the sizes of all files.
-fn report_of(alloc: Global, options: &Options, total: &Rollup) -> Result<Vec<u8>, NoMemory>
-    requires { length options.now.sources ≡ total.now.depth }
-    ensures { IfOk result (λ v. v.items ≡ printed options.now (row_tree (row_options options.now) total.now)) }
-{
-    let options_of_rows = RowOptions {
-        limit: options.limit,
-        sort: options.sort,
-        domain: options.domain,
-    };
-    let tree = rows(alloc, total, &options_of_rows)?;
-    let mut out = Vec::new(alloc);
-    append(alloc, options, &tree, &mut out)?;
-    Ok(out)
-}
-
 // Counts all files, and makes their report.
 fn report_of_files<F: Files>(
     alloc: Global,
@@ -116,12 +79,13 @@ fn report_of_files<F: Files>(
     requires depth { length options.now.sources ≡ length plan.now.sources }
     requires input { HasInput options.now.synth options.now.files }
     requires filter { plan.now.filter ≡ options.now.filter }
+    requires no_debug { options.now.debug ≡ None }
     ensures counted { (bytes : ℕ → List ℕ) × AreFiles (F.held files.old) options.now.synth options.now.files bytes
         × AreHeld (F.held files.old) (length (file_names options.now) + 1) options.now.bases bytes
         × EndsCounting limits.now plan.now.sources bytes options.now result }
     ensures failed { (k : ℕ) → IsErrOf result (Outcome.ReadFailed (k + 1)) → Rose (F.faults files.old) (F.faults files.new) × IfSome (F.last_failed files.new) (λ n. name_at options.now (k + 1) ≡ Some n) }
-    ensures asked { ReadsFirst (F.asked files.old) (F.asked files.new) (files_to_read options.now) }
-    ensures all { OnOk result (F.asked files.new ≡ F.asked files.old ++ files_to_read options.now) }
+    ensures asked { ReadsFirst (F.asked files.old) (F.asked files.new) (unmade_names options.now.synth options.now.files ++ options.now.bases) }
+    ensures all { OnOk result (F.asked files.new ≡ F.asked files.old ++ (unmade_names options.now.synth options.now.files ++ options.now.bases)) }
     ensures long { (i : ℕ) → IsErrOf result (Outcome.TooLong i) → IsOverLimit limits.now options.now.synth i (F.held files.old) (F.taken files.old) (F.taken files.new) }
     ensures later { F.faults files.old ≤ F.faults files.new }
     ensures uncounted { ends_without is_failed_read result ≡ true → F.faults files.new ≡ F.faults files.old }
@@ -135,6 +99,61 @@ fn report_of_files<F: Files>(
         return Ok(report_of(alloc, options, &total)?);
     }
     growth_report(alloc, options, plan, files, limits, &total, &mut lengths)
+}
+
+// The report of the files: of the one file with its debug file, or of all files.
+fn report_over_files<F: Files>(
+    alloc: Global,
+    options: &Options,
+    plan: &Plan,
+    files: &mut F,
+    limits: &Limits,
+) -> Result<Vec<u8>, Outcome>
+    requires limits { KeepsLimits options.now }
+    requires no_place { options.now.place ≡ None }
+    requires depth { length options.now.sources ≡ length plan.now.sources }
+    requires filter { plan.now.filter ≡ options.now.filter }
+    ensures found { (bytes : ℕ → List ℕ) × AreFiles (F.held files.old) options.now.synth options.now.files bytes
+        × AreHeld (F.held files.old) (length (file_names options.now) + 1) (other_names options.now) bytes
+        × EndsFinding limits.now plan.now.sources bytes options.now result }
+    ensures failed { (k : ℕ) → IsErrOf result (Outcome.ReadFailed (k + 1)) → Rose (F.faults files.old) (F.faults files.new) × IfSome (F.last_failed files.new) (λ n. name_at options.now (k + 1) ≡ Some n) }
+    ensures asked { ReadsFirst (F.asked files.old) (F.asked files.new) (files_to_read options.now) }
+    ensures all { OnOk result (F.asked files.new ≡ F.asked files.old ++ files_to_read options.now) }
+    ensures long { (i : ℕ) → IsErrOf result (Outcome.TooLong i) → IsOverLimit limits.now options.now.synth i (F.held files.old) (F.taken files.old) (F.taken files.new) }
+    ensures later { F.faults files.old ≤ F.faults files.new }
+    ensures uncounted { ends_without is_failed_read result ≡ true → F.faults files.new ≡ F.faults files.old }
+{
+    match &options.debug {
+        Some(debug) => pair_report(alloc, options, debug, plan, files, limits),
+        None => report_of_files(alloc, options, plan, files, limits),
+    }
+}
+
+// The report of what the options ask: of a place of the one file, or of the files.
+fn report_of_kind<F: Files>(
+    alloc: Global,
+    options: &Options,
+    plan: &Plan,
+    files: &mut F,
+    limits: &Limits,
+) -> Result<Vec<u8>, Outcome>
+    requires limits { KeepsLimits options.now }
+    requires depth { length options.now.sources ≡ length plan.now.sources }
+    requires filter { plan.now.filter ≡ options.now.filter }
+    ensures found { (bytes : ℕ → List ℕ) × AreFiles (F.held files.old) options.now.synth options.now.files bytes
+        × AreHeld (F.held files.old) (length (file_names options.now) + 1) (other_names options.now) bytes
+        × EndsFinding limits.now plan.now.sources bytes options.now result }
+    ensures failed { (k : ℕ) → IsErrOf result (Outcome.ReadFailed (k + 1)) → Rose (F.faults files.old) (F.faults files.new) × IfSome (F.last_failed files.new) (λ n. name_at options.now (k + 1) ≡ Some n) }
+    ensures asked { ReadsFirst (F.asked files.old) (F.asked files.new) (files_to_read options.now) }
+    ensures all { OnOk result (F.asked files.new ≡ F.asked files.old ++ files_to_read options.now) }
+    ensures long { (i : ℕ) → IsErrOf result (Outcome.TooLong i) → IsOverLimit limits.now options.now.synth i (F.held files.old) (F.taken files.old) (F.taken files.new) }
+    ensures later { F.faults files.old ≤ F.faults files.new }
+    ensures uncounted { ends_without is_failed_read result ≡ true → F.faults files.new ≡ F.faults files.old }
+{
+    match &options.place {
+        Some(place) => place_report(alloc, options, place, plan, files, limits),
+        None => report_over_files(alloc, options, plan, files, limits),
+    }
 }
 
 /// The text of the report that the options ask for.
@@ -157,5 +176,5 @@ pub fn report<F: Files, P: Patterns>(
 {
     let customs = customs_of(alloc, options, files, limits)?;
     let plan = plan_of(alloc, options, &customs, patterns)?;
-    report_of_files(alloc, options, &plan, files, limits)
+    report_of_kind(alloc, options, &plan, files, limits)
 }

@@ -4,17 +4,16 @@ ghost use Rattle.std.specs.Prelude.{◌≡◌, ◌<◌, ◌≤◌, ◌++◌, ℕ
 ghost use Rattle.outside.specs.Causes.{Rose};
 ghost use Rattle.bloaty_engine.specs.Answers.{ends_without, is_failed_read, is_refused_pattern};
 ghost use Rattle.bloaty_engine.specs.Named.{IsText};
-ghost use Rattle.bloaty_engine.specs.Plans.{EndsPlan, IsPlan};
+ghost use Rattle.file_profile.specs.Plans.{IsPlan};
 ghost use Rattle.bloaty_engine.specs.Reading.{IsOverLimit, config_names};
-ghost use Rattle.bloaty_engine.specs.Steps.{EndsConfig};
+ghost use Rattle.bloaty_engine.specs.Steps.{EndsConfig, EndsPlan};
 ghost use Rattle.bloaty_engine.specs.Verdict.{config_limit};
 
-use crate::asked::{Plan, PlanAnswer};
 use crate::files::read_file;
 use crate::outcome::Outcome;
-use crate::planning::plan;
 use config_text::{ConfigAnswer, CustomSource, parse};
 use custom_rewrites::Patterns;
+use file_profile::{Plan, PlanAnswer, plan};
 use outside::Files;
 use size_core::Limits;
 use size_options::Options;

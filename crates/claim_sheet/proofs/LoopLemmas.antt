@@ -1,5 +1,5 @@
 -- Loops over numbers, and over a list, that add what each gives.
-use Rattle.std.proofs.Common.{◌≡◌, ℕ, suc, ◌+◌, ◌-◌, ◌<◌, ◌≤◌, true, false, List, [], ◌∷◌, length, Result, Ok, Err, refl, sym, ap, ◌∙◌, arith}
+use Rattle.std.proofs.Common.{◌≡◌, ℕ, suc, ◌+◌, ◌-◌, ◌<◌, ◌≤◌, true, false, List, [], ◌∷◌, ◌++◌, length, Result, Ok, Err, refl, sym, ap, ◌∙◌, arith}
 use Rattle.std.specs.List.{flat_map}
 use Rattle.std.specs.Prelude.{IsOkAnd}
 use Rattle.size_core.specs.declared.fault.BadFile.{BadFile}
@@ -7,8 +7,8 @@ use Rattle.size_core.specs.Gather.{gather}
 use Rattle.size_core.proofs.Gathered.{gather_next, gather_end}
 use Rattle.size_model.specs.declared.view.LabelledClaim.{LabelledClaim}
 use Rattle.claim_sheet.specs.Read.{joined, read_each, read_list}
-use Rattle.claim_sheet.specs.Sheets.{Sheet, adding, adding_read, fresh}
-use Rattle.claim_sheet.proofs.SheetLemmas.{Ends, adding_none, adding_more, adding_ends, adding_limit}
+use Rattle.claim_sheet.specs.Sheets.{Sheet, adding, adding_read, fresh, fresh_on_addresses, read_on_addresses}
+use Rattle.claim_sheet.proofs.SheetLemmas.{adding_none, adding_more, adding_ends, adding_limit, all_taken, taken}
 
 module _ (f : ℕ → List LabelledClaim) where
   pub gather_goes : (s t : Sheet) (n i : ℕ) → i < n → t ≡ adding s (f i) → adding t (gather f (i + 1) (n - (i + 1))) ≡ adding s (gather f i (n - i))
@@ -83,26 +83,50 @@ joined_later s t (Err c) q b e bad = cc e
 pub joined_claims : (s t u : Sheet) (r : Reading) (xs : List LabelledClaim) → adding_read s r ≡ Ok t → u ≡ adding t xs → adding_read s (joined r (Ok xs)) ≡ Ok u
 joined_claims s t u r xs e made = read_joined s t r (Ok xs) e ∙ ap Ok (sym made)
 
--- what a sheet that began fresh holds in the end
+-- what a sheet that began empty holds in the end
 same-sheet : (t u : Sheet) (r : Result Sheet BadFile) → r ≡ Ok t → r ≡ Ok u → t ≡ u
 same-sheet t u r e f = cc (e, f)
 
-fresh-ends : (pool : List (List ℕ)) (limit : ℕ) (xs : List LabelledClaim) → Ends limit [] xs (adding (fresh pool limit) xs)
-fresh-ends pool limit xs = adding_ends (fresh pool limit) xs refl
+ended : (e s t : Sheet) (xs : List LabelledClaim) → s ≡ e → adding_read s (Ok xs) ≡ Ok t → t ≡ adding e xs
+ended e s t xs begun made = same-sheet t (adding e xs) (adding_read s (Ok xs)) made (ap (λ (u : Sheet). adding_read u (Ok xs)) begun)
 
+ended-limit : (e s t : Sheet) (r : Reading) → s ≡ e → adding_read s r ≡ Ok t → t.limit ≡ e.limit
+ended-limit e s t (Ok xs) begun made = ap (λ (u : Sheet). u.limit) (ended e s t xs begun made) ∙ adding_limit e xs
+ended-limit e s t (Err b) begun made = cc made
+
+ended-kept : (e s t : Sheet) (xs : List LabelledClaim) → e.over ≡ false → e.made ≡ [] → s ≡ e → adding_read s (Ok xs) ≡ Ok t → t.over ≡ false → t.made ≡ taken e.addresses_only xs
+ended-kept e s t xs started empty begun made within =
+    let same = ended e s t xs begun made in
+    ap (λ (u : Sheet). u.made) same ∙ (adding_ends e xs started).kept (sym (ap (λ (u : Sheet). u.over) same) ∙ within)
+    ∙ ap (λ (ys : List LabelledClaim). ys ++ taken e.addresses_only xs) empty
+
+ended-past : (e s t : Sheet) (xs : List LabelledClaim) → e.over ≡ false → e.made ≡ [] → s ≡ e → adding_read s (Ok xs) ≡ Ok t → t.over ≡ true → e.limit < length (taken e.addresses_only xs)
+ended-past e s t xs started empty begun made past =
+    let same = ended e s t xs begun made in
+    let more = (adding_ends e xs started).past (sym (ap (λ (u : Sheet). u.over) same) ∙ past) in omega (arith, ap length empty)
+
+-- one that takes each claim
 pub all_kept : (pool : List (List ℕ)) (limit : ℕ) (s t : Sheet) (r : Reading) → s ≡ fresh pool limit → adding_read s r ≡ Ok t → t.over ≡ false → r ≡ Ok t.made
-all_kept pool limit s t (Ok xs) begun e within =
-    let same : t ≡ adding (fresh pool limit) xs = same-sheet t (adding (fresh pool limit) xs) (adding_read s (Ok xs)) e (ap (λ (u : Sheet). adding_read u (Ok xs)) begun) in
-    ap Ok (sym (ap (λ (u : Sheet). u.made) same ∙ (fresh-ends pool limit xs).kept (sym (ap (λ (u : Sheet). u.over) same) ∙ within)))
+all_kept pool limit s t (Ok xs) begun e within = ap Ok (sym (ended-kept (fresh pool limit) s t xs refl refl begun e within ∙ all_taken xs))
 all_kept pool limit s t (Err b) begun e within = cc e
 
 pub too_many : (pool : List (List ℕ)) (limit : ℕ) (s t : Sheet) (r : Reading) → s ≡ fresh pool limit → adding_read s r ≡ Ok t → t.over ≡ true → IsOkAnd r (λ made. limit < length made)
 too_many pool limit s t (Ok xs) begun e past =
-    let same : t ≡ adding (fresh pool limit) xs = same-sheet t (adding (fresh pool limit) xs) (adding_read s (Ok xs)) e (ap (λ (u : Sheet). adding_read u (Ok xs)) begun) in
-    let more = (fresh-ends pool limit xs).past (sym (ap (λ (u : Sheet). u.over) same) ∙ past) in omega arith
+    let more = ended-past (fresh pool limit) s t xs refl refl begun e past in omega (arith, ap length (all_taken xs))
 too_many pool limit s t (Err b) begun e past = cc e
 
 pub same_limit : (pool : List (List ℕ)) (limit : ℕ) (s t : Sheet) (r : Reading) → s ≡ fresh pool limit → adding_read s r ≡ Ok t → t.limit ≡ limit
-same_limit pool limit s t (Ok xs) begun e =
-    ap (λ (u : Sheet). u.limit) (same-sheet t (adding (fresh pool limit) xs) (adding_read s (Ok xs)) e (ap (λ (u : Sheet). adding_read u (Ok xs)) begun)) ∙ adding_limit (fresh pool limit) xs
-same_limit pool limit s t (Err b) begun e = cc e
+same_limit pool limit s t r begun e = ended-limit (fresh pool limit) s t r begun e
+
+-- and one that takes those on addresses alone
+pub addresses_kept : (pool : List (List ℕ)) (limit : ℕ) (s t : Sheet) (r : Reading) → s ≡ fresh_on_addresses pool limit → adding_read s r ≡ Ok t → t.over ≡ false → read_on_addresses r ≡ Ok t.made
+addresses_kept pool limit s t (Ok xs) begun e within = ap Ok (sym (ended-kept (fresh_on_addresses pool limit) s t xs refl refl begun e within))
+addresses_kept pool limit s t (Err b) begun e within = cc e
+
+pub too_many_addresses : (pool : List (List ℕ)) (limit : ℕ) (s t : Sheet) (r : Reading) → s ≡ fresh_on_addresses pool limit → adding_read s r ≡ Ok t → t.over ≡ true
+    → IsOkAnd (read_on_addresses r) (λ made. limit < length made)
+too_many_addresses pool limit s t (Ok xs) begun e past = ended-past (fresh_on_addresses pool limit) s t xs refl refl begun e past
+too_many_addresses pool limit s t (Err b) begun e past = cc e
+
+pub same_address_limit : (pool : List (List ℕ)) (limit : ℕ) (s t : Sheet) (r : Reading) → s ≡ fresh_on_addresses pool limit → adding_read s r ≡ Ok t → t.limit ≡ limit
+same_address_limit pool limit s t r begun e = ended-limit (fresh_on_addresses pool limit) s t r begun e

@@ -1,7 +1,8 @@
 -- What a claim covers, and how its label is written.
-use Rattle.std.specs.Prelude.{ℕ, ◌-◌, ◌==◌, ◌&&◌, min, Bool, List, [], ◌∷◌, ◌++◌, codes, Option, None, Some, if◌then◌else◌}
+use Rattle.std.specs.Prelude.{ℕ, ◌-◌, ◌==◌, ◌&&◌, min, Bool, true, false, List, [], ◌∷◌, ◌++◌, codes, Option, None, Some, if◌then◌else◌}
 use Rattle.size_core.specs.declared.claim.Load.{Load}
 use Rattle.size_core.specs.declared.claim.Span.{Span}
+use Rattle.size_core.specs.declared.claim.Side.{Side}
 use Rattle.size_core.specs.declared.claim.Side.TheVariants.{File, Vm, Both}
 use Rattle.size_model.specs.declared.view.LabelledClaim.{LabelledClaim}
 use Rattle.size_model.specs.Loads.{load_len}
@@ -37,6 +38,12 @@ of_addresses l = in_memory (span l.space l.vaddr l.memsz)
 -- no byte is covered
 abbrev pub is_empty : Reach → Bool
 is_empty r = (r.vm.len == 0) && (r.file.len == 0)
+
+-- addresses alone are covered, and no bytes of the file
+abbrev pub is_on_addresses : Side → Bool
+is_on_addresses Vm = true
+is_on_addresses File = false
+is_on_addresses Both = false
 
 -- the claim that covers these bytes
 abbrev pub claim_of : Reach → List ℕ → LabelledClaim

@@ -3,12 +3,12 @@
 ghost use Rattle.std.specs.Prelude.{◌≡◌, ◌≤◌, true, false, length, OnOk, OnErr, IfOk, MatchResult};
 ghost use Rattle.claim_sheet.specs.Made.{AreNumbered, AreUsed, KeepsLabels, texts};
 ghost use Rattle.claim_sheet.specs.Reaches.{claim_on, claim_on_some, wrapped};
-ghost use Rattle.claim_sheet.specs.Sheets.{adding, fresh};
+ghost use Rattle.claim_sheet.specs.Sheets.{adding, fresh, fresh_on_addresses, is_taken};
 
 use crate::labels::Wrap;
 use crate::making::push_wrapped;
 use crate::reach::Reach;
-use size_core::{Claim, LabelPool, NoMemory};
+use size_core::{Claim, LabelPool, NoMemory, Side};
 use std::alloc::Global;
 use std::marker::Model;
 use std::mem::replace;
@@ -27,6 +27,8 @@ pub struct ClaimSheet {
     first: usize,
     claims: Vec<Claim>,
     limit: u64,
+    // Whether only the claims on addresses alone are taken.
+    addresses_only: bool,
     over: bool,
 }
 
@@ -37,13 +39,23 @@ impl Model for ClaimSheet {
 
     ghost Value = { Sheet };
 
-    ghost view = { λ s. record { pool = take s.first s.pool; limit = s.limit; made = texts s.pool s.claims.items; over = s.over } };
+    ghost view = { λ s. record { pool = take s.first s.pool; limit = s.limit; addresses_only = s.addresses_only; made = texts s.pool s.claims.items; over = s.over } };
 
     ghost invariant = { λ s. IsSheet s.pool s.first s.claims.items s.limit };
 }
 
+// Whether a sheet that takes all claims, or only those on addresses alone, takes one on this side.
+fn is_taken(addresses_only: bool, side: Side) -> bool
+    ensures { result ≡ is_taken addresses_only side }
+{
+    match side {
+        Side::Vm => true,
+        Side::File | Side::Both => !addresses_only,
+    }
+}
+
 impl ClaimSheet {
-    /// A sheet with no claims. It has the pool's labels until it is finished.
+    /// A sheet with no claims, which takes each. It has the pool's labels until it is finished.
     pub fn begin(alloc: Global, pool: &mut LabelPool, limit: u64) -> ClaimSheet
         ensures { result ≡ fresh pool.old limit }
     {
@@ -55,17 +67,31 @@ impl ClaimSheet {
             first,
             claims: Vec::new(alloc),
             limit,
+            addresses_only: false,
             over: false,
         }
     }
 
-    /// Adds the claim on these bytes under this label, where there is a byte.
+    /// A sheet with no claims, which takes those on addresses alone: the others are left out, with their labels, and
+    /// don't count. It has the pool's labels until it is finished.
+    pub fn begin_on_addresses(alloc: Global, pool: &mut LabelPool, limit: u64) -> ClaimSheet
+        ensures { result ≡ fresh_on_addresses pool.old limit }
+    {
+        let mut sheet = ClaimSheet::begin(alloc, pool, limit);
+        sheet.addresses_only = true;
+        sheet
+    }
+
+    /// Adds the claim on these bytes under this label, where there is a byte and the sheet takes it.
     pub fn add(&mut self, reach: Reach, wrap: Wrap, label: &[u8]) -> Result<(), NoMemory>
         ensures made { OnOk result (self.new ≡ adding self.old (claim_on reach (wrapped wrap label.now))) }
         ensures same { OnErr result (self.new ≡ self.old) }
         ensures kept { self.new.pool ≡ self.old.pool }
     {
         if reach.is_empty() {
+            return Ok(());
+        }
+        if !is_taken(self.addresses_only, reach.side) {
             return Ok(());
         }
         if self.claims.len() as u64 >= self.limit {

@@ -41,3 +41,20 @@ fn claims_up_to_a_limit(rt: HostRuntime) -> Result<(), Fail> {
     }
     Ok(())
 }
+
+#[test]
+fn claims_on_addresses_alone(rt: HostRuntime) -> Result<(), Fail> {
+    let alloc = rt.alloc();
+    let file = span(0, 7, 3);
+    let vm = span(0, 9, 2);
+    let mut pool = LabelPool::new(alloc);
+    let mut sheet = ClaimSheet::begin_on_addresses(alloc, &mut pool, 1);
+    sheet.add(Reach::in_file(file), Wrap::Plain, b"file")?;
+    sheet.add(Reach::in_memory(vm), Wrap::Plain, b"vm")?;
+    sheet.add(Reach::in_both(vm, file), Wrap::Plain, b"both")?;
+    let made = sheet.finish(&mut pool)?;
+    assert_eq!(rt; (made.len(), pool.len()), (1, 1));
+    assert_eq!(rt; (made[0].side, made[0].vm), (Side::Vm, vm));
+    assert!(rt; pool.get(0) == b"vm".as_slice());
+    Ok(())
+}

@@ -2,7 +2,7 @@
 use Rattle.std.proofs.Common.{◌≡◌, ◌∙◌, ℕ, Bool, true, false, List, Ok, Err, ap, refl}
 use Rattle.std.specs.Prelude.{Result, if◌then◌else◌}
 use Rattle.size_core.specs.declared.fault.BadFile.{BadFile}
-use Rattle.size_core.specs.Checks.{◌>>=◌, ◌>>◌, Check, bad, first_of}
+use Rattle.size_core.specs.Checks.{◌>>=◌, ◌>>◌, Check, first_of}
 use Rattle.elf_file.specs.ElfChecks.{elf_checks, opened as opened_elf}
 use Rattle.macho_file.specs.Checks.{macho_checks, opened as opened_macho}
 use Rattle.wasm_file.specs.Module.{module_checks, opened as opened_wasm}

@@ -1,5 +1,5 @@
 -- The claims of a data source, in order, or its first fault: one table for every format.
-use Rattle.std.specs.Prelude.{ℕ, List, ◌++◌, length, Ok}
+use Rattle.std.specs.Prelude.{ℕ, List, [], ◌++◌, length, Ok}
 use Rattle.std.specs.Option.{option_map}
 use Rattle.size_core.specs.declared.source.Source.{Source}
 use Rattle.size_core.specs.declared.source.Source.TheVariants.{Segments, Sections, Symbols, RawSymbols, CompileUnits, Inlines, InputFiles}
@@ -9,6 +9,7 @@ use Rattle.claim_sheet.specs.declared.labels.Wrap.{Wrap}
 use Rattle.claim_sheet.specs.declared.labels.Wrap.TheVariants.{Plain, Brackets, Section}
 use Rattle.claim_sheet.specs.Reaches.{claim_on, claim_on_some, in_file, of_addresses, span}
 use Rattle.claim_sheet.specs.Read.{joined}
+use Rattle.claim_sheet.specs.Sheets.{read_on_addresses}
 use Rattle.data_sources.specs.declared.binary.Binary.{Binary}
 use Rattle.data_sources.specs.Groups.{Groups, Reading, groups_of}
 
@@ -53,3 +54,14 @@ source_claims Inlines name g = with_tail g.lines g
 -- the claims of a data source on a file of this name that was opened
 abbrev pub claims_of : Source → List ℕ → Binary → Reading
 claims_of source name binary = source_claims source name (groups_of binary)
+
+-- the records that a data source shows of a debug file: none where it shows the parts of the file itself
+abbrev pub debug_records : Source → Groups → Reading
+debug_records Segments g = Ok []
+debug_records Sections g = Ok []
+debug_records InputFiles g = Ok []
+debug_records source g = records_of source g
+
+-- the claims of a data source on a debug file that was opened: those of its records that are on addresses alone
+abbrev pub debug_claims_of : Source → Binary → Reading
+debug_claims_of source binary = read_on_addresses (debug_records source (groups_of binary))

@@ -4,6 +4,7 @@
 
 mod answer;
 mod binary;
+mod debug_listing;
 mod groups;
 mod listing;
 mod loads;
@@ -11,6 +12,7 @@ mod whole;
 
 pub use answer::ClaimAnswer;
 pub use binary::{Binary, open_binary};
+pub use debug_listing::debug_claims;
 pub use listing::claims;
 pub use loads::{load_at, load_slots, loads_of};
 

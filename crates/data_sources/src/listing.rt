@@ -49,8 +49,8 @@ fn add_behind(
     add_loads(alloc, binary, Wrap::Brackets, sheet)
 }
 
-// Adds the claims of the records that a data source shows before all else, or tells their first fault.
-fn add_records(
+/// Adds the claims of the records that a data source shows before all else, or tells their first fault.
+pub fn add_records(
     alloc: Global,
     binary: &Binary<'_>,
     source: Source,

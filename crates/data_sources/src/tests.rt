@@ -1,7 +1,7 @@
 ghost use Rattle.std.specs.Prelude.{◌≡◌, ◌+◌, ◌≤◌, length};
 
-use crate::{ClaimAnswer, claims, load_at, load_slots, open_binary};
-use size_core::{BadFile, Fault, LabelPool, Load, Source};
+use crate::{ClaimAnswer, claims, debug_claims, load_at, load_slots, open_binary};
+use size_core::{BadFile, Fault, LabelPool, Load, Side, Source, Span};
 use std::test::Fail;
 
 /// Writes bytes over those from an offset on.
@@ -132,6 +132,87 @@ fn claims_of_a_macho_file(rt: HostRuntime) -> Result<(), Fail> {
     ];
     for (i, label) in behind.iter().enumerate() {
         assert!(rt; i + 1 < pool.len() && pool.get(i + 1) == *label);
+    }
+    Ok(())
+}
+
+/// An ELF file with the unit `a.c` at 64, its abbreviations at 92, and a table of symbols whose second one, at 128, is
+/// the function `f`.
+fn debug_file() -> [u8; 576] {
+    let mut file = [0; 576];
+    put(&mut file, 0, b"\x7fELF\x02\x01\x01");
+    put(&mut file, 16, b"\x02\0\x3e");
+    put(&mut file, 41, b"\x01");
+    put(&mut file, 58, b"\x40\0\x05\0\x03");
+    put(&mut file, 64, b"\x18\0\0\0\x04\0\0\0\0\0\x08\x01a.c");
+    put(&mut file, 80, b"\0\x10\x40\0\0\0\0\0\x20");
+    put(&mut file, 92, b"\x01\x11\0\x03\x08\x11\x01\x12\x06");
+    put(
+        &mut file,
+        128,
+        b"\x01\0\0\0\x12\0\x01\0\x04\x10\x40\0\0\0\0\0\x08",
+    );
+    put(&mut file, 152, b"\0f\0.debug_info\0.debug_abbrev");
+    put(&mut file, 320, b"\x03\0\0\0\x01");
+    put(&mut file, 344, b"\x40\0\0\0\0\0\0\0\x1c");
+    put(&mut file, 384, b"\x0f\0\0\0\x01");
+    put(&mut file, 408, b"\x5c\0\0\0\0\0\0\0\x0c");
+    put(&mut file, 452, b"\x03");
+    put(&mut file, 472, b"\x98\0\0\0\0\0\0\0\x1d");
+    put(&mut file, 516, b"\x02");
+    put(&mut file, 536, b"\x68\0\0\0\0\0\0\0\x30\0\0\0\0\0\0\0\x03");
+    file
+}
+
+#[test]
+fn claims_of_a_debug_file(rt: HostRuntime) -> Result<(), Fail> {
+    let alloc = rt.alloc();
+    let file = debug_file();
+    let binary = open_binary(&file)?;
+    for (source, label, start, len) in [
+        (Source::Symbols, b"f".as_slice(), 0x401004, 8),
+        (Source::RawSymbols, b"f", 0x401004, 8),
+        (Source::CompileUnits, b"a.c", 0x401000, 0x20),
+    ] {
+        let mut pool = LabelPool::new(alloc);
+        let few = debug_claims(alloc, &binary, source, &mut pool, 0);
+        assert_eq!(rt; few.err(), Some(ClaimAnswer::TooManyClaims));
+        let made = debug_claims(alloc, &binary, source, &mut pool, 1)?;
+        assert_eq!(rt; made.len(), 1);
+        let vm = Span {
+            space: 0,
+            start,
+            len,
+        };
+        assert_eq!(rt; (made[0].side, made[0].vm), (Side::Vm, vm));
+        assert!(rt; pool.len() == 1 && pool.get(0) == label);
+    }
+    Ok(())
+}
+
+#[test]
+fn faults_of_a_debug_file(rt: HostRuntime) -> Result<(), Fail> {
+    let alloc = rt.alloc();
+    let mut file = debug_file();
+    // The function's name has no end.
+    put(&mut file, 128, b"\x1d");
+    let binary = open_binary(&file)?;
+    let bad = ClaimAnswer::Bad(BadFile {
+        fault: Fault::NameOutside,
+        offset: 128,
+    });
+    for (source, fault) in [
+        (Source::Symbols, Some(bad)),
+        (Source::CompileUnits, None),
+        (Source::Inlines, None),
+        (Source::Segments, None),
+        (Source::Sections, None),
+        (Source::InputFiles, None),
+    ] {
+        let mut pool = LabelPool::new(alloc);
+        let made = debug_claims(alloc, &binary, source, &mut pool, 1);
+        assert_eq!(rt; made.err(), fault);
+        assert_eq!(rt; pool.len() > 0, source == Source::CompileUnits);
     }
     Ok(())
 }

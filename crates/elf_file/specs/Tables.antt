@@ -60,6 +60,10 @@ segment_at file i = let place = segment_place file i in record {
   memsz = word file place 20 40;
 }
 
+-- the bytes of segment i, cut at the file's end
+unfoldable pub segment_bytes : List ℕ → ℕ → List ℕ
+segment_bytes file i = take (segment_at file i).filesz (drop (segment_at file i).offset file)
+
 -- What the file's header says, with the two counts (gABI, ELF Header).
 unfoldable pub header_of : List ℕ → ElfHeader
 header_of file = record {

@@ -11,6 +11,9 @@ pub const EM_ARM: u16 = 40;
 /// A section header that stands for no section (`sh_type`).
 pub const SHT_NULL: u32 = 0;
 
+/// A section of notes (`sh_type`).
+pub const SHT_NOTE: u32 = 7;
+
 /// A section that has no bytes in the file (`sh_type`).
 pub const SHT_NOBITS: u32 = 8;
 
@@ -38,6 +41,9 @@ pub const SHN_XINDEX: u16 = 0xffff;
 /// A segment that is loaded (`p_type`).
 pub const PT_LOAD: u32 = 1;
 
+/// A segment of notes (`p_type`).
+pub const PT_NOTE: u32 = 4;
+
 /// A segment that may be executed (`p_flags`).
 pub const PF_X: u32 = 1;
 
@@ -59,6 +65,7 @@ pub fn header_numbers()
 /// A law: the numbers of sections (ELF gABI, Sections: Special Section Indexes, Section Types, Section Attribute Flags).
 pub fn section_numbers()
     ensures null { SHT_NULL ≡ 0 }
+    ensures note { SHT_NOTE ≡ 7 }
     ensures nobits { SHT_NOBITS ≡ 8 }
     ensures write { SHF_WRITE ≡ 0x1 }
     ensures alloc { SHF_ALLOC ≡ 0x2 }
@@ -72,6 +79,7 @@ pub fn section_numbers()
 /// A law: the numbers of segments (ELF gABI, Program Header: Segment Types, Segment Flag Bits; ELF Header: `e_phnum`).
 pub fn segment_numbers()
     ensures load { PT_LOAD ≡ 1 }
+    ensures note { PT_NOTE ≡ 4 }
     ensures x { PF_X ≡ 1 }
     ensures w { PF_W ≡ 2 }
     ensures r { PF_R ≡ 4 }

@@ -3,7 +3,7 @@
 ghost use Rattle.std.specs.Prelude.{◌≡◌, ◌<◌, ◌^◌, length, MatchResult, OnOk};
 ghost use Rattle.size_core.specs.Checks.{AllHold, IsFirstFault};
 ghost use Rattle.elf_file.specs.Layout.{encoding_of};
-ghost use Rattle.elf_file.specs.Tables.{header_of, section_at, section_bytes, section_count, segment_at, segment_count};
+ghost use Rattle.elf_file.specs.Tables.{header_of, section_at, section_bytes, section_count, segment_at, segment_bytes, segment_count};
 ghost use Rattle.elf_file.specs.Names.{name_of, section_named};
 ghost use Rattle.elf_file.specs.ElfChecks.{elf_checks, opened};
 ghost use Rattle.elf_file.specs.WellFormed.{IsWellFormed};
@@ -16,7 +16,7 @@ use crate::names::{name_of, name_table, names_of, sections_have_names};
 use crate::section::Section;
 use crate::sections::{encoding, section_bytes, section_of_table, section_table, sections_fit};
 use crate::segment::Segment;
-use crate::segments::{segment_of_table, segment_table, segments_fit};
+use crate::segments::{segment_bytes, segment_of_table, segment_table, segments_fit};
 use size_core::BadFile;
 use std::marker::Model;
 
@@ -156,6 +156,14 @@ impl<'a> ElfFile<'a> {
         ensures { result.now ≡ section_bytes self.now i }
     {
         section_bytes(self.file, self.encoding, self.sections, i)
+    }
+
+    /// The bytes of a segment: those from its file offset on, as many as it has in the file, cut at the file's end.
+    pub fn segment_bytes(&self, i: u32) -> &'a [u8]
+        requires { i < segment_count self.now }
+        ensures { result.now ≡ segment_bytes self.now i }
+    {
+        segment_bytes(self.file, self.encoding, self.segments, i)
     }
 
     /// The number of the first section of this name. `None` where no section but the first and those of type

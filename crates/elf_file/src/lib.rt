@@ -14,9 +14,9 @@ mod segment;
 mod segments;
 
 pub use constants::{
-    EM_ARM, ET_REL, PF_R, PF_W, PF_X, PN_XNUM, PT_LOAD, SHF_ALLOC, SHF_COMPRESSED, SHF_EXECINSTR,
-    SHF_TLS, SHF_WRITE, SHN_LORESERVE, SHN_XINDEX, SHT_NOBITS, SHT_NULL, header_numbers,
-    section_numbers, segment_numbers,
+    EM_ARM, ET_REL, PF_R, PF_W, PF_X, PN_XNUM, PT_LOAD, PT_NOTE, SHF_ALLOC, SHF_COMPRESSED,
+    SHF_EXECINSTR, SHF_TLS, SHF_WRITE, SHN_LORESERVE, SHN_XINDEX, SHT_NOBITS, SHT_NOTE, SHT_NULL,
+    header_numbers, section_numbers, segment_numbers,
 };
 pub use fields::Encoding;
 pub use file::ElfFile;

@@ -1,7 +1,7 @@
 //! The table of segments.
 
 ghost use Rattle.std.specs.Prelude.{◌≡◌, ◌+◌, ◌≤◌, ◌<◌, ◌^◌, length, IfOk};
-ghost use Rattle.elf_file.specs.Tables.{segment_at, segment_count};
+ghost use Rattle.elf_file.specs.Tables.{segment_at, segment_bytes, segment_count};
 ghost use Rattle.elf_file.specs.ElfChecks.{checked, segment_table_checks, segment_fits};
 ghost use Rattle.elf_file.specs.Known.{HasSections, HasSegment, HasSegments, segments_fit};
 
@@ -72,6 +72,20 @@ pub fn segment_of_table(file: &[u8], encoding: Encoding, segments: u32, i: u32) 
         filesz: encoding.word(file, place, 16, 32),
         memsz: encoding.word(file, place, 20, 40),
     }
+}
+
+/// The bytes of a segment of a table that lies in the file, cut at the file's end.
+#[tactic(auto, unfolding(crate::specs::Tables::segment_bytes))]
+pub fn segment_bytes<'a>(file: &'a [u8], encoding: Encoding, segments: u32, i: u32) -> &'a [u8]
+    requires table { HasSegments file.now encoding segments }
+    requires index { i < segments }
+    ensures { result.now ≡ segment_bytes file.now i }
+{
+    let segment = segment_of_table(file, encoding, segments, i);
+    let len = file.len() as u64;
+    let start = segment.offset.min(len);
+    let size = segment.filesz.min(len - start);
+    &file[start as usize..(start + size) as usize]
 }
 
 /// The addresses of a loaded segment lie below 2^64.

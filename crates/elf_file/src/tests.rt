@@ -108,6 +108,7 @@ fn tables_of_a_plain_file(rt: HostRuntime) {
     assert_eq!(rt; (load.place, load.kind, load.flags), (64, 1, 5));
     assert_eq!(rt; (load.offset, load.vaddr), (0, 0x400000));
     assert_eq!(rt; (load.filesz, load.memsz), (136, 136));
+    assert_eq!(rt; elf.segment_bytes(0).len(), 136);
     assert_eq!(rt; elf.find(b".shstrtab"), Some(2));
     assert_eq!(rt; elf.find(b""), None);
     assert_eq!(rt; elf.bytes().len(), 352);

@@ -1,5 +1,5 @@
 -- Worked texts of growths.
-use Rattle.std.specs.Prelude.{◌≡◌, ◌-◌, ◌^◌, ℕ, false, List, [], ◌∷◌, ◌++◌, codes}
+use Rattle.std.specs.Prelude.{◌≡◌, ◌-◌, ◌^◌, ℕ, false, [], ◌∷◌, ◌++◌, codes}
 use Rattle.size_core.specs.declared.choices.Domain.TheVariants.{File, Both}
 use Rattle.size_growth.specs.declared.growth.GrowthSizes.{GrowthSizes}
 use Rattle.size_growth.specs.declared.row.GrowthKind.TheVariants.{Label, Others}

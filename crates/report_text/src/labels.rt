@@ -53,8 +53,8 @@ fn push_ends(out: &mut Vec<u8>, text: &[u8]) -> Result<(), NoMemory>
     Ok(())
 }
 
-// Adds a text, shortened unless it is wanted whole.
-fn push_shortened(out: &mut Vec<u8>, text: &[u8], wide: bool) -> Result<(), NoMemory>
+/// Adds a text, shortened unless it is wanted whole.
+pub fn push_shortened(out: &mut Vec<u8>, text: &[u8], wide: bool) -> Result<(), NoMemory>
     ensures { OnOk result (out.new.items ≡ out.old.items ++ escaped (shortened wide text.now)) }
 {
     if wide || text.len() <= 60 {

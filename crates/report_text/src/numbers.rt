@@ -7,8 +7,8 @@ use crate::pieces::push;
 use itoa::Buffer;
 use size_core::NoMemory;
 
-// Adds a number in decimal.
-fn push_decimal(out: &mut Vec<u8>, n: u128) -> Result<(), NoMemory>
+/// Adds a number in decimal.
+pub fn push_decimal(out: &mut Vec<u8>, n: u128) -> Result<(), NoMemory>
     ensures { OnOk result (out.new.items ≡ out.old.items ++ decimal n) }
 {
     let mut buffer = Buffer::new();

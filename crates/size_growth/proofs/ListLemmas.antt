@@ -1,19 +1,15 @@
 -- Rows are listed item by item.
-use Rattle.std.proofs.Common.{◌≡◌, ℕ, suc, ◌+◌, ◌-◌, ◌<◌, ◌≤◌, List, [], ◌∷◌, ◌++◌, length, take, drop, get_or, map, refl, sym, ap, ◌∙◌, arith, Some}
-use Rattle.std.specs.Prelude.{All, slice_get}
-use Rattle.std.specs.List.{flat_map}
-use Rattle.std.proofs.lemmas.List.{append-nil, append_assoc, flat_map_more, map_more, get_or-map, get_or_default}
+use Rattle.std.proofs.Common.{◌≡◌, ℕ, ◌-◌, ◌<◌, List, [], ◌∷◌, ◌++◌, length, take, drop, refl, ap, ◌∙◌, arith}
+use Rattle.std.specs.Prelude.{All}
 use Rattle.std.proofs.lemmas.List.Elements.{All-take, All-drop}
-use Rattle.std.proofs.lemmas.Option.{get_or_from_slice_get}
 use Rattle.report_rows.specs.declared.row.RowOptions.{RowOptions}
 use Rattle.size_growth.specs.declared.growth.GrowthPath.{GrowthPath}
 use Rattle.size_growth.specs.declared.growth.GrowthSizes.{GrowthSizes}
-use Rattle.size_growth.specs.declared.items.Item.{Item}
 use Rattle.size_growth.specs.declared.row.GrowthRow.{GrowthRow}
 use Rattle.size_growth.specs.declared.row.GrowthTree.{GrowthTree}
-use Rattle.size_growth.specs.Items.{IsPart, item_entry, labels_at, mid}
+use Rattle.size_growth.specs.Items.{IsPart}
 use Rattle.size_growth.specs.Paths.{IsGrowth, sums}
-use Rattle.size_growth.specs.Rows.{Entry, entries_of, growth_tree, listing, row_of}
+use Rattle.size_growth.specs.Rows.{growth_tree, listing}
 use Rattle.size_growth.specs.Runs.{table_at}
 use Rattle.size_growth.proofs.SumLemmas.{fits_part}
 

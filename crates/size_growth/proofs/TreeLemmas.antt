@@ -25,7 +25,7 @@ use Rattle.size_growth.specs.Paths.{sums}
 use Rattle.size_growth.specs.Rows.{Entry, label_entry, others_entry, by_key, is_child, children, entries_of, row_of, listing, growth_tree}
 use Rattle.size_growth.specs.Runs.{Under, first_label, joined, path_from, runs}
 use Rattle.size_growth.specs.Sizes.{sums_by}
-use Rattle.size_growth.specs.Trees.{side_kind, new_row, base_row, GrowthsAddUp, HasGrowths, GrowsAlike}
+use Rattle.size_growth.specs.Trees.{side_kind, new_row, base_row, HasGrowths, GrowsAlike}
 
 -- each path has so many labels
 abbrev pub AreOf : ℕ → List GrowthPath → Type 0

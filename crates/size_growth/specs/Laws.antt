@@ -1,14 +1,17 @@
--- What follows of paths in order.
+-- What follows of paths in order, and of the paths of a growth.
 use Rattle.std.specs.Prelude.{◌≡◌, ◌<◌, ℕ, List, All, length, map, if◌then◌else◌}
 use Rattle.std.specs.Cmp.Lexicographic.{slice_cmp}
 use Rattle.std.specs.List.{sum_by}
 use Rattle.std.specs.List.Sorted.{IsStrictlySortedBy}
 use Rattle.std.specs.Ordering.{nat_cmp}
 use Rattle.std.specs.Str.{bytes_eq}
+use Rattle.report_rows.specs.declared.row.RowOptions.{RowOptions}
 use Rattle.size_growth.specs.declared.growth.GrowthPath.{GrowthPath}
 use Rattle.size_growth.specs.declared.growth.GrowthSizes.{GrowthSizes}
-use Rattle.size_growth.specs.Paths.{growth_cmp}
+use Rattle.size_growth.specs.Paths.{IsGrowth, growth_cmp}
+use Rattle.size_growth.specs.Rows.{growth_tree}
 use Rattle.size_growth.specs.Runs.{Under, first_label, runs}
+use Rattle.size_growth.specs.Trees.{GrowsAlike}
 
 -- a size of the paths that begin with a label
 abbrev pub size_from : (GrowthSizes → ℕ) → List ℕ → List GrowthPath → ℕ
@@ -30,3 +33,7 @@ pub record AreLabels (paths : List GrowthPath) : Type 0 where
 
 abbrev pub LabelsStandOnce : Type 0
 LabelsStandOnce = (paths : List GrowthPath) → IsStrictlySortedBy growth_cmp paths → All (λ (p : GrowthPath). 0 < length p.path) paths → AreLabels paths
+
+-- in the rows of every growth the growths of each shown size add up
+abbrev pub GrowsInAllTrees : Type 0
+GrowsInAllTrees = (options : RowOptions) (depth : ℕ) (paths : List GrowthPath) → IsGrowth depth paths → GrowsAlike options.domain (growth_tree options depth paths)

@@ -11,7 +11,7 @@ mod listing;
 mod row;
 
 pub use growth::{Growth, GrowthPath, GrowthSizes};
-pub use laws::labels_stand_once;
+pub use laws::{growths_add_up, labels_stand_once};
 pub use listing::growth_rows;
 pub use row::{GrowthKind, GrowthRow, GrowthRows, GrowthTree};
 

@@ -9,12 +9,16 @@ use Rattle.clap.specs.Words.{Text}
 use Rattle.size_options.specs.Answers.{IsRefusalOf, IsUnread, IsUnreadAnswer, IsUsageOf, word_errors}
 use Rattle.size_options.specs.Asked.{asked, first_usage, given_by, options_in, unless_usage, usage_tests}
 use Rattle.size_options.specs.Given.{GivenTexts}
-use Rattle.size_options.specs.Words.{base_words, ends_in_mark, is_mark, mark_at, profile_words}
+use Rattle.size_options.specs.Words.{base_words, ends_in_mark, has_mark, is_mark, mark_at, profile_words}
 use Rattle.size_options.specs.declared.answer.OptionAnswer.{OptionAnswer}
 use Rattle.size_options.specs.declared.answer.OptionAnswer.TheVariants.{Usage, NoMemory}
 use Rattle.size_options.specs.declared.answer.UsageKind.{UsageKind}
-use Rattle.size_options.specs.declared.answer.UsageKind.TheVariants.{Words, BadNumber, BadSort, BadDomain, TwoFormats, BadSourceList, NoFile, SynthWithFile, NoBase}
+use Rattle.size_options.specs.declared.answer.UsageKind.TheVariants.{Words, BadNumber, BadSort, BadDomain, TwoFormats, BadSourceList, NoFile, SynthWithFile, NoBase, DebugFile, BadPlace, TwoPlaces, PlaceFile}
 use Rattle.size_options.specs.declared.chosen.Options.{Options}
+
+-- the first kind of misuse that the tests find in the words
+abbrev pub first_of_words : List Text → Option UsageKind
+first_of_words words = first_usage (usage_tests (given_by words) (ends_in_mark words) (has_mark words))
 
 drop_within : {X : Type 0} (k : ℕ) (xs : List X) → drop (min k (length xs)) xs ≡ drop k xs
 drop_within k xs = go (nat_le k (length xs)) refl
@@ -53,10 +57,16 @@ module _ {X : Type 0} (f : X → Text) where
 
   -- what the tests say of the values that are read, they say of the words
   pub first_is : (xs : List X) (n : ℕ) (g : GivenTexts) (found : Option UsageKind) → n ≡ mark_at (map f xs) → g ≡ given_by (map f xs)
-      → found ≡ first_usage (usage_tests g (n + 1 == length xs)) → found ≡ first_usage (usage_tests (given_by (map f xs)) (ends_in_mark (map f xs)))
+      → found ≡ first_usage (usage_tests g (n + 1 == length xs) (nat_lt n (length xs))) → found ≡ first_of_words (map f xs)
   first_is xs n g found at given is =
-      is ∙ ap (λ (x : GivenTexts). first_usage (usage_tests x (n + 1 == length xs))) given
-      ∙ ap₂ (λ (k l : ℕ). first_usage (usage_tests (given_by (map f xs)) (k + 1 == l))) at (sym (length-map xs f))
+      is ∙ ap (λ (x : GivenTexts). first_usage (usage_tests x (n + 1 == length xs) (nat_lt n (length xs)))) given
+      ∙ ap₂ (λ (k l : ℕ). first_usage (usage_tests (given_by (map f xs)) (k + 1 == l) (nat_lt k l))) at (sym (length-map xs f))
+
+  -- where no word is a mark, none stands behind one
+  pub none_behind : (xs : List X) (n : ℕ) → n ≡ mark_at (map f xs) → nat_lt n (length xs) ≡ false → base_words (map f xs) ≡ []
+  none_behind xs n is none =
+      let beyond : length xs ≤ n = grind (arith, nat_tests) in
+      drop_of_length-le (map f xs) (omega (arith, length-map xs f))
 
   -- the words behind the mark, also where there is none
   pub words_behind : (xs : List X) (n : ℕ) → n ≡ mark_at (map f xs) → map f (drop (min (n + 1) (length xs)) xs) ≡ base_words (map f xs)
@@ -79,6 +89,10 @@ unread_usage words before is BadSourceList h = absurd h
 unread_usage words before is NoFile h = absurd h
 unread_usage words before is SynthWithFile h = absurd h
 unread_usage words before is NoBase h = absurd h
+unread_usage words before is DebugFile h = absurd h
+unread_usage words before is BadPlace h = absurd h
+unread_usage words before is TwoPlaces h = absurd h
+unread_usage words before is PlaceFile h = absurd h
 
 pub refusal_is : (words before : List Text) → before ≡ profile_words words → (e : OptionAnswer) → IsUnreadAnswer before e → IsRefusalOf words e
 refusal_is words before is NoMemory h = tt
@@ -106,8 +120,8 @@ first_other [] k all h = cc
 first_other ((true, x) ∷ ps) k all h = subst (λ y. is_other y ≡ true) (same h) (left_of (is_other x) _ all)
 first_other ((false, x) ∷ ps) k all h = first_other ps k (right_of (is_other x) _ all) h
 
-never_words : (g : GivenTexts) (b : Bool) (kind : UsageKind) → first_usage (usage_tests g b) ≡ Some kind → kind ≡ Words → ⊥
-never_words g b kind h is = never (first_other (usage_tests g b) Words refl (h ∙ ap (λ (k : UsageKind). Some k) is))
+never_words : (g : GivenTexts) (b m : Bool) (kind : UsageKind) → first_usage (usage_tests g b m) ≡ Some kind → kind ≡ Words → ⊥
+never_words g b m kind h is = never (first_other (usage_tests g b m) Words refl (h ∙ ap (λ (k : UsageKind). Some k) is))
   where
     never : false ≡ true → ⊥
     never e = cc
@@ -115,10 +129,10 @@ never_words g b kind h is = never (first_other (usage_tests g b) Words refl (h �
 -- ---- what the words ask for
 
 pub usage_is : (words : List Text) (kind : UsageKind) → word_errors words ≡ []
-    → Some kind ≡ first_usage (usage_tests (given_by words) (ends_in_mark words)) → IsUsageOf words kind
+    → Some kind ≡ first_of_words words → IsUsageOf words kind
 unfolding asked
 usage_is words kind read is =
-    let never = never_words (given_by words) (ends_in_mark words) kind (sym is) in
+    let never = never_words (given_by words) (ends_in_mark words) (has_mark words) kind (sym is) in
     record {
       not_taken = λ h. absurd (never h);
       unread = λ h. absurd (never h);
@@ -126,7 +140,7 @@ usage_is words kind read is =
       first = λ _. ap (λ (o : Option UsageKind). unless_usage o (options_in (given_by words) (base_words words))) (sym is);
     }
 
-pub options_are : (words : List Text) (o : Options) → None ≡ first_usage (usage_tests (given_by words) (ends_in_mark words))
+pub options_are : (words : List Text) (o : Options) → None ≡ first_of_words words
     → o ≡ options_in (given_by words) (base_words words) → asked words ≡ Ok o
 unfolding asked
 options_are words o is made =

@@ -1,5 +1,6 @@
 -- What the answers to the words of a run mean.
 use Rattle.std.specs.Prelude.{◌≡◌, ◌≢◌, ◌<◌, ◌≤◌, ℕ, Bool, false, List, [], Option, None, Some, Err, All, length}
+use Rattle.std.specs.Option.{ForSome}
 use Rattle.clap.specs.Words.{Kinds, Text}
 use Rattle.size_options.specs.Asked.{asked}
 use Rattle.size_options.specs.Command.{errors_of, takes_words}
@@ -45,9 +46,28 @@ abbrev pub HasInput : Option ℕ → List Text → Type 0
 HasInput None files = 0 < length files
 HasInput (Some n) files = (n ≤ 1000000) × (files ≡ [])
 
--- there are one to eight data sources, each with a name, and something to read
+-- one file, which isn't made, and no base file
+pub record IsPair (o : Options) : Type 0 where
+  pub one_file : length o.files ≡ 1
+  pub not_made : o.synth ≡ None
+  pub no_base : o.bases ≡ []
+
+-- one file, which is made or has a name
+abbrev pub IsOneInput : Option ℕ → List Text → Type 0
+IsOneInput None files = length files ≡ 1
+IsOneInput (Some n) files = files ≡ []
+
+-- one file, and neither a debug file nor a base file
+pub record IsAlone (o : Options) : Type 0 where
+  pub one_file : IsOneInput o.synth o.files
+  pub no_debug : o.debug ≡ None
+  pub no_base : o.bases ≡ []
+
+-- there are one to eight data sources, each with a name, and something to read; a debug file stands beside one file, and a place is asked of one file
 pub record KeepsLimits (o : Options) : Type 0 where
   pub some_source : 0 < length o.sources
   pub few_sources : length o.sources ≤ 8
   pub named : All (λ name. name ≢ []) o.sources
   pub input : HasInput o.synth o.files
+  pub debug : ForSome o.debug (λ _. IsPair o)
+  pub place : ForSome o.place (λ _. IsAlone o)

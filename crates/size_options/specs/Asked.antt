@@ -1,5 +1,5 @@
 -- What the words of a run ask for, or the first thing that is wrong with them.
-use Rattle.std.specs.Prelude.{Bool, not, ◌&&◌, ◌||◌, ◌==◌, List, [], ◌∷◌, Option, None, Some, Result, Ok, Err, codes, if◌then◌else◌, is_none, is_some, length, option_and_then, unwrap_or}
+use Rattle.std.specs.Prelude.{Bool, not, ◌&&◌, ◌||◌, ◌==◌, List, [], ◌∷◌, Option, None, Some, Result, Ok, Err, codes, if◌then◌else◌, is_none, is_some, length, nat_lt, option_and_then, unwrap_or}
 use Rattle.clap.specs.Words.{Text}
 use Rattle.size_core.specs.declared.choices.Domain.TheVariants as domain
 use Rattle.size_core.specs.declared.choices.Format.{Format}
@@ -7,26 +7,46 @@ use Rattle.size_core.specs.declared.choices.Format.TheVariants as format
 use Rattle.size_core.specs.declared.choices.Sort.TheVariants as sort
 use Rattle.size_options.specs.Command.{rows_by}
 use Rattle.size_options.specs.Given.{GivenTexts, given_in}
-use Rattle.size_options.specs.Values.{domain_of, is_bad, is_bad_list, names_in, number_of, small_number_of, sort_of, value_or}
-use Rattle.size_options.specs.Words.{base_words, ends_in_mark, profile_words}
+use Rattle.size_options.specs.Values.{address_of, domain_of, is_bad, is_bad_list, names_in, number_of, offset_of, place_of, small_number_of, sort_of, value_or}
+use Rattle.size_options.specs.Words.{base_words, ends_in_mark, has_mark, profile_words}
 use Rattle.size_options.specs.declared.answer.UsageKind.{UsageKind}
-use Rattle.size_options.specs.declared.answer.UsageKind.TheVariants.{BadNumber, BadSort, BadDomain, TwoFormats, BadSourceList, NoFile, SynthWithFile, NoBase}
+use Rattle.size_options.specs.declared.answer.UsageKind.TheVariants.{BadNumber, BadSort, BadDomain, TwoFormats, BadSourceList, NoFile, SynthWithFile, NoBase, DebugFile, BadPlace, TwoPlaces, PlaceFile}
 use Rattle.size_options.specs.declared.chosen.Options.{Options}
 
 -- the names of the data sources: those of `-d`, or `sections` alone
 abbrev pub source_names : GivenTexts → List Text
 source_names g = names_in (unwrap_or g.sources (codes "sections"))
 
+-- a debug file is given, and there isn't one file alone
+abbrev pub is_unpaired : GivenTexts → Bool → Bool
+is_unpaired g has_mark = is_some g.debug && (not (length g.files == 1) || has_mark)
+
+-- the value of an offset or of an address is no place
+abbrev pub is_bad_place : GivenTexts → Bool
+is_bad_place g = is_bad offset_of g.offset || is_bad address_of g.address
+
+-- an offset or an address is given, and there is a file beside that of the place
+abbrev pub is_place_beside : GivenTexts → Bool → Bool
+is_place_beside g has_mark = (is_some g.offset || is_some g.address)
+    && ((is_some g.debug || has_mark) || nat_lt 1 (length g.files))
+
+-- the kinds of misuse of a debug file and of a place, each beside its test
+abbrev pub debug_tests : GivenTexts → Bool → List (Bool × UsageKind)
+debug_tests g has_mark = (is_unpaired g has_mark, DebugFile)
+    ∷ (is_bad_place g, BadPlace)
+    ∷ (is_some g.offset && is_some g.address, TwoPlaces)
+    ∷ (is_place_beside g has_mark, PlaceFile) ∷ []
+
 -- each kind of misuse beside its test, in the order in which they are tried
-abbrev pub usage_tests : GivenTexts → Bool → List (Bool × UsageKind)
-usage_tests g has_no_base = (is_bad number_of g.limit || is_bad small_number_of g.synth, BadNumber)
+abbrev pub usage_tests : GivenTexts → Bool → Bool → List (Bool × UsageKind)
+usage_tests g has_no_base has_mark = (is_bad number_of g.limit || is_bad small_number_of g.synth, BadNumber)
     ∷ (is_bad sort_of g.sort, BadSort)
     ∷ (is_bad domain_of g.domain, BadDomain)
     ∷ (g.csv && g.tsv, TwoFormats)
     ∷ (is_bad_list (source_names g), BadSourceList)
     ∷ (length g.files == 0 && is_none g.synth, NoFile)
     ∷ (not (length g.files == 0) && is_some g.synth, SynthWithFile)
-    ∷ (has_no_base, NoBase) ∷ []
+    ∷ (has_no_base, NoBase) ∷ debug_tests g has_mark
 
 -- the kind of the first test that holds
 abbrev pub first_usage : List (Bool × UsageKind) → Option UsageKind
@@ -47,6 +67,8 @@ options_in g bases = record {
   format = format_of g;
   filter = g.filter;
   config = g.config;
+  debug = g.debug;
+  place = place_of g.offset g.address;
   synth = option_and_then small_number_of g.synth;
   files = g.files;
   bases = bases;
@@ -62,4 +84,4 @@ given_by words = given_in (rows_by (profile_words words))
 
 -- what the words ask for by the matches that clap's definition gives: the options, or the first kind of misuse other than words that can't be read
 unfoldable pub asked : List Text → Result Options UsageKind
-asked words = unless_usage (first_usage (usage_tests (given_by words) (ends_in_mark words))) (options_in (given_by words) (base_words words))
+asked words = unless_usage (first_usage (usage_tests (given_by words) (ends_in_mark words) (has_mark words))) (options_in (given_by words) (base_words words))

@@ -40,6 +40,10 @@ report_rules = letter_flag 119 (codes "wide") ∷ word_flag (codes "csv") ∷ wo
 abbrev pub label_rules : List Rule
 label_rules = letter_option 99 (codes "config") ∷ word_option (codes "source-filter") ∷ []
 
+-- `--debug-file`, `--debug-fileoff` and `--debug-vmaddr`
+abbrev pub debug_rules : List Rule
+debug_rules = word_option (codes "debug-file") ∷ word_option (codes "debug-fileoff") ∷ word_option (codes "debug-vmaddr") ∷ []
+
 -- `--synth` and the files
 abbrev pub file_rules : List Rule
 file_rules = word_option (codes "synth") ∷ file_words ∷ []
@@ -57,7 +61,7 @@ bare_app = record {
 
 -- the command that reads the words of a profile
 unfoldable pub profile_app : App
-profile_app = with_rules (with_rules (with_rules (with_rules bare_app row_rules) report_rules) label_rules) file_rules
+profile_app = with_rules (with_rules (with_rules (with_rules (with_rules bare_app row_rules) report_rules) label_rules) debug_rules) file_rules
 
 -- the matches that clap's definition of a simple command gives for these words
 unfoldable pub rows_by : List Text → List Row

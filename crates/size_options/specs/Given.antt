@@ -16,6 +16,9 @@ pub record GivenTexts : Type 0 where
   pub tsv : Bool
   pub config : Option Text
   pub filter : Option Text
+  pub debug : Option Text
+  pub offset : Option Text
+  pub address : Option Text
   pub synth : Option Text
   pub files : List Text
 
@@ -34,6 +37,9 @@ given_in rows = record {
   tsv = is_on (codes "tsv") rows;
   config = first_of (codes "config") rows;
   filter = first_of (codes "source-filter") rows;
+  debug = first_of (codes "debug-file") rows;
+  offset = first_of (codes "debug-fileoff") rows;
+  address = first_of (codes "debug-vmaddr") rows;
   synth = first_of (codes "synth") rows;
   files = unwrap_or (all_of (codes "FILE") rows) [];
 }
@@ -50,6 +56,9 @@ texts_of g = record {
   tsv = g.tsv;
   config = option_map (λ s. s.now) g.config;
   filter = option_map (λ s. s.now) g.filter;
+  debug = option_map (λ s. s.now) g.debug;
+  offset = option_map (λ s. s.now) g.offset;
+  address = option_map (λ s. s.now) g.address;
   synth = option_map (λ s. s.now) g.synth;
   files = unwrap_or (option_map (λ s. map (λ v. v.now) s.now) g.files) [];
 }

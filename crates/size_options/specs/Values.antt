@@ -1,7 +1,7 @@
 -- What the text of an option's value says.
-use Rattle.std.specs.Prelude.{ℕ, Bool, false, ◌&&◌, ◌||◌, ◌==◌, ◌^◌, List, [], ◌∷◌, Option, None, Some, codes, if◌then◌else◌, is_none, length, nat_le, nat_lt, option_and_then, unwrap_or}
-use Rattle.std.specs.List.{list_all, list_any}
-use Rattle.std.specs.Char.{is_ascii_digit}
+use Rattle.std.specs.Prelude.{ℕ, Bool, false, ◌&&◌, ◌||◌, ◌==◌, ◌^◌, List, [], ◌∷◌, Option, None, Some, codes, drop, if◌then◌else◌, is_none, length, nat_le, nat_lt, option_and_then, option_map, unwrap_or}
+use Rattle.std.specs.List.{after_first, before_first, list_all, list_any, position_or_len, starts_with}
+use Rattle.std.specs.Char.{is_ascii_digit, is_ascii_hexdigit}
 use Rattle.std.specs.Str.{bytes_eq}
 use Rattle.std.specs.Str.Parse.{digits_value}
 use Rattle.clap.specs.Words.{Text}
@@ -9,11 +9,20 @@ use Rattle.size_core.specs.declared.choices.Domain.{Domain}
 use Rattle.size_core.specs.declared.choices.Domain.TheVariants as domain
 use Rattle.size_core.specs.declared.choices.Sort.{Sort}
 use Rattle.size_core.specs.declared.choices.Sort.TheVariants as sort
+use Rattle.size_core.specs.declared.place.Place.{Place}
+use Rattle.size_core.specs.declared.place.Place.TheVariants.{Address, Offset}
+
+-- one byte at least, and at most so many
+abbrev pub is_short : ℕ → Text → Bool
+is_short most t = nat_lt 0 (length t) && nat_le (length t) most
+
+-- so many digits
+abbrev pub has_digits : (ℕ → Bool) → ℕ → Text → Bool
+has_digits is_digit most t = is_short most t && list_all is_digit t
 
 -- one to ten digits, with a value that fits 32 bits
 abbrev pub is_number : Text → Bool
-is_number t = nat_lt 0 (length t) && (nat_le (length t) 10
-    && (list_all is_ascii_digit t && nat_lt (digits_value 10 t) (2 ^ 32)))
+is_number t = has_digits is_ascii_digit 10 t && nat_lt (digits_value 10 t) (2 ^ 32)
 
 abbrev pub number_of : Text → Option ℕ
 number_of t = if is_number t then Some (digits_value 10 t) else None
@@ -21,6 +30,44 @@ number_of t = if is_number t then Some (digits_value 10 t) else None
 -- a number of at most a million
 abbrev pub small_number_of : Text → Option ℕ
 small_number_of t = option_and_then (λ n. if nat_le n 1000000 then Some n else None) (number_of t)
+
+-- one to twenty digits, with a value that fits 64 bits
+abbrev pub is_decimal : Text → Bool
+is_decimal t = has_digits is_ascii_digit 20 t && nat_lt (digits_value 10 t) (2 ^ 64)
+
+abbrev pub decimal_of : Text → Option ℕ
+decimal_of t = if is_decimal t then Some (digits_value 10 t) else None
+
+-- one to sixteen hexadecimal digits of either case, whose value always fits 64 bits
+abbrev pub hexadecimal_of : Text → Option ℕ
+hexadecimal_of t = if has_digits is_ascii_hexdigit 16 t then Some (digits_value 16 t) else None
+
+-- a number below 2^64: hexadecimal digits behind `0x`, or decimal digits
+abbrev pub wide_number_of : Text → Option ℕ
+wide_number_of t = if starts_with ◌==◌ t (codes "0x") then hexadecimal_of (drop 2 t) else decimal_of t
+
+-- the byte of a file that a number is the offset of
+abbrev pub offset_of : Text → Option Place
+offset_of t = option_map (λ n. Offset n) (wide_number_of t)
+
+abbrev pub is_colon : ℕ → Bool
+is_colon c = c == 58
+
+-- the address in the space, where both can be read
+abbrev pub address_in : Option ℕ → Option ℕ → Option Place
+address_in (Some space) (Some address) = Some (Address space address)
+address_in _ _ = None
+
+-- an address: a space, a colon and a number, or a number alone in space 0
+abbrev pub address_of : Text → Option Place
+address_of t = if nat_lt (position_or_len is_colon t) (length t)
+    then address_in (number_of (before_first is_colon t)) (wide_number_of (after_first is_colon t))
+    else address_in (Some 0) (wide_number_of t)
+
+-- the place of an offset, or of an address where there is no offset
+abbrev pub place_of : Option Text → Option Text → Option Place
+place_of (Some offset) address = offset_of offset
+place_of None address = option_and_then address_of address
 
 abbrev pub sort_of : Text → Option Sort
 sort_of t = if bytes_eq t (codes "vm") then Some sort.Vm

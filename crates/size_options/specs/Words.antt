@@ -1,5 +1,5 @@
 -- The words of a run, and where those of the profile end.
-use Rattle.std.specs.Prelude.{ℕ, ◌+◌, ◌==◌, Bool, List, String, codes, drop, length, map, string_bytes, take}
+use Rattle.std.specs.Prelude.{ℕ, ◌+◌, ◌==◌, Bool, List, String, codes, drop, length, map, nat_lt, string_bytes, take}
 use Rattle.std.specs.List.{position_or_len}
 use Rattle.std.specs.Str.{bytes_eq}
 use Rattle.std.specs.declared.alloc.Global.{Global}
@@ -24,6 +24,10 @@ profile_words words = take (mark_at words) words
 -- the words after the first mark: the names of base files
 abbrev pub base_words : List Text → List Text
 base_words words = drop (mark_at words + 1) words
+
+-- a mark is among the words
+abbrev pub has_mark : List Text → Bool
+has_mark words = nat_lt (mark_at words) (length words)
 
 -- the first mark is the last word
 abbrev pub ends_in_mark : List Text → Bool

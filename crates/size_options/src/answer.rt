@@ -30,6 +30,17 @@ pub enum UsageKind {
     SynthWithFile,
     /// The first word `--`, after which base files stand, is the last word.
     NoBase,
+    /// `--debug-file` is given, and there isn't exactly one file, or there is a word `--`.
+    DebugFile,
+    /// The value of `--debug-fileoff` is no number below 2^64 (one to twenty digits, or `0x` and one to
+    /// sixteen hexadecimal digits), or that of `--debug-vmaddr` is neither such a number nor a space below
+    /// 2^32 in one to ten digits, a colon and such a number.
+    BadPlace,
+    /// `--debug-fileoff` and `--debug-vmaddr` are both given.
+    TwoPlaces,
+    /// One of `--debug-fileoff` and `--debug-vmaddr` is given beside `--debug-file`, a word `--` or a second
+    /// file.
+    PlaceFile,
 }
 
 /// Why there are no options.

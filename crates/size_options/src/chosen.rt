@@ -5,11 +5,11 @@ ghost use Rattle.size_core.specs.declared.choices.Domain.TheVariants as domain;
 ghost use Rattle.size_core.specs.declared.choices.Sort.TheVariants as sort;
 ghost use Rattle.size_options.specs.Asked.{format_of, options_in};
 ghost use Rattle.size_options.specs.Given.{texts_of};
-ghost use Rattle.size_options.specs.Values.{domain_of, names_in, number_of, small_number_of, sort_of, value_or};
+ghost use Rattle.size_options.specs.Values.{address_of, domain_of, names_in, number_of, offset_of, place_of, small_number_of, sort_of, value_or};
 
 use crate::given::Given;
-use crate::values::{domain_of, number_of, small_number_of, sort_of};
-use size_core::{Domain, Format, Names, NoMemory, Sort, Text};
+use crate::values::{address_of, domain_of, number_of, offset_of, small_number_of, sort_of};
+use size_core::{Domain, Format, Names, NoMemory, Place, Sort, Text};
 use std::alloc::Global;
 
 /// How many children of one path are kept where `-n` isn't given.
@@ -37,6 +37,10 @@ pub struct Options {
     pub filter: Option<Text>,
     /// The name of the configuration's file.
     pub config: Option<Text>,
+    /// The name of the debug file, which gives the names of the one file's addresses.
+    pub debug: Option<Text>,
+    /// The place that is explained in place of a report, in the one file.
+    pub place: Option<Place>,
     /// The number of functions of the made file that is profiled in place of files, at most 1,000,000.
     pub synth: Option<u32>,
     /// The names of the files, in order. There is one at least, unless `synth` is given, and then none.
@@ -68,6 +72,15 @@ fn synth_of(value: Option<&str>) -> Option<u32>
     ensures { result ≡ option_and_then small_number_of (option_map (λ s. s.now) value.entry) }
 {
     value.and_then(small_number_of)
+}
+
+fn place_of(offset: Option<&str>, address: Option<&str>) -> Option<Place>
+    ensures { result ≡ place_of (option_map (λ s. s.now) offset.entry) (option_map (λ s. s.now) address.entry) }
+{
+    match offset {
+        Some(text) => offset_of(text),
+        None => address.and_then(address_of),
+    }
 }
 
 fn format_of(given: &Given<'_, '_>) -> Format
@@ -137,6 +150,7 @@ pub fn options_of(
     let sources = names_in(alloc, given.sources.unwrap_or(SOURCES))?;
     let filter = text_of(alloc, given.filter)?;
     let config = text_of(alloc, given.config)?;
+    let debug = text_of(alloc, given.debug)?;
     let files = match given.files {
         Some(files) => names_of(alloc, files)?,
         None => Names::new(alloc),
@@ -150,6 +164,8 @@ pub fn options_of(
         format: format_of(given),
         filter,
         config,
+        debug,
+        place: place_of(given.offset, given.address),
         synth: synth_of(given.synth),
         files,
         bases: names_by(alloc, bases)?,

@@ -2,7 +2,7 @@
 
 ghost use Rattle.std.specs.Prelude.{◌≡◌, false, IfOk};
 ghost use Rattle.clap.specs.Words.{app_of, rule_of};
-ghost use Rattle.size_options.specs.Command.{bare_app, file_rules, file_words, label_rules, letter_flag, letter_option};
+ghost use Rattle.size_options.specs.Command.{bare_app, debug_rules, file_rules, file_words, label_rules, letter_flag, letter_option};
 ghost use Rattle.size_options.specs.Command.{profile_app, report_rules, row_rules, with_rules, word_flag, word_option};
 
 use clap::{Arg, ArgAction, Command};
@@ -84,6 +84,16 @@ fn with_label_options<'a>(command: Command<'a>, alloc: Global) -> Result<Command
         .arg(word_option(alloc, "source-filter"))
 }
 
+// A file that has the names, and the place that is explained.
+fn with_debug_options<'a>(command: Command<'a>, alloc: Global) -> Result<Command<'a>, AllocError>
+    ensures { IfOk result (λ c. app_of c ≡ with_rules (app_of command.entry) debug_rules) }
+{
+    command
+        .arg(word_option(alloc, "debug-file"))?
+        .arg(word_option(alloc, "debug-fileoff"))?
+        .arg(word_option(alloc, "debug-vmaddr"))
+}
+
 fn with_files<'a>(command: Command<'a>, alloc: Global) -> Result<Command<'a>, AllocError>
     ensures { IfOk result (λ c. app_of c ≡ with_rules (app_of command.entry) file_rules) }
 {
@@ -100,5 +110,6 @@ pub fn profile_command<'a>(alloc: Global) -> Result<Command<'a>, AllocError>
     let command = with_row_options(bare_command(alloc), alloc)?;
     let command = with_report_flags(command, alloc)?;
     let command = with_label_options(command, alloc)?;
+    let command = with_debug_options(command, alloc)?;
     with_files(command, alloc)
 }

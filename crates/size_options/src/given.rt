@@ -18,6 +18,9 @@ pub struct Given<'m, 'a> {
     pub tsv: bool,
     pub config: Option<&'a str>,
     pub filter: Option<&'a str>,
+    pub debug: Option<&'a str>,
+    pub offset: Option<&'a str>,
+    pub address: Option<&'a str>,
     pub synth: Option<&'a str>,
     pub files: Option<&'m [&'a str]>,
 }
@@ -55,6 +58,9 @@ pub fn given_of<'m, 'a>(matches: &'m ArgMatches<'a>) -> Given<'m, 'a>
         tsv: is_on(matches, "tsv"),
         config: value_of(matches, "config"),
         filter: value_of(matches, "source-filter"),
+        debug: value_of(matches, "debug-file"),
+        offset: value_of(matches, "debug-fileoff"),
+        address: value_of(matches, "debug-vmaddr"),
         synth: value_of(matches, "synth"),
         files: values_of(matches, "FILE"),
     }

@@ -2,10 +2,11 @@
 
 ghost use Rattle.std.specs.Prelude.{◌≡◌};
 ghost use Rattle.std.specs.List.{list_all};
-ghost use Rattle.std.specs.Char.{is_ascii_digit};
-ghost use Rattle.size_options.specs.Values.{domain_of, is_bad_list, names_in, number_of, small_number_of, sort_of};
+ghost use Rattle.std.specs.Char.{is_ascii_digit, is_ascii_hexdigit};
+ghost use Rattle.size_options.specs.Values.{address_in, address_of, decimal_of, domain_of, has_digits, hexadecimal_of, is_bad_list, is_short};
+ghost use Rattle.size_options.specs.Values.{names_in, number_of, offset_of, small_number_of, sort_of, wide_number_of};
 
-use size_core::{Domain, Sort};
+use size_core::{Domain, Place, Sort};
 
 /// The greatest number that `--synth` takes.
 const MOST_FUNCTIONS: u32 = 1_000_000;
@@ -13,20 +14,44 @@ const MOST_FUNCTIONS: u32 = 1_000_000;
 /// How many data sources a run has at most.
 const MOST_SOURCES: usize = 8;
 
+// One byte at least, and at most so many.
+fn is_short(text: &str, most: usize) -> bool
+    ensures { result ≡ is_short most text.now }
+{
+    !text.is_empty() && text.len() <= most
+}
+
 fn is_digits(text: &str) -> bool
     ensures { result ≡ list_all is_ascii_digit text.now }
 {
     text.as_bytes().iter().all(|b| b.is_ascii_digit())
 }
 
+fn is_hexadecimal(text: &str) -> bool
+    ensures { result ≡ list_all is_ascii_hexdigit text.now }
+{
+    text.as_bytes().iter().all(|b| b.is_ascii_hexdigit())
+}
+
+// One to `most` decimal digits.
+fn has_digits(text: &str, most: usize) -> bool
+    ensures { result ≡ has_digits is_ascii_digit most text.now }
+{
+    is_short(text, most) && is_digits(text)
+}
+
+// One to sixteen hexadecimal digits.
+fn has_hexadecimal_digits(text: &str) -> bool
+    ensures { result ≡ has_digits is_ascii_hexdigit 16 text.now }
+{
+    is_short(text, 16) && is_hexadecimal(text)
+}
+
 /// A number of one to ten digits that fits. The digits are looked at first, since `parse` takes a sign.
 pub fn number_of(text: &str) -> Option<u32>
     ensures { result ≡ number_of text.now }
 {
-    if text.is_empty() || text.len() > 10 {
-        return None;
-    }
-    if !is_digits(text) {
+    if !has_digits(text, 10) {
         return None;
     }
     text.parse::<u32>().ok()
@@ -37,6 +62,62 @@ pub fn small_number_of(text: &str) -> Option<u32>
     ensures { result ≡ small_number_of text.now }
 {
     number_of(text).filter(|n| *n <= MOST_FUNCTIONS)
+}
+
+// One to twenty decimal digits with a value that fits.
+fn decimal_of(text: &str) -> Option<u64>
+    ensures { result ≡ decimal_of text.now }
+{
+    if !has_digits(text, 20) {
+        return None;
+    }
+    text.parse::<u64>().ok()
+}
+
+// The value of hexadecimal digits, which always fits.
+fn hexadecimal_of(text: &str) -> Option<u64>
+    ensures { result ≡ hexadecimal_of text.now }
+{
+    if !has_hexadecimal_digits(text) {
+        return None;
+    }
+    u64::from_str_radix(text, 16).ok()
+}
+
+fn wide_number_of(text: &str) -> Option<u64>
+    ensures { result ≡ wide_number_of text.entry.now }
+{
+    match text.strip_prefix("0x") {
+        Some(digits) => hexadecimal_of(digits),
+        None => decimal_of(text),
+    }
+}
+
+/// The file offset that `--debug-fileoff` names.
+pub fn offset_of(text: &str) -> Option<Place>
+    ensures { result ≡ offset_of text.now }
+{
+    wide_number_of(text).map(Place::Offset)
+}
+
+// The address in the space.
+fn address_in(space: Option<u32>, address: Option<u64>) -> Option<Place>
+    ensures { result ≡ address_in space address }
+{
+    match (space, address) {
+        (Some(space), Some(address)) => Some(Place::Address(space, address)),
+        _ => None,
+    }
+}
+
+/// The address that `--debug-vmaddr` names.
+pub fn address_of(text: &str) -> Option<Place>
+    ensures { result ≡ address_of text.entry.now }
+{
+    match text.split_once(':') {
+        Some((space, address)) => address_in(number_of(space), wide_number_of(address)),
+        None => address_in(Some(0), wide_number_of(text)),
+    }
 }
 
 /// The order of the rows that `-s` names.

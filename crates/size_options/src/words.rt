@@ -2,16 +2,18 @@
 
 ghost use Rattle.std.specs.Prelude.{◌≡◌, ◌≤◌, [], None, Ok, IfErr, IfOk, length, map, option_map, position, string_bytes};
 ghost use Rattle.size_options.specs.Answers.{IsRefusalOf, KeepsLimits, word_errors};
-ghost use Rattle.size_options.specs.Asked.{asked, first_usage, usage_tests};
+ghost use Rattle.size_options.specs.Asked.{asked, debug_tests, first_usage, usage_tests};
 ghost use Rattle.size_options.specs.Given.{texts_of};
-ghost use Rattle.size_options.specs.Values.{domain_of, is_bad, number_of, small_number_of, sort_of};
+ghost use Rattle.size_options.specs.Values.{address_of, domain_of, is_bad, number_of, offset_of, small_number_of, sort_of};
 ghost use Rattle.size_options.specs.Words.{base_words, is_mark, mark_at, seen_words};
 
 use crate::answer::{OptionAnswer, UsageKind};
 use crate::chosen::{Options, SOURCES, options_of};
 use crate::given::{Given, given_of};
 use crate::matched::matches_of;
-use crate::values::{domain_of, is_bad_list, number_of, small_number_of, sort_of};
+use crate::values::{
+    address_of, domain_of, is_bad_list, number_of, offset_of, small_number_of, sort_of,
+};
 use std::alloc::Global;
 
 fn is_bad_number(value: Option<&str>) -> bool
@@ -38,9 +40,46 @@ fn is_bad_domain(value: Option<&str>) -> bool
     value.is_some_and(|text| domain_of(text).is_none())
 }
 
+fn is_bad_offset(value: Option<&str>) -> bool
+    ensures { result ≡ is_bad offset_of (option_map (λ s. s.now) value.entry) }
+{
+    value.is_some_and(|text| offset_of(text).is_none())
+}
+
+fn is_bad_address(value: Option<&str>) -> bool
+    ensures { result ≡ is_bad address_of (option_map (λ s. s.now) value.entry) }
+{
+    value.is_some_and(|text| address_of(text).is_none())
+}
+
+fn file_count(given: &Given<'_, '_>) -> usize
+    ensures { result ≡ length (texts_of given.now).files }
+{
+    given.files.map_or(0, |files| files.len())
+}
+
+// The first way in which a debug file or a place is misused.
+fn debug_usage_of(given: &Given<'_, '_>, has_mark: bool) -> Option<UsageKind>
+    ensures { result ≡ first_usage (debug_tests (texts_of given.now) has_mark) }
+{
+    let files = file_count(given);
+    let has_place = given.offset.is_some() || given.address.is_some();
+    if given.debug.is_some() && (files != 1 || has_mark) {
+        Some(UsageKind::DebugFile)
+    } else if is_bad_offset(given.offset) || is_bad_address(given.address) {
+        Some(UsageKind::BadPlace)
+    } else if given.offset.is_some() && given.address.is_some() {
+        Some(UsageKind::TwoPlaces)
+    } else if has_place && (given.debug.is_some() || has_mark || files > 1) {
+        Some(UsageKind::PlaceFile)
+    } else {
+        None
+    }
+}
+
 // The first way in which what was given is misused.
-fn usage_of(given: &Given<'_, '_>, has_no_base: bool) -> Option<UsageKind>
-    ensures { result ≡ first_usage (usage_tests (texts_of given.now) has_no_base) }
+fn usage_of(given: &Given<'_, '_>, has_no_base: bool, has_mark: bool) -> Option<UsageKind>
+    ensures { result ≡ first_usage (usage_tests (texts_of given.now) has_no_base has_mark) }
 {
     let has_no_file = given.files.is_none_or(|files| files.is_empty());
     if is_bad_number(given.limit) || is_bad_small_number(given.synth) {
@@ -60,7 +99,7 @@ fn usage_of(given: &Given<'_, '_>, has_no_base: bool) -> Option<UsageKind>
     } else if has_no_base {
         Some(UsageKind::NoBase)
     } else {
-        None
+        debug_usage_of(given, has_mark)
     }
 }
 
@@ -104,7 +143,7 @@ pub fn options(alloc: Global, words: &[String]) -> Result<Options, OptionAnswer>
     let end = mark_at(words);
     let matches = matches_of(alloc, &words[..end])?;
     let given = given_of(&matches);
-    match usage_of(&given, end + 1 == words.len()) {
+    match usage_of(&given, end + 1 == words.len(), end < words.len()) {
         Some(kind) => Err(OptionAnswer::Usage(kind)),
         None => Ok(options_of(alloc, &given, base_words(words, end))?),
     }

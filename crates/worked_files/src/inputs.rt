@@ -12,6 +12,7 @@ use crate::macho_files::{
     macho_debug_file, macho_library, macho_object, macho_of, macho_program, macho_without_access,
 };
 use crate::numbers::{Class, Order};
+use crate::pair_files::{debug_file, macho_stripped, macho_symbol_file, stripped};
 use std::alloc::{AllocError, Global};
 
 /// Names of symbols: `a` at 1, `b` at 3.
@@ -252,6 +253,13 @@ pub enum Input {
     MachoObject,
     MachoLibrary,
     MachoDebugFile,
+    /// A file without symbols, with this size in memory.
+    Stripped(u64),
+    /// Its debug file, by the last byte of the build ID and the section of the symbols' names, which is 4.
+    DebugFile(u8, u32),
+    MachoStripped,
+    /// Its debug file, by the bytes of the UUID, which are 7.
+    MachoSymbols(u8),
     Text(&'static [u8]),
 }
 
@@ -287,6 +295,10 @@ pub fn bytes_of(alloc: Global, input: Input) -> Result<Vec<u8>, AllocError> {
         Input::MachoObject => macho_object(alloc),
         Input::MachoLibrary => macho_library(alloc),
         Input::MachoDebugFile => macho_debug_file(alloc),
+        Input::Stripped(memsz) => stripped(alloc, memsz),
+        Input::DebugFile(last, names) => debug_file(alloc, last, names),
+        Input::MachoStripped => macho_stripped(alloc),
+        Input::MachoSymbols(uuid) => macho_symbol_file(alloc, uuid),
         Input::Text(text) => text.to_vec(alloc),
     }
 }

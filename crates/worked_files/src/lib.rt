@@ -10,6 +10,7 @@ mod lines;
 mod macho;
 mod macho_files;
 mod numbers;
+mod pair_files;
 
 pub use image::{
     EXECUTABLE, FUNCTION, Head, LOAD, NAMES, NULL, Section, Segment, Symbol, TEXT, file, patched,

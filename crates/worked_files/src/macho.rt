@@ -49,6 +49,8 @@ pub enum Command<'a> {
     DyldInfo([u32; 10]),
     /// LC_CODE_SIGNATURE: offset and size.
     Signature([u32; 2]),
+    /// LC_UUID: each of its bytes.
+    Uuid(u8),
 }
 
 /// A symbol: the offset of its name, its type, the number of its section from 1 on, and its value.
@@ -131,6 +133,10 @@ fn put_command(
         Command::Signature(fields) => {
             put_words(numbers, &[0x1d, 16])?;
             put_words(numbers, fields)
+        }
+        Command::Uuid(byte) => {
+            put_words(numbers, &[0x1b, 24])?;
+            numbers.text(&[*byte; 16])
         }
     }
 }

@@ -12,6 +12,10 @@ mod formats;
 #[cfg(test)]
 mod growth;
 #[cfg(test)]
+mod pairs;
+#[cfg(test)]
+mod places;
+#[cfg(test)]
 mod refusals;
 #[cfg(test)]
 mod reports;

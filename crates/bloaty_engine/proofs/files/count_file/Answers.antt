@@ -1,9 +1,9 @@
 -- A file is counted as it is decided.
 use Rattle.std.proofs.Common.{◌≡◌, ◌+◌, length, Ok, sym, ap, ◌∙◌}
-use Rattle.bloaty_engine.specs.Counts.{filter_test}
-use Rattle.bloaty_engine.specs.Views.{viewed}
+use Rattle.file_profile.specs.Counts.{filter_test}
+use Rattle.file_profile.specs.Views.{viewed}
 use Rattle.bloaty_engine.proofs.FileLemmas.{counted-one, counted-within, ends-viewed, ok-viewed, view-len, viewed-ok}
-use Rattle.bloaty_engine.proofs.MapLemmas.{err-same}
+use Rattle.file_profile.proofs.MapLemmas.{err-same}
 use Rattle.bloaty_engine.proofs.TakenLemmas.{end-short}
 use Rattle.bloaty_engine.proofs.files.count_file.Goals as goal
 

@@ -1,11 +1,11 @@
 -- The files so far are counted, or the run ends at one.
 use Rattle.std.proofs.Common.{◌≡◌, ◌+◌, ◌-◌, ◌≤◌, Err, length, min, refl, ap, ◌∙◌, arith}
 use Rattle.std.proofs.lemmas.Result.{err_from_is_err_and}
-use Rattle.bloaty_engine.specs.Counts.{filter_test}
+use Rattle.file_profile.specs.Counts.{filter_test}
 use Rattle.bloaty_engine.specs.Steps.{batch_of}
 use Rattle.bloaty_engine.proofs.FileLemmas.{all-counted, count-ends, counted-next, counted-none, extended, min-within, ok-some, read-ends}
 use Rattle.bloaty_engine.specs.Verdict.{file_limit, total_limit}
-use Rattle.bloaty_engine.proofs.MapLemmas.{err-same}
+use Rattle.file_profile.proofs.MapLemmas.{err-same}
 use Rattle.bloaty_engine.proofs.ReadLemmas.{read-all, read-next, read-none}
 use Rattle.bloaty_engine.proofs.TakenLemmas.{over-file, taken-more, taken-none}
 use Rattle.bloaty_engine.proofs.files.count_files.Goals as goal

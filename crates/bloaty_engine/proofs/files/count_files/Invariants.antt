@@ -1,6 +1,6 @@
 use Rattle.std.proofs.Common.{◌≡◌, ◌≤◌, ◌++◌, take}
 use Rattle.outside.specs.Held.{IsTaken}
-use Rattle.bloaty_engine.specs.Counts.{filter_test}
+use Rattle.file_profile.specs.Counts.{filter_test}
 use Rattle.bloaty_engine.specs.Steps.{batch_of}
 use Rattle.bloaty_engine.specs.Verdict.{total_limit}
 use Rattle.bloaty_engine.proofs.FileLemmas.{AreCountedTo}

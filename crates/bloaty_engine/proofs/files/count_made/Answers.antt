@@ -2,10 +2,10 @@
 use Rattle.std.proofs.Common.{◌≡◌, ◌+◌, ◌<◌, ◌≤◌, [], ◌∷◌, length, min, ap, codes, arith}
 use Rattle.std.proofs.lemmas.Result.{err_from_is_err_and}
 use Rattle.elf_synth.specs.Made.{made}
-use Rattle.bloaty_engine.specs.Counts.{filter_test}
+use Rattle.file_profile.specs.Counts.{filter_test}
 use Rattle.bloaty_engine.specs.Verdict.{file_limit, total_limit}
 use Rattle.bloaty_engine.proofs.FileLemmas.{made-counted, made-ends, made-long, none-counted, ok-some}
-use Rattle.bloaty_engine.proofs.MapLemmas.{err-same}
+use Rattle.file_profile.proofs.MapLemmas.{err-same}
 use Rattle.bloaty_engine.proofs.files.count_made.Goals as goal
 
 pub returns-then-len-limit-clause-counted : goal.returns-then-len-limit-clause-counted

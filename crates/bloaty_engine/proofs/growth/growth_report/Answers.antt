@@ -1,6 +1,6 @@
 use Rattle.std.proofs.Common.{Err, ap}
 use Rattle.std.proofs.lemmas.Result.{err_from_is_err_and}
-use Rattle.bloaty_engine.proofs.MapLemmas.{err-same}
+use Rattle.file_profile.proofs.MapLemmas.{err-same}
 use Rattle.bloaty_engine.proofs.growth.growth_report.Goals as goal
 
 pub returns-in_err-base-clause-failed : goal.returns-in_err-base-clause-failed

@@ -1,5 +1,5 @@
 use Rattle.size_model.specs.Sizes.{file_size, vm_size}
-use Rattle.bloaty_engine.specs.Counts.{filter_test}
+use Rattle.file_profile.specs.Counts.{filter_test}
 use Rattle.bloaty_engine.specs.Report.{depth_of, row_options}
 use Rattle.bloaty_engine.proofs.laws.rows_show_files.Goals as goal
 

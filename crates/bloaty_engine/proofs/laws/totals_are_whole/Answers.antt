@@ -1,6 +1,6 @@
 use Rattle.std.proofs.Common.{◌∙◌, ap, []}
 use Rattle.size_model.specs.Sizes.{file_size, vm_size}
-use Rattle.bloaty_engine.specs.Counts.{filter_test}
+use Rattle.file_profile.specs.Counts.{filter_test}
 use Rattle.bloaty_engine.specs.Report.{depth_of}
 use Rattle.bloaty_engine.proofs.laws.totals_are_whole.Goals as goal
 

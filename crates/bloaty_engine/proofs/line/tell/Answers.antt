@@ -18,3 +18,6 @@ returns-in-MappedTooLarge-clause-whole g c = rw c.in-MappedTooLarge.is c.write_p
 
 pub returns-in-WriteFailed-clause-whole : goal.returns-in-WriteFailed-clause-whole
 returns-in-WriteFailed-clause-whole g c = rw c.in-WriteFailed.is c.write_pieces-in-WriteFailed.ensures.whole
+
+pub returns-in-PlaceOutside-clause-whole : goal.returns-in-PlaceOutside-clause-whole
+returns-in-PlaceOutside-clause-whole g c = rw c.in-PlaceOutside.is c.write_pieces-in-PlaceOutside.ensures.whole

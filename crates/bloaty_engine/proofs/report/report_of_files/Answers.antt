@@ -5,7 +5,7 @@ use Rattle.std.proofs.lemmas.Option.{IfSome_then}
 use Rattle.std.proofs.lemmas.Result.{err_from_is_err_and}
 use Rattle.bloaty_engine.specs.Named.{file_names, name_at}
 use Rattle.bloaty_engine.proofs.FileLemmas.{some-held}
-use Rattle.bloaty_engine.proofs.MapLemmas.{err-same}
+use Rattle.file_profile.proofs.MapLemmas.{err-same}
 use Rattle.bloaty_engine.proofs.ReadLemmas.{reads-behind, reads-more}
 use Rattle.bloaty_engine.proofs.RunLemmas.{base-name, some-bytes}
 use Rattle.bloaty_engine.proofs.SidesLemmas.{behind-held, beyond, front-ends, front-files, growth-ends, no-names, sizes-end}
@@ -28,7 +28,7 @@ returns-in_err-total-clause-counted g c =
 
 pub returns-then-is_none-clause-counted : goal.returns-then-is_none-clause-counted
 returns-then-is_none-clause-counted g c =
-    let some = some-bytes (g.F.Files.held c.args.files.now) c.args.options.now in
+    let some = some-bytes (g.F.Files.held c.args.files.now) c.args.options.now c.args.options.now.bases in
     (some.0, some.1, some.2, tt)
 
 pub returns-in_err-total-clause-failed : goal.returns-in_err-total-clause-failed
@@ -75,7 +75,7 @@ returns-clause-failed g c = λ k e.
     let place : k + 1 ≡ count + ended.0 + 1 = omega (arith, number) in
     let f = c.growth_report.ensures.failed ended.0 (rw number at e) in (
       rose-later 1 _ _ _ c.total_of.ensures.later f.0,
-      IfSome_then (g.F.Files.last_failed c.growth_report.new.files) {P = λ n. slice_get o.bases ended.0 ≡ Some n} {Q = λ n. name_at o (k + 1) ≡ Some n} f.1 (λ n p. rw place (base-name o ended.0 n p)),
+      IfSome_then (g.F.Files.last_failed c.growth_report.new.files) {P = λ n. slice_get o.bases ended.0 ≡ Some n} {Q = λ n. name_at o (k + 1) ≡ Some n} f.1 (λ n p. rw place (base-name o ended.0 n c.requires.no_debug p)),
     )
 
 pub returns-clause-asked : goal.returns-clause-asked

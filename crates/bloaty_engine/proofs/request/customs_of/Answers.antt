@@ -2,7 +2,7 @@
 use Rattle.std.proofs.Common.{Err, sym, ap}
 use Rattle.std.proofs.lemmas.List.{append-nil}
 use Rattle.std.proofs.lemmas.Result.{err_from_is_err_and}
-use Rattle.bloaty_engine.proofs.MapLemmas.{err-same}
+use Rattle.file_profile.proofs.MapLemmas.{err-same}
 use Rattle.bloaty_engine.proofs.TakenLemmas.{over-config}
 use Rattle.bloaty_engine.proofs.request.customs_of.Goals as goal
 

@@ -1,4 +1,4 @@
-use Rattle.std.proofs.Common.{rules, ◌≡◌, ◌∙◌, ap, ap₂, sym, subst, [], map, string_bytes}
+use Rattle.std.proofs.Common.{rules, ◌≡◌, ◌∙◌, ap, ap₂, sym, subst, [], false, length, map, nat_lt, string_bytes}
 use Rattle.std.proofs.lemmas.Result.{err_from_is_err_and}
 use Rattle.size_options.specs.Answers.{KeepsLimits, word_errors}
 use Rattle.size_options.specs.Asked.{given_by, options_in}
@@ -6,7 +6,7 @@ use Rattle.size_options.specs.Command.{errors_of, rows_by}
 use Rattle.size_options.specs.Given.{given_in, texts_of}
 use Rattle.size_options.specs.Words.{seen_words}
 use Rattle.size_options.proofs.Limits.{limits_kept}
-use Rattle.size_options.proofs.UsageLemmas.{first_is, options_are, refusal_is, usage_is, words_before}
+use Rattle.size_options.proofs.UsageLemmas.{first_is, none_behind, options_are, refusal_is, usage_is, words_before}
 use Rattle.size_options.specs.declared.chosen.Options.{Options}
 use Rattle.size_options.proofs.words.options.Goals as goal
 
@@ -44,4 +44,6 @@ returns-clause-read c =
 pub returns-clause-limits : goal.returns-clause-limits
 returns-clause-limits c =
     let made : c.in_ok-options_of-in-None.field-0 ≡ options_in (texts_of c.given_of-given.result) (map string_bytes c.base_words.result.now) = search rules in
-    subst (λ (o : Options). KeepsLimits o) (sym made) (limits_kept (texts_of c.given_of-given.result) _ _ (sym c.usage_of.ensures ∙ c.in-None.is))
+    let bare : nat_lt c.mark_at-end.result (length c.args.words.now) ≡ false → map string_bytes c.base_words.result.now ≡ []
+    = λ none. c.base_words.ensures ∙ none_behind string_bytes c.args.words.now _ c.mark_at-end.ensures.at none in
+    subst (λ (o : Options). KeepsLimits o) (sym made) (limits_kept (texts_of c.given_of-given.result) _ _ _ bare (sym c.usage_of.ensures ∙ c.in-None.is))

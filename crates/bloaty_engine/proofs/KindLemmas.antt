@@ -1,0 +1,39 @@
+-- A run without a place and a debug file finds the sizes of its files, or their growth.
+use Rattle.std.proofs.Common.{◌≡◌, ℕ, List, ◌++◌, None, Result, Ok, Err, ap, ◌∙◌}
+use Rattle.std.specs.Prelude.{Vec}
+use Rattle.std.specs.declared.alloc.Global.{Global}
+use Rattle.size_core.specs.declared.limits.Limits.{Limits}
+use Rattle.size_options.specs.declared.chosen.Options.{Options}
+use Rattle.file_profile.specs.Sources.{Chosen}
+use Rattle.bloaty_engine.specs.declared.outcome.Outcome.{Outcome}
+use Rattle.bloaty_engine.specs.declared.outcome.Outcome.TheVariants.{Done, Usage, ReadFailed, TooLong, Config, UnknownSource, PatternSyntax, PatternTooBig, Bad, TooManyClaims, MappedTooLarge, NoMatch, PlaceOutside, WriteFailed, NoMemory}
+use Rattle.bloaty_engine.specs.Named.{debug_names, file_names, other_names}
+use Rattle.bloaty_engine.specs.Reports.{EndsCounting, EndsFinding}
+use Rattle.bloaty_engine.specs.Verdict.{Counted, Sides, as_counted, counted_sides, found, found_by}
+
+-- the other names are those of the base files
+pub no-debug-names : (o : Options) → o.debug ≡ None → other_names o ≡ o.bases
+no-debug-names o none = ap (λ d. debug_names d ++ o.bases) none
+
+module _ (limits : Limits) (sources : List Chosen) (files : ℕ → List ℕ) (o : Options) (no_place : o.place ≡ None) (no_debug : o.debug ≡ None) where
+  found-sides : (r : Result Sides Outcome) → counted_sides limits sources files (file_names o) o.bases ≡ r → found limits sources files o ≡ as_counted r
+  unfolding found
+  found-sides r e = ap (λ p. found_by p o.debug limits sources files o) no_place ∙ (ap (λ d. found_by None d limits sources files o) no_debug ∙ ap as_counted e)
+
+  pub counting-found : (r : Result (Vec ℕ Global) Outcome) → EndsCounting limits sources files o r → EndsFinding limits sources files o r
+  counting-found (Ok out) e = (Counted e.0, found-sides (Ok e.0) e.1, e.2)
+  counting-found (Err (ReadFailed i)) e = rw no_debug e
+  counting-found (Err NoMemory) e = tt
+  counting-found (Err (TooLong i)) e = found-sides (Err (TooLong i)) e
+  counting-found (Err Done) e = found-sides (Err Done) e
+  counting-found (Err (Usage kind)) e = found-sides (Err (Usage kind)) e
+  counting-found (Err (Config kind offset)) e = found-sides (Err (Config kind offset)) e
+  counting-found (Err (UnknownSource i)) e = found-sides (Err (UnknownSource i)) e
+  counting-found (Err (PatternSyntax i)) e = found-sides (Err (PatternSyntax i)) e
+  counting-found (Err (PatternTooBig i)) e = found-sides (Err (PatternTooBig i)) e
+  counting-found (Err (Bad i fault offset)) e = found-sides (Err (Bad i fault offset)) e
+  counting-found (Err (TooManyClaims i)) e = found-sides (Err (TooManyClaims i)) e
+  counting-found (Err MappedTooLarge) e = found-sides (Err MappedTooLarge) e
+  counting-found (Err NoMatch) e = found-sides (Err NoMatch) e
+  counting-found (Err PlaceOutside) e = found-sides (Err PlaceOutside) e
+  counting-found (Err WriteFailed) e = found-sides (Err WriteFailed) e

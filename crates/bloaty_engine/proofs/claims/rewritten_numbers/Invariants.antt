@@ -1,8 +1,0 @@
-use Rattle.std.proofs.Common.{map, take}
-use Rattle.claim_sheet.specs.Made.{KeepsLabels}
-use Rattle.custom_rewrites.specs.Rewriting.{rewritten}
-use Rattle.bloaty_engine.specs.Numbering.{AreTexts}
-use Rattle.bloaty_engine.proofs.claims.rewritten_numbers.Given as goal
-
-abbrev pub invariant-loop-k : goal.invariant-loop-k
-invariant-loop-k l = KeepsLabels l.initial.pool l.pool × AreTexts l.pool l.numbers.items (map (λ label. rewritten label l.rewrites) (take l.k l.labels))

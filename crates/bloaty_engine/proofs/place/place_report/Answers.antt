@@ -1,0 +1,66 @@
+-- The one file is read, and then its place explained.
+use Rattle.std.proofs.Common.{◌+◌, length, Err, ap, ◌∙◌}
+use Rattle.std.proofs.Common.{subst}
+use Rattle.std.proofs.lemmas.Result.{err_from_is_err_and}
+use Rattle.bloaty_engine.specs.PlaceSteps.{EndsExplained, explained_within}
+use Rattle.file_profile.proofs.MapLemmas.{err-same}
+use Rattle.bloaty_engine.specs.Named.{file_names, other_names}
+use Rattle.bloaty_engine.specs.Reading.{unmade_names}
+use Rattle.bloaty_engine.proofs.PlaceLemmas.{no-other-names, no-others-held, only-ends, place-ends, place-found}
+use Rattle.bloaty_engine.proofs.ReadLemmas.{reads-front}
+use Rattle.bloaty_engine.proofs.place.place_report.Goals as goal
+
+pub returns-in_err-file-clause-found : goal.returns-in_err-file-clause-found
+returns-in_err-file-clause-found g c =
+    let p = err_from_is_err_and c.from_residual.result c.from_residual.ensures.1 in
+    let o = c.args.options.now in
+    let alone = c.requires.limits.place _ c.requires.place in
+    let e = c.in_err-file.ensures.found in
+    rw (p.1, p.2) (
+      e.0,
+      e.1,
+      no-others-held (g.F.Files.held c.args.files.now) (length (file_names o) + 1) (other_names o) e.0 (no-other-names o alone),
+      only-ends c.args.limits.now c.args.plan.now.sources e.0 o c.args.place.now c.requires.place c.in_err-file.field-0.0 alone.no_debug alone.one_file (λ k is. c.in_err-file.ensures.unmade k (ap Err is)) e.2,
+    )
+
+pub returns-in_err-file-clause-failed : goal.returns-in_err-file-clause-failed
+returns-in_err-file-clause-failed g c =
+    let p = err_from_is_err_and c.from_residual.result c.from_residual.ensures.1 in
+    rw (p.1, p.2) (λ k e. c.in_err-file.ensures.failed k (ap Err (err-same _ _ e)))
+
+pub returns-in_err-file-clause-asked : goal.returns-in_err-file-clause-asked
+returns-in_err-file-clause-asked g c = reads-front _ _ (unmade_names c.args.options.now.synth c.args.options.now.files) (other_names c.args.options.now) c.only_file.ensures.asked
+
+pub returns-in_err-sources-clause-asked : goal.returns-in_err-sources-clause-asked
+returns-in_err-sources-clause-asked g c = reads-front _ _ (unmade_names c.args.options.now.synth c.args.options.now.files) (other_names c.args.options.now) c.only_file.ensures.asked
+
+pub returns-in_err-text_of-clause-asked : goal.returns-in_err-text_of-clause-asked
+returns-in_err-text_of-clause-asked g c = reads-front _ _ (unmade_names c.args.options.now.synth c.args.options.now.files) (other_names c.args.options.now) c.only_file.ensures.asked
+
+pub returns-clause-asked : goal.returns-clause-asked
+returns-clause-asked g c = reads-front _ _ (unmade_names c.args.options.now.synth c.args.options.now.files) (other_names c.args.options.now) c.only_file.ensures.asked
+
+pub returns-in_err-sources-clause-found : goal.returns-in_err-sources-clause-found
+returns-in_err-sources-clause-found g c =
+    let p = err_from_is_err_and c.from_residual-in_err-sources.result c.from_residual-in_err-sources.ensures.1 in
+    let o = c.args.options.now in
+    let alone = c.requires.limits.place _ c.requires.place in
+    let e = c.in_ok-file.ensures.found in
+    rw (p.1, p.2) (
+      e.0,
+      e.1,
+      no-others-held (g.F.Files.held c.args.files.now) (length (file_names o) + 1) (other_names o) e.0 (no-other-names o alone),
+      place-ends c.args.limits.now c.args.plan.now.sources e.0 o c.args.place.now c.requires.place e.2.1 c.in_err-sources.field-0.0 (subst (λ x. EndsExplained (explained_within c.args.limits.now c.args.plan.now.sources o c.args.place.now x) (Err c.in_err-sources.field-0.0)) (c.deref.ensures.value ∙ e.2.0) c.in_err-sources.ensures),
+    )
+
+pub returns-clause-found : goal.returns-clause-found
+returns-clause-found g c =
+    let o = c.args.options.now in
+    let alone = c.requires.limits.place _ c.requires.place in
+    let e = c.in_ok-file.ensures.found in (
+      e.0,
+      e.1,
+      no-others-held (g.F.Files.held c.args.files.now) (length (file_names o) + 1) (other_names o) e.0 (no-other-names o alone),
+      place-found c.args.limits.now c.args.plan.now.sources e.0 o c.args.place.now c.requires.place e.2.1 c.in_ok-sources.sources.items c.in_ok-text_of.field-0 (rw (c.deref.ensures.value, e.2.0) at c.in_ok-sources.ensures)
+          (rw c.deref-2.ensures.value at c.in_ok-text_of.ensures),
+    )

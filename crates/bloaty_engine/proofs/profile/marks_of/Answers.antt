@@ -1,9 +1,0 @@
--- One label more has its mark.
-use Rattle.size_model.proofs.Firsts.{map_more}
-use Rattle.custom_rewrites.specs.Pattern.{is_found}
-use Rattle.bloaty_engine.proofs.profile.marks_of.Goals as goal
-
-pub loop-k-preserved : goal.loop-k-preserved
-loop-k-preserved c =
-    let pushed = c.in_ok-push.ensures.items in
-    rw (pushed, c.loop-k.invariant, c.in_ok-found.ensures) (map_more (is_found c.args.pattern.now) c.args.pool.now c.loop-k.k c.get.result.now c.get.ensures)

@@ -1,6 +1,0 @@
-use Rattle.std.proofs.Common.{◌≡◌, map, take}
-use Rattle.custom_rewrites.specs.Pattern.{is_found}
-use Rattle.bloaty_engine.proofs.profile.marks_of.Given as goal
-
-abbrev pub invariant-loop-k : goal.invariant-loop-k
-invariant-loop-k l = l.marks.items ≡ map (is_found l.pattern) (take l.k l.pool)

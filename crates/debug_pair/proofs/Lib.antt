@@ -1,0 +1,3 @@
+pub mod IdentityLemmas
+pub mod NoteLemmas
+pub mod UuidLemmas

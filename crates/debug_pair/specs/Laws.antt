@@ -1,0 +1,12 @@
+-- What follows from the definition of an area's notes.
+use Rattle.std.specs.Prelude.{◌≡◌, ℕ, true, false, List, [], ◌∷◌}
+use Rattle.byte_cursor.specs.declared.order.Order.{Order}
+use Rattle.debug_pair.specs.Notes.{behind_note, has_note, note_of, notes}
+
+-- behind a note come those of what stands behind it
+abbrev pub NotesGoOn : Type 0
+NotesGoOn = (order : Order) (area : List ℕ) → has_note order area ≡ true → notes order area ≡ note_of order area ∷ notes order (behind_note order area)
+
+-- where no note fits, none comes
+abbrev pub NotesEnd : Type 0
+NotesEnd = (order : Order) (area : List ℕ) → has_note order area ≡ false → notes order area ≡ []

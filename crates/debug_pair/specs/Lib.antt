@@ -1,0 +1,4 @@
+pub mod Identities
+pub mod Laws
+pub mod Notes
+pub mod Shown

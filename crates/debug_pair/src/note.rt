@@ -1,0 +1,63 @@
+//! Notes.
+
+ghost use Rattle.std.specs.Prelude.{◌≡◌, ◌<◌, ◌^◌, true, false, MatchOption};
+ghost use Rattle.debug_pair.specs.Notes.{behind_note, filled, has_note, note_of};
+ghost use Rattle.debug_pair.specs.Identities.{is_build_id};
+ghost use Rattle.debug_pair.specs.Shown.{note_shown};
+
+use crate::constants::NT_GNU_BUILD_ID;
+use byte_cursor::{Order, u32_at};
+
+/// A note (ELF gABI, Note Section).
+#[derive(Clone, Copy, Debug)]
+pub struct Note<'a> {
+    /// Whose note it is, with the zero byte at its end.
+    pub name: &'a [u8],
+    /// Its type, which the owner of the name gives.
+    pub kind: u32,
+    /// Its descriptor.
+    pub content: &'a [u8],
+}
+
+impl<'a> Note<'a> {
+    /// Whether it has a build ID, which isn't empty.
+    #[tactic(auto, unfolding(crate::specs::Identities::is_build_id))]
+    pub(crate) fn is_build_id(&self) -> bool
+        ensures { result ≡ is_build_id (note_shown self.now) }
+    {
+        self.name == b"GNU\0".as_slice() && self.kind == NT_GNU_BUILD_ID && !self.content.is_empty()
+    }
+}
+
+/// A length, filled up to a multiple of four.
+fn filled(len: u32) -> u64
+    ensures { result ≡ filled len }
+{
+    (u64::from(len) + 3) / 4 * 4
+}
+
+/// The note that an area begins with, and what stands behind it. `None` where no note fits.
+#[tactic(auto, unfolding(crate::specs::Notes::has_note, crate::specs::Notes::note_of, crate::specs::Notes::behind_note))]
+pub fn first_note<'a>(area: &'a [u8], order: Order) -> Option<(Note<'a>, &'a [u8])>
+    ensures { MatchOption result (has_note order area.now ≡ false)
+        (λ x. (has_note order area.now ≡ true) × (note_shown x.0 ≡ note_of order area.now) × (x.1.now ≡ behind_note order area.now)) }
+{
+    if area.len() < 12 {
+        return None;
+    }
+    let name_len = u32_at(area, 0, order);
+    let content_len = u32_at(area, 4, order);
+    let place = 12 + filled(name_len);
+    let end = place + u64::from(content_len);
+    let len = area.len() as u64;
+    if len < end {
+        return None;
+    }
+    let next = len.min(place + filled(content_len));
+    let note = Note {
+        name: &area[12..12 + name_len as usize],
+        kind: u32_at(area, 8, order),
+        content: &area[place as usize..end as usize],
+    };
+    Some((note, &area[next as usize..]))
+}

@@ -1,0 +1,50 @@
+//! The notes of an area, as an iterator.
+
+ghost use Rattle.std.specs.Prelude.{◌≡◌};
+ghost use Rattle.std.specs.Iterator.{YieldsFirstBy, item_count};
+ghost use Rattle.debug_pair.specs.Notes.{notes};
+ghost use Rattle.debug_pair.specs.Shown.{note_shown};
+
+use crate::note::{Note, first_note};
+use byte_cursor::Order;
+use std::marker::Model;
+
+/// The notes of an area that are still to come, in order.
+#[derive(Drop)]
+pub struct Notes<'a> {
+    rest: &'a [u8],
+    order: Order,
+}
+
+impl<'a> Model for Notes<'a> {
+    ghost use Rattle.std.specs.Prelude.{List};
+    ghost use Rattle.debug_pair.specs.Notes.{NoteRecord, notes};
+
+    ghost Value = { List NoteRecord };
+
+    ghost view = { λ n. notes n.order n.rest.now };
+}
+
+impl<'a> Notes<'a> {
+    pub(crate) fn new(area: &'a [u8], order: Order) -> Notes<'a>
+        ensures { result ≡ notes order area.now }
+    {
+        Notes { rest: area, order }
+    }
+}
+
+impl<'a> Iterator for Notes<'a> {
+    type Item = Note<'a>;
+
+    ghost next_gives = { YieldsFirstBy note_shown (λ s. s) };
+
+    ghost remaining = { item_count (λ s. s) };
+
+    /// The next note, and `None` for good where none fits.
+    #[tactic(auto, using(crate::proofs::NoteLemmas::none_left, crate::proofs::NoteLemmas::one_more))]
+    fn next(&mut self) -> Option<Note<'a>> {
+        let (note, rest) = first_note(self.rest, self.order)?;
+        self.rest = rest;
+        Some(note)
+    }
+}

@@ -1,0 +1,207 @@
+ghost use Rattle.std.specs.Prelude.{◌≡◌, ◌+◌, ◌≤◌, length};
+
+use crate::{elf_identity, macho_identity, notes};
+use byte_cursor::Order;
+use elf_file::ElfFile;
+use macho_file::MachoFile;
+
+/// Writes bytes over those from an offset on.
+fn put(file: &mut [u8], at: usize, bytes: &[u8])
+    requires { at + length bytes.now ≤ length file.old }
+    ensures { length file.new ≡ length file.old }
+{
+    for (i, byte) in bytes.iter().enumerate() {
+        file[at + i] = *byte;
+    }
+}
+
+#[test]
+fn notes_of_areas(rt: HostRuntime) {
+    let gnu = b"GNU\0".as_slice();
+    // The area, its order, the first note, and whether one follows.
+    for (area, order, first, more) in [
+        (b"".as_slice(), Order::Little, None, false),
+        (b"\0\0\0\0\0\0\0\0\0\0\0", Order::Little, None, false),
+        (
+            b"\0\0\0\0\0\0\0\0\x07\0\0\0",
+            Order::Little,
+            Some((b"".as_slice(), 7, b"".as_slice())),
+            false,
+        ),
+        (
+            b"\x04\0\0\0\x04\0\0\0\x03\0\0\0GNU\0\xaa\xbb\xcc\xdd",
+            Order::Little,
+            Some((gnu, 3, b"\xaa\xbb\xcc\xdd")),
+            false,
+        ),
+        (
+            b"\0\0\0\x04\0\0\0\x04\0\0\0\x03GNU\0\xaa\xbb\xcc\xdd",
+            Order::Big,
+            Some((gnu, 3, b"\xaa\xbb\xcc\xdd")),
+            false,
+        ),
+        // A name and a descriptor that are filled up, and another note behind them.
+        (
+            b"\x05\0\0\0\x01\0\0\0\x02\0\0\0Xen1\0\0\0\0\xaa\0\0\0\0\0\0\0\0\0\0\0\0\0\0\0",
+            Order::Little,
+            Some((b"Xen1\0", 2, b"\xaa")),
+            true,
+        ),
+        // The last fill is missing, in whole or in part.
+        (
+            b"\x04\0\0\0\x02\0\0\0\x03\0\0\0GNU\0\xaa\xbb",
+            Order::Little,
+            Some((gnu, 3, b"\xaa\xbb")),
+            false,
+        ),
+        (
+            b"\x04\0\0\0\x02\0\0\0\x03\0\0\0GNU\0\xaa\xbb\0",
+            Order::Little,
+            Some((gnu, 3, b"\xaa\xbb")),
+            false,
+        ),
+        // A descriptor, a name, and both together pass the end.
+        (
+            b"\x04\0\0\0\x05\0\0\0\x03\0\0\0GNU\0\xaa\xbb\xcc\xdd",
+            Order::Little,
+            None,
+            false,
+        ),
+        (
+            b"\xfd\xff\xff\xff\0\0\0\0\x03\0\0\0GNU\0",
+            Order::Little,
+            None,
+            false,
+        ),
+        (
+            b"\xff\xff\xff\xff\xff\xff\xff\xff\x03\0\0\0GNU\0",
+            Order::Little,
+            None,
+            false,
+        ),
+        // Nothing comes behind a note that doesn't fit.
+        (
+            b"\0\0\0\0\0\0\0\0\x07\0\0\0\x01\0\0\0\0\0\0\0\x07\0\0\0",
+            Order::Little,
+            Some((b"", 7, b"")),
+            false,
+        ),
+    ] {
+        let mut all = notes(area, order);
+        let found = all.next().map(|note| (note.name, note.kind, note.content));
+        assert!(rt; found == first, "{area:?}");
+        assert_eq!(rt; all.next().is_some(), more, "{area:?}");
+        assert!(rt; all.next().is_none(), "{area:?}");
+    }
+}
+
+/// A file of 64 bits with two sections and a segment of notes. The first section has two notes, with a build ID in
+/// the second of them.
+fn elf() -> [u8; 448] {
+    let mut file = [0; 448];
+    put(&mut file, 0, b"\x7fELF\x02\x01\x01");
+    put(&mut file, 16, b"\x02\0\x3e\0\x01");
+    put(&mut file, 32, b"\x40\0\0\0\0\0\0\0\xb0");
+    put(&mut file, 52, b"\x40\0\x38\0\x02\0\x40\0\x03");
+    put(&mut file, 64, b"\x01");
+    put(&mut file, 120, b"\x04\0\0\0\x04\0\0\0\xac\x01");
+    put(&mut file, 152, b"\x14");
+    put(&mut file, 244, b"\x07");
+    put(&mut file, 264, b"\x70\x01\0\0\0\0\0\0\x28");
+    put(&mut file, 308, b"\x07");
+    put(&mut file, 328, b"\x98\x01\0\0\0\0\0\0\x14");
+    put(&mut file, 368, b"\x04\0\0\0\x04\0\0\0\x01\0\0\0GNU");
+    put(
+        &mut file,
+        388,
+        b"\x04\0\0\0\x04\0\0\0\x03\0\0\0GNU\0\xaa\xbb\xcc\xdd",
+    );
+    put(
+        &mut file,
+        408,
+        b"\x04\0\0\0\x04\0\0\0\x03\0\0\0GNU\0\x11\x22\x33\x44",
+    );
+    put(
+        &mut file,
+        428,
+        b"\x04\0\0\0\x04\0\0\0\x03\0\0\0GNU\0\x55\x66\x77\x88",
+    );
+    file
+}
+
+#[test]
+fn build_ids(rt: HostRuntime) {
+    let first = Some(b"\xaa\xbb\xcc\xdd".as_slice());
+    let second = Some(b"\x11\x22\x33\x44".as_slice());
+    let of_segment = Some(b"\x55\x66\x77\x88".as_slice());
+    // What is written over which bytes, and the identifier.
+    for (at, bytes, want) in [
+        (0, b"".as_slice(), first),
+        // Another type, another name, a longer name, and no descriptor.
+        (396, b"\x01", second),
+        (400, b"GNX", second),
+        (388, b"\x05", second),
+        (392, b"\0", second),
+        // A shorter one, and two notes that don't fit.
+        (392, b"\x02", Some(b"\xaa\xbb")),
+        (392, b"\x05", second),
+        (372, b"\xff\xff\xff\xff", second),
+        // The section is no section of notes.
+        (244, b"\x01", second),
+        // There are no sections, and then no segments either.
+        (40, b"\0", of_segment),
+        (40, b"\0\0\0\0\0\0\0\0\0\0\0\0\0\0\0\0\0", None),
+    ] {
+        let mut file = elf();
+        assert!(rt; at < 420 && bytes.len() < 20);
+        put(&mut file, at, bytes);
+        let Ok(elf) = ElfFile::parse(&file) else {
+            panic!(rt; "the file is well formed");
+        };
+        assert!(rt; elf_identity(&elf) == want, "{bytes:?} at {at}");
+    }
+}
+
+#[test]
+fn build_id_of_a_big_endian_file_of_32_bits(rt: HostRuntime) {
+    let mut file = [0; 104];
+    put(&mut file, 0, b"\x7fELF\x01\x02\x01");
+    put(&mut file, 16, b"\0\x03\0\x08");
+    put(&mut file, 28, b"\0\0\0\x34");
+    put(&mut file, 40, b"\0\x34\0\x20\0\x01");
+    put(&mut file, 52, b"\0\0\0\x04\0\0\0\x54");
+    // It passes the file's end, at which its bytes are cut.
+    put(&mut file, 68, b"\xff\xff\xff\xff");
+    put(
+        &mut file,
+        84,
+        b"\0\0\0\x04\0\0\0\x03\0\0\0\x03GNU\0\xaa\xbb\xcc",
+    );
+    let Ok(elf) = ElfFile::parse(&file) else {
+        panic!(rt; "the file is well formed");
+    };
+    assert!(rt; elf_identity(&elf) == Some(b"\xaa\xbb\xcc".as_slice()));
+}
+
+#[test]
+fn uuids(rt: HostRuntime) {
+    // What is written over which bytes, and the identifier.
+    for (at, bytes, want) in [
+        (0, b"".as_slice(), Some(b"0123456789abcdef".as_slice())),
+        (32, b"\x2a", Some(b"ghijklmnopqrstuv")),
+        (16, b"\x01\0\0\0\x18", Some(b"0123456789abcdef")),
+        (16, b"\0\0\0\0\0", None),
+    ] {
+        let mut file = [0; 80];
+        put(&mut file, 0, b"\xcf\xfa\xed\xfe\x0c\0\0\x01");
+        put(&mut file, 12, b"\x02\0\0\0\x02\0\0\0\x30");
+        put(&mut file, 32, b"\x1b\0\0\0\x18\0\0\x000123456789abcdef");
+        put(&mut file, 56, b"\x1b\0\0\0\x18\0\0\0ghijklmnopqrstuv");
+        assert!(rt; at < 40 && bytes.len() < 20);
+        put(&mut file, at, bytes);
+        let Ok(macho) = MachoFile::parse(&file) else {
+            panic!(rt; "the file is well formed");
+        };
+        assert!(rt; macho_identity(&macho) == want, "{bytes:?} at {at}");
+    }
+}

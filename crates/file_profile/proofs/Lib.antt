@@ -1,0 +1,10 @@
+pub mod AloneLemmas
+pub mod CountLemmas
+pub mod LawLemmas
+pub mod MapLemmas
+pub mod NumberLemmas
+pub mod PairLemmas
+pub mod PlaceLemmas
+pub mod PlanLemmas
+pub mod ProfileLemmas
+pub mod SpellLemmas

@@ -1,0 +1,14 @@
+pub mod Choices
+pub mod Claims
+pub mod Counts
+pub mod Identity
+pub mod Laws
+pub mod Numbering
+pub mod PairViews
+pub mod Patterns
+pub mod Places
+pub mod Plans
+pub mod Reasons
+pub mod Sources
+pub mod Spelling
+pub mod Views

@@ -1,0 +1,214 @@
+//! Why a file isn't counted.
+
+ghost use Rattle.std.specs.Prelude.{◌≡◌};
+
+use data_sources::ClaimAnswer;
+use rollup::RollupAnswer;
+use size_core::{BadFile, NoMemory};
+use thiserror::Error;
+
+/// Why a file isn't counted.
+#[derive(Clone, Copy, Debug, PartialEq, Eq, Error)]
+pub enum ProfileAnswer {
+    /// The first fault of the file, or of a data source on it.
+    #[error("bad file")]
+    Bad(BadFile),
+    /// The data sources asked make more claims than the limit.
+    #[error("too many claims")]
+    TooManyClaims,
+    /// The mapped sizes of the files pass 2^63 - 1.
+    #[error("mapped size too large")]
+    MappedTooLarge,
+    /// There was not enough memory.
+    #[error("out of memory")]
+    NoMemory,
+}
+
+/// Why a file isn't counted with its debug file.
+#[derive(Clone, Copy, Debug, PartialEq, Eq, Error)]
+pub enum PairAnswer {
+    /// The first fault of the file, which is file 1, or of its debug file, which is file 2, or of a data source on it.
+    #[error("bad file")]
+    Bad(u32, BadFile),
+    /// The identifiers of the two differ, or one has none.
+    #[error("no match")]
+    NoMatch,
+    /// The data sources asked make more claims than the limit.
+    #[error("too many claims")]
+    TooManyClaims,
+    /// The mapped sizes of the files pass 2^63 - 1.
+    #[error("mapped size too large")]
+    MappedTooLarge,
+    /// There was not enough memory.
+    #[error("out of memory")]
+    NoMemory,
+}
+
+/// Why a place of a file isn't explained.
+#[derive(Clone, Copy, Debug, PartialEq, Eq, Error)]
+pub enum PlaceAnswer {
+    /// The first fault of the file, or of a data source on it.
+    #[error("bad file")]
+    Bad(BadFile),
+    /// The file offset isn't below the file's end, or the address isn't mapped.
+    #[error("place outside the file")]
+    PlaceOutside,
+    /// The data sources asked make more claims than the limit.
+    #[error("too many claims")]
+    TooManyClaims,
+    /// The mapped size of the file passes 2^63 - 1.
+    #[error("mapped size too large")]
+    MappedTooLarge,
+    /// There was not enough memory.
+    #[error("out of memory")]
+    NoMemory,
+}
+
+/// Why a file that was opened isn't counted.
+#[derive(Clone, Copy, Debug, PartialEq, Eq)]
+pub enum OpenedAnswer {
+    /// The first fault of a data source on the file, which is file 1, or on its debug file, which is file 2.
+    Bad(u32, BadFile),
+    /// The data sources asked make more claims than the limit.
+    TooManyClaims,
+    /// The mapped sizes of the files pass 2^63 - 1.
+    MappedTooLarge,
+    /// There was not enough memory.
+    NoMemory,
+}
+
+impl From<NoMemory> for OpenedAnswer {
+    ghost use Rattle.file_profile.specs.declared.answer.OpenedAnswer.TheVariants.{NoMemory as OutOfMemory};
+
+    ghost from_gives = { λ _ e. e ≡ OutOfMemory };
+
+    fn from(_: NoMemory) -> OpenedAnswer {
+        OpenedAnswer::NoMemory
+    }
+}
+
+impl From<RollupAnswer> for OpenedAnswer {
+    ghost use Rattle.file_profile.specs.Reasons.{of_rollup};
+
+    ghost from_gives = { λ answer e. e ≡ of_rollup answer };
+
+    // Lengths that are within the limits of a run never are too many bytes.
+    fn from(answer: RollupAnswer) -> OpenedAnswer {
+        match answer {
+            RollupAnswer::TooManyBytes | RollupAnswer::MappedTooLarge => {
+                OpenedAnswer::MappedTooLarge
+            }
+            RollupAnswer::NoMemory => OpenedAnswer::NoMemory,
+        }
+    }
+}
+
+impl OpenedAnswer {
+    ghost use Rattle.file_profile.specs.Reasons.{of_claims};
+
+    /// The answer of the claims on a file of this number.
+    pub fn of_claims(number: u32, answer: ClaimAnswer) -> OpenedAnswer
+        ensures { result ≡ of_claims number answer }
+    {
+        match answer {
+            ClaimAnswer::Bad(bad) => OpenedAnswer::Bad(number, bad),
+            ClaimAnswer::TooManyClaims => OpenedAnswer::TooManyClaims,
+            ClaimAnswer::NoMemory => OpenedAnswer::NoMemory,
+        }
+    }
+}
+
+impl From<NoMemory> for ProfileAnswer {
+    ghost use Rattle.file_profile.specs.declared.answer.ProfileAnswer.TheVariants.{NoMemory as OutOfMemory};
+
+    ghost from_gives = { λ _ e. e ≡ OutOfMemory };
+
+    fn from(_: NoMemory) -> ProfileAnswer {
+        ProfileAnswer::NoMemory
+    }
+}
+
+impl From<BadFile> for ProfileAnswer {
+    ghost use Rattle.file_profile.specs.declared.answer.ProfileAnswer.TheVariants.{Bad};
+
+    ghost from_gives = { λ bad e. e ≡ Bad bad };
+
+    fn from(bad: BadFile) -> ProfileAnswer {
+        ProfileAnswer::Bad(bad)
+    }
+}
+
+impl From<OpenedAnswer> for ProfileAnswer {
+    ghost use Rattle.file_profile.specs.Reasons.{of_file_alone};
+
+    ghost from_gives = { λ answer e. e ≡ of_file_alone answer };
+
+    fn from(answer: OpenedAnswer) -> ProfileAnswer {
+        match answer {
+            OpenedAnswer::Bad(_, bad) => ProfileAnswer::Bad(bad),
+            OpenedAnswer::TooManyClaims => ProfileAnswer::TooManyClaims,
+            OpenedAnswer::MappedTooLarge => ProfileAnswer::MappedTooLarge,
+            OpenedAnswer::NoMemory => ProfileAnswer::NoMemory,
+        }
+    }
+}
+
+impl From<NoMemory> for PairAnswer {
+    ghost use Rattle.file_profile.specs.declared.answer.PairAnswer.TheVariants.{NoMemory as OutOfMemory};
+
+    ghost from_gives = { λ _ e. e ≡ OutOfMemory };
+
+    fn from(_: NoMemory) -> PairAnswer {
+        PairAnswer::NoMemory
+    }
+}
+
+impl From<OpenedAnswer> for PairAnswer {
+    ghost use Rattle.file_profile.specs.Reasons.{of_file_pair};
+
+    ghost from_gives = { λ answer e. e ≡ of_file_pair answer };
+
+    fn from(answer: OpenedAnswer) -> PairAnswer {
+        match answer {
+            OpenedAnswer::Bad(number, bad) => PairAnswer::Bad(number, bad),
+            OpenedAnswer::TooManyClaims => PairAnswer::TooManyClaims,
+            OpenedAnswer::MappedTooLarge => PairAnswer::MappedTooLarge,
+            OpenedAnswer::NoMemory => PairAnswer::NoMemory,
+        }
+    }
+}
+
+impl From<NoMemory> for PlaceAnswer {
+    ghost use Rattle.file_profile.specs.declared.answer.PlaceAnswer.TheVariants.{NoMemory as OutOfMemory};
+
+    ghost from_gives = { λ _ e. e ≡ OutOfMemory };
+
+    fn from(_: NoMemory) -> PlaceAnswer {
+        PlaceAnswer::NoMemory
+    }
+}
+
+impl From<BadFile> for PlaceAnswer {
+    ghost use Rattle.file_profile.specs.declared.answer.PlaceAnswer.TheVariants.{Bad};
+
+    ghost from_gives = { λ bad e. e ≡ Bad bad };
+
+    fn from(bad: BadFile) -> PlaceAnswer {
+        PlaceAnswer::Bad(bad)
+    }
+}
+
+impl From<OpenedAnswer> for PlaceAnswer {
+    ghost use Rattle.file_profile.specs.Reasons.{of_file_place};
+
+    ghost from_gives = { λ answer e. e ≡ of_file_place answer };
+
+    fn from(answer: OpenedAnswer) -> PlaceAnswer {
+        match answer {
+            OpenedAnswer::Bad(_, bad) => PlaceAnswer::Bad(bad),
+            OpenedAnswer::TooManyClaims => PlaceAnswer::TooManyClaims,
+            OpenedAnswer::MappedTooLarge => PlaceAnswer::MappedTooLarge,
+            OpenedAnswer::NoMemory => PlaceAnswer::NoMemory,
+        }
+    }
+}

@@ -1,0 +1,119 @@
+//! The sizes of a file with its debug file.
+
+ghost use Rattle.std.specs.Prelude.{◌≡◌, ◌+◌, ◌≤◌, ◌<◌, ◌^◌, ℕ, Bool, List, length, Ok, Err, IfOk, OnOk, OnErr};
+ghost use Rattle.std.specs.Option.{option_copied};
+ghost use Rattle.size_model.specs.declared.view.FileView.{FileView as FileViewSpec};
+ghost use Rattle.size_model.specs.Loads.{mapped_count};
+ghost use Rattle.rollup.specs.Adding.{file_where, vm_where};
+ghost use Rattle.data_sources.specs.Groups.{bytes_of};
+ghost use Rattle.data_sources.specs.Opened.{opened};
+ghost use Rattle.file_profile.specs.Counts.{file_size_where, filter_test, step_bound, vm_size_where};
+ghost use Rattle.file_profile.specs.Identity.{is_pair, is_same};
+ghost use Rattle.file_profile.specs.PairViews.{PairAnswers, opened_as, pair_view, pair_viewed};
+
+use crate::answer::PairAnswer;
+use crate::asked::Plan;
+use crate::profile::profile_opened;
+use crate::subject::Subject;
+use data_sources::{Binary, open_binary};
+use debug_pair::{elf_identity, macho_identity};
+use rollup::Rollup;
+use size_core::{Limits, Steps};
+use std::alloc::Global;
+use std::sync::ledger::Ledger;
+
+// Opens the file of this number.
+fn open_as<'a>(number: u32, file: &'a [u8]) -> Result<Binary<'a>, PairAnswer>
+    requires { length file.now < 2 ^ 32 }
+    ensures opened { result ≡ opened_as number (opened file.now) }
+    ensures bytes { IfOk result (λ binary. bytes_of binary ≡ file.now) }
+{
+    match open_binary(file) {
+        Ok(binary) => Ok(binary),
+        Err(bad) => Err(PairAnswer::Bad(number, bad)),
+    }
+}
+
+// Both identifiers are there, and they are the same.
+fn is_same(own: Option<&[u8]>, debug: Option<&[u8]>) -> bool
+    ensures { result ≡ is_same (option_copied own.entry) (option_copied debug.entry) }
+{
+    match (own, debug) {
+        (Some(own), Some(debug)) => own == debug,
+        _ => false,
+    }
+}
+
+// Both files are of one format, and have the same identifier.
+fn is_pair(binary: &Binary<'_>, debug: &Binary<'_>) -> bool
+    ensures { result ≡ is_pair binary.now debug.now }
+{
+    match (binary, debug) {
+        (Binary::Elf(own), Binary::Elf(debug)) => is_same(elf_identity(own), elf_identity(debug)),
+        (Binary::Macho(own), Binary::Macho(debug)) => {
+            is_same(macho_identity(own), macho_identity(debug))
+        }
+        _ => false,
+    }
+}
+
+/// Adds the sizes of one file to a total, with the claims of its debug file before the file's own: symbols, compile units
+/// and source lines that a stripped file no longer has. Only the bytes and addresses of the file are counted, none of the
+/// debug file. `inputfiles` labels them `name`.
+///
+/// # Errors
+///
+/// `Bad` gives the number of the file, which is 1, or of its debug file, which is 2, and its first fault: those of the two
+/// formats come first, then `NoMatch` where the identifiers of the two (the build ID of ELF, the UUID of Mach-O) differ or
+/// one is absent, then for each data source those of the debug file and of the file. `TooManyClaims` comes where the claims
+/// of the data sources pass `limits.claims`, at the data source at which they do; `MappedTooLarge` where there is none of
+/// these and the mapped sizes of all files pass 2^63 - 1. After a refusal the total is as it was.
+pub fn profile_pair<L: Ledger>(
+    alloc: Global,
+    plan: &Plan,
+    name: &str,
+    file: &[u8],
+    debug: &[u8],
+    total: &mut Rollup,
+    limits: &Limits,
+    steps: &mut Steps<L>,
+) -> Result<(), PairAnswer>
+    requires short { length file.now < 2 ^ 32 }
+    requires short_debug { length debug.now < 2 ^ 32 }
+    requires depth { total.old.depth ≡ length plan.now.sources }
+    requires lengths { total.old.lengths + length file.now ≤ 2 ^ 62 }
+
+    // The first of the two files' faults and limits decides, want of memory aside.
+    ensures answer { PairAnswers result (pair_viewed total.old.mapped limits.now.claims name.now file.now debug.now plan.now.sources) }
+    ensures unchanged { OnErr result (total.new ≡ total.old) }
+
+    // The paths of which a test holds, as that a path is this one or begins so, grow by the file's bytes that have one.
+    ensures file { OnOk result ((f : FileViewSpec) (test : List (List ℕ) → Bool)
+        → pair_viewed total.old.mapped limits.now.claims name.now file.now debug.now plan.now.sources ≡ Ok f
+        → file_where test total.new.rows ≡ file_where test total.old.rows + file_size_where (filter_test plan.now.filter) test f) }
+    ensures vm { OnOk result ((f : FileViewSpec) (test : List (List ℕ) → Bool)
+        → pair_viewed total.old.mapped limits.now.claims name.now file.now debug.now plan.now.sources ≡ Ok f
+        → vm_where test total.new.rows ≡ vm_where test total.old.rows + vm_size_where (filter_test plan.now.filter) test f) }
+
+    // What was added, filtered or not: the debug file's length and addresses are no part of it.
+    ensures depth { total.new.depth ≡ total.old.depth }
+    ensures lengths { OnOk result (total.new.lengths ≡ total.old.lengths + length file.now) }
+    ensures mapped { OnOk result ((f : FileViewSpec)
+        → pair_viewed total.old.mapped limits.now.claims name.now file.now debug.now plan.now.sources ≡ Ok f
+        → total.new.mapped ≡ total.old.mapped + mapped_count f.loads) }
+
+    // No more pieces are read than the claims and the loads make, and none where a file or its claims have a fault.
+    ensures cost { (f : FileViewSpec)
+        → pair_view limits.now.claims name.now file.now debug.now plan.now.sources ≡ Ok f
+        → steps.new ≤ steps.old + step_bound f }
+    ensures free { (fault : PairAnswer) → pair_view limits.now.claims name.now file.now debug.now plan.now.sources ≡ Err fault → steps.new ≡ steps.old }
+{
+    let binary = open_as(1, file)?;
+    let other = open_as(2, debug)?;
+    if !is_pair(&binary, &other) {
+        return Err(PairAnswer::NoMatch);
+    }
+    let subject = Subject::new(alloc, name.as_bytes(), binary, Some(other))?;
+    profile_opened(alloc, plan, &subject, total, limits, steps)?;
+    Ok(())
+}

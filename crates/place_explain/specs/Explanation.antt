@@ -1,0 +1,54 @@
+-- What is said of a place.
+use Rattle.std.specs.Prelude.{ℕ, ◌+◌, Bool, if◌then◌else◌, List, [], ◌∷◌}
+use Rattle.size_core.specs.declared.claim.Load.{Load}
+use Rattle.size_core.specs.declared.place.Place.{Place}
+use Rattle.size_model.specs.Sizes.{with_rewriting}
+use Rattle.size_model.specs.declared.view.FileView.{FileView}
+use Rattle.size_model.specs.declared.view.LabelledClaim.{LabelledClaim}
+use Rattle.size_model.specs.declared.view.SourceView.{SourceView}
+use Rattle.place_explain.specs.Numbers.{within_limit, over_limit}
+use Rattle.place_explain.specs.Places.{labelled_covers, place_label}
+use Rattle.place_explain.specs.declared.named.Explained.{Explained}
+use Rattle.place_explain.specs.declared.named.NamedClaim.{NamedClaim}
+use Rattle.place_explain.specs.declared.named.PlaceSource.{PlaceSource}
+
+-- a claim under its number
+abbrev pub named : ℕ → LabelledClaim → NamedClaim
+named n c = record { number = n; side = c.side; label = c.label }
+
+-- the claims that cover, each under its number in the list, whose first has this number
+abbrev pub covering : (LabelledClaim → Bool) → ℕ → List LabelledClaim → List NamedClaim
+covering covers n [] = []
+covering covers n (c ∷ cs) = if covers c then named n c ∷ covering covers (n + 1) cs else covering covers (n + 1) cs
+
+-- the label of the first of these claims, or of what none covers
+abbrev pub label_of_first : List ℕ → List NamedClaim → List ℕ
+label_of_first unmapped [] = unmapped
+label_of_first unmapped (c ∷ cs) = c.label
+
+-- the claims of a data source that cover a place of a file with this length and these loads, in order, from number 1 on
+abbrev pub covering_place : ℕ → List Load → Place → SourceView → List NamedClaim
+covering_place len loads spot s = covering (labelled_covers len loads spot) 1 s.claims
+
+-- what a data source says of a place: the label, the claims that cover it within a limit, and how many others do
+abbrev pub explained : ℕ → List Load → Place → ℕ → SourceView → Explained
+explained len loads spot limit s = record {
+  label = label_of_first s.unmapped (covering_place len loads spot s);
+  claims = within_limit limit (covering_place len loads spot s);
+  more = over_limit limit (covering_place len loads spot s);
+}
+
+-- the same under the data source's name, the label rewritten
+abbrev pub under_name : List ℕ → (List ℕ → List ℕ) → Explained → PlaceSource
+under_name name rewritten e = record { name = name; label = rewritten e.label; claims = e.claims; more = e.more }
+
+-- What a data source of this name, all labels of which are rewritten, says of a place of a file: the label that it
+-- gives the place; the claims that cover the place, in order, each under its number and its label before that, within a
+-- limit above 0 the first and so many further ones; and how many others there are.
+abbrev pub explanation : FileView → Place → ℕ → List ℕ → (List ℕ → List ℕ) → SourceView → PlaceSource
+explanation f spot limit name rewritten s = record {
+  name = name;
+  label = place_label f spot (with_rewriting rewritten s);
+  claims = within_limit limit (covering_place f.len f.loads spot s);
+  more = over_limit limit (covering_place f.len f.loads spot s);
+}

@@ -1,0 +1,23 @@
+-- Claims by number under their labels.
+use Rattle.std.specs.Prelude.{◌<◌, ◌≤◌, ◌-◌, ℕ, List, length, get_or}
+use Rattle.size_core.specs.declared.claim.Claim.{Claim}
+use Rattle.size_core.specs.declared.claim.Side.TheVariants.{Both}
+use Rattle.size_core.specs.declared.claim.Span.{Span}
+use Rattle.size_model.specs.Numbered.{labelled}
+use Rattle.place_explain.specs.Explanation.{named}
+use Rattle.place_explain.specs.declared.named.NamedClaim.{NamedClaim}
+
+-- a number of a claim of the list, from 1 on
+pub record IsNumber (claims : List Claim) (n : ℕ) : Type 0 where
+  pub above : 0 < n
+  pub within : n ≤ length claims
+
+abbrev pub no_span : Span
+no_span = record { space = 0; start = 0; len = 0 }
+
+abbrev pub no_claim : Claim
+no_claim = record { side = Both; vm = no_span; file = no_span; label = 0 }
+
+-- the claim of a number, under it and with its label's text
+abbrev pub named_at : List (List ℕ) → List Claim → ℕ → NamedClaim
+named_at pool claims n = named n (labelled pool (get_or claims (n - 1) no_claim))

@@ -1,0 +1,14 @@
+//! What a data source says of one place of a file: its label, and the claims that cover it.
+#![tactic(auto)]
+
+mod covering;
+mod laws;
+mod named;
+mod spot;
+
+pub use covering::{covers, explain, is_inside};
+pub use laws::{first_has_label, rewrites_the_label_alone};
+pub use named::{Explained, NamedClaim, NamedClaims, Numbers, PlaceSource, explain_source};
+
+#[cfg(test)]
+mod tests;

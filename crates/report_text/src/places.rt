@@ -1,0 +1,170 @@
+//! The explanation of a place.
+
+ghost use Rattle.std.specs.Prelude.{◌≡◌, ◌++◌, IfOk, OnOk, OnErr, codes};
+ghost use Rattle.report_text.specs.Places.{number_line, name_line, space_text, place_line, side_text, claim_line, beaten_line, claim_lines, more_line, source_lines, place_report_text};
+
+use crate::labels::push_shortened;
+use crate::numbers::push_decimal;
+use crate::pieces::push;
+use place_explain::{NamedClaim, NamedClaims, PlaceSource};
+use size_core::{NoMemory, Place, Side};
+use std::alloc::Global;
+
+// Adds a line that ends in a number.
+#[tactic(auto, unfolding(crate::specs::Places::number_line))]
+fn push_number_line(out: &mut Vec<u8>, before: &[u8], number: u64) -> Result<(), NoMemory>
+    ensures { OnOk result (out.new.items ≡ out.old.items ++ number_line before.now number) }
+{
+    push(out, before)?;
+    push_decimal(out, number as u128)?;
+    push(out, b"\n")
+}
+
+// Adds a line that ends in a name or a label.
+#[tactic(auto, unfolding(crate::specs::Places::name_line))]
+fn push_name_line(out: &mut Vec<u8>, before: &[u8], text: &[u8], wide: bool) -> Result<(), NoMemory>
+    ensures { OnOk result (out.new.items ≡ out.old.items ++ name_line wide before.now text.now) }
+{
+    push(out, before)?;
+    push_shortened(out, text, wide)?;
+    push(out, b"\n")
+}
+
+// Adds the space before an address.
+#[tactic(auto, unfolding(crate::specs::Places::space_text))]
+fn push_space(out: &mut Vec<u8>, space: u32) -> Result<(), NoMemory>
+    ensures { OnOk result (out.new.items ≡ out.old.items ++ space_text space) }
+{
+    if space == 0 {
+        return Ok(());
+    }
+    push_decimal(out, space as u128)?;
+    push(out, b":")
+}
+
+// Adds the line of an address.
+#[tactic(auto, unfolding(crate::specs::Places::number_line))]
+fn push_address(out: &mut Vec<u8>, space: u32, address: u64) -> Result<(), NoMemory>
+    ensures { OnOk result (out.new.items ≡ out.old.items ++ number_line (codes "address " ++ space_text space) address) }
+{
+    push(out, b"address ")?;
+    push_space(out, space)?;
+    push_number_line(out, b"", address)
+}
+
+// Adds the line of a place.
+#[tactic(auto, unfolding(crate::specs::Places::place_line))]
+fn push_place(out: &mut Vec<u8>, place: &Place) -> Result<(), NoMemory>
+    ensures { OnOk result (out.new.items ≡ out.old.items ++ place_line place.now) }
+{
+    match *place {
+        Place::Offset(offset) => push_number_line(out, b"file offset ", offset),
+        Place::Address(space, address) => push_address(out, space, address),
+    }
+}
+
+// A claim's side.
+fn side_text(side: Side) -> &'static [u8]
+    ensures { result.now ≡ side_text side }
+{
+    match side {
+        Side::File => b" file ",
+        Side::Vm => b" vm ",
+        Side::Both => b" both ",
+    }
+}
+
+// Adds a claim's line.
+#[tactic(auto, unfolding(crate::specs::Places::claim_line))]
+fn push_claim(
+    out: &mut Vec<u8>,
+    rank: &[u8],
+    claim: &NamedClaim,
+    wide: bool,
+) -> Result<(), NoMemory>
+    ensures { OnOk result (out.new.items ≡ out.old.items ++ claim_line wide rank.now claim.now) }
+{
+    push(out, rank)?;
+    push_decimal(out, claim.number as u128)?;
+    push_name_line(out, side_text(claim.side), claim.label.as_slice(), wide)
+}
+
+// Adds the line of a claim that the first one beats.
+#[tactic(auto, unfolding(crate::specs::Places::beaten_line))]
+fn push_beaten(out: &mut Vec<u8>, claim: &NamedClaim, wide: bool) -> Result<(), NoMemory>
+    ensures { OnOk result (out.new.items ≡ out.old.items ++ beaten_line wide claim.now) }
+{
+    push_claim(out, b"  beaten #", claim, wide)
+}
+
+// Adds the lines of the claims that cover a place.
+fn push_claims(out: &mut Vec<u8>, claims: &NamedClaims, wide: bool) -> Result<(), NoMemory>
+    ensures { OnOk result (out.new.items ≡ out.old.items ++ claim_lines wide claims.now) }
+{
+    if claims.len() == 0 {
+        return push(out, b"  first none\n");
+    }
+    push_claim(out, b"  first #", claims.get(0), wide)?;
+    for k in 1..claims.len() {
+        push_beaten(out, claims.get(k), wide)?;
+    }
+    Ok(())
+}
+
+// Adds the line of the claims that a limit left over.
+#[tactic(auto, unfolding(crate::specs::Places::more_line))]
+fn push_more(out: &mut Vec<u8>, more: u64) -> Result<(), NoMemory>
+    ensures { OnOk result (out.new.items ≡ out.old.items ++ more_line more) }
+{
+    if more == 0 {
+        return Ok(());
+    }
+    push_number_line(out, b"  more ", more)
+}
+
+// Adds the lines of a data source.
+#[tactic(auto, unfolding(crate::specs::Places::source_lines))]
+fn push_source(out: &mut Vec<u8>, source: &PlaceSource, wide: bool) -> Result<(), NoMemory>
+    ensures { OnOk result (out.new.items ≡ out.old.items ++ source_lines wide source.now) }
+{
+    push_name_line(out, b"source ", source.name.as_slice(), wide)?;
+    push_name_line(out, b"  label ", source.label.as_slice(), wide)?;
+    push_claims(out, &source.claims, wide)?;
+    push_more(out, source.more)
+}
+
+// The lines of a place.
+#[tactic(auto, unfolding(crate::specs::Places::place_report_text))]
+fn lines(
+    alloc: Global,
+    place: &Place,
+    sources: &[PlaceSource],
+    wide: bool,
+) -> Result<Vec<u8>, NoMemory>
+    ensures { IfOk result (λ v. v.items ≡ place_report_text place.now sources.now wide) }
+{
+    let mut text = Vec::new(alloc);
+    push_place(&mut text, place)?;
+    for source in sources {
+        push_source(&mut text, source, wide)?;
+    }
+    Ok(text)
+}
+
+/// Adds the lines of a place and of what data sources say of it: of each its name, the place's label, the claims that
+/// cover the place, each by its number, its side and its label, the first of them first, and how many more there are.
+/// A name or a label of more than 60 bytes is shortened unless `wide`. After want of memory `out` holds what it held.
+pub fn place_text(
+    alloc: Global,
+    place: &Place,
+    sources: &[PlaceSource],
+    wide: bool,
+    out: &mut Vec<u8>,
+) -> Result<(), NoMemory>
+    ensures ok { OnOk result (out.new.items ≡ out.old.items ++ place_report_text place.now sources.now wide) }
+    ensures err { OnErr result (out.new.items ≡ out.old.items) }
+{
+    let text = lines(alloc, place, sources, wide)?;
+    out.extend_from_slice(text.as_slice())?;
+    Ok(())
+}
