@@ -8,7 +8,7 @@ use Rattle.regex.specs.Writes.{both, group_of}
 use Rattle.regex.specs.Replace.{bytes_of, group_bytes}
 use Rattle.regex.specs.declared.bytes.captures.Captures.{Captures}
 use Rattle.regex.specs.declared.bytes.regex.Regex.{Regex}
-use Rattle.custom_rewrites.specs.Pattern.{bytes_config}
+use Rattle.custom_rewrites.specs.Pattern.{bytes_config, is_found}
 use Rattle.custom_rewrites.specs.Expand.{expanded, group_in, replaced}
 use Rattle.custom_rewrites.proofs.PatternLemmas.{matches_as_written, found_as_written}
 
@@ -45,3 +45,7 @@ module _ (r : Regex) (source : List ℕ) (is_source : regex_source r ≡ source)
       let found = found_as_written r source is_source is_config is_read label bytes m is in
       ap (option_map (λ (x : Match). expanded (group_bytes label x) replacement)) found.1
       ∙ ap Some (sym (expanded_is label m found.0 c h found.3 found.2 replacement))
+
+-- a label in which the pattern isn't found
+pub not_replaced : (source label replacement : List ℕ) → is_found source label ≡ false → replaced source replacement label ≡ None
+not_replaced source label replacement other = ap (option_map (λ (m : Match). expanded (group_bytes label m) replacement)) (none_of _ other)

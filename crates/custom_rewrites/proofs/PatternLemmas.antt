@@ -11,7 +11,7 @@ use Rattle.regex_syntax.specs.Brackets.{Nested}
 use Rattle.regex_syntax.specs.Same.{SameTree}
 use Rattle.regex_syntax.specs.declared.error.ErrorKind.{ErrorKind}
 use Rattle.regex_syntax.specs.declared.error.ErrorKind.TheVariants.{OutOfMemory}
-use Rattle.custom_rewrites.specs.Pattern.{bytes_config, tree_of, found_in, is_found, IsNoPattern}
+use Rattle.custom_rewrites.specs.Pattern.{bytes_config, tree_of, found_in, is_found, FindsAs, IsNoPattern}
 
 -- the tree that the grammar reads in a text that it reads
 read_some : (P : Nested Re × Names → Type 0) (o : Option (Nested Re × Names)) → IsSomeAnd o P
@@ -58,3 +58,8 @@ no_pattern source kind (inr (inr h)) other = inr h.1
 pub tree_some : (r : Regex) (source : List ℕ) → regex_source r ≡ source → regex_config r ≡ bytes_config → IsReadFromSource r
     → is_some (tree_of source) ≡ true
 tree_some r source is_source is_config is_read = ap is_some (tree_is r source is_source is_config is_read).1
+
+pub finds_as : (r : Regex) (source : List ℕ) → regex_source r ≡ source → regex_config r ≡ bytes_config → IsReadFromSource r
+    → (re : Re) → re ≡ regex_pattern r → FindsAs re source
+finds_as r source is_source is_config is_read re is label bytes =
+    ap (λ (p : Re). is_some (find p label 0)) is ∙ matches_as_written r source is_source is_config is_read label bytes

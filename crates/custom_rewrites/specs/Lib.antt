@@ -2,3 +2,4 @@ pub mod Pattern
 pub mod Expand
 pub mod Refusals
 pub mod Rewriting
+pub mod Shown

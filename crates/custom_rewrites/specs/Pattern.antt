@@ -1,5 +1,5 @@
 -- What a pattern finds in a label, as a function of the two texts.
-use Rattle.std.specs.Prelude.{◌≡◌, ◌⊎◌, ◌<◌, ℕ, Bool, true, false, List, Option, None, is_some, IfSome, option_map, option_and_then, chars}
+use Rattle.std.specs.Prelude.{◌≡◌, ◌⊎◌, ◌<◌, ℕ, Bool, true, false, List, Option, None, is_some, IfSome, get_or, option_map, option_and_then, chars}
 use Rattle.regex.specs.Patterns.{Re, Match, Config, default_config, find}
 use Rattle.regex_syntax.specs.Grammar.{read}
 
@@ -27,3 +27,7 @@ IsPattern source = is_some (tree_of source) ≡ true
 abbrev pub IsNoPattern : List ℕ → Type 0
 IsNoPattern source = (tree_of source ≡ None)
     ⊎ IfSome (read bytes_config (chars source)) (λ (re, _). bytes_config.nest_limit < re.depth)
+
+-- a compiled pattern is found in the labels in which the text's is
+abbrev pub FindsAs : Re → List ℕ → Type 0
+FindsAs re source = (label : List ℕ) → ((k : ℕ) → get_or label k 0 < 256) → is_some (find re label 0) ≡ is_found source label

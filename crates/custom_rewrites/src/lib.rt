@@ -6,9 +6,9 @@ mod pattern;
 mod refusing;
 mod rewriting;
 
-pub use pattern::{LabelPattern, PatternAnswer, Patterns};
+pub use pattern::{LabelFinder, LabelPattern, PatternAnswer, Patterns};
 pub use refusing::RegexPatterns;
-pub use rewriting::{RewriteAnswer, Rewrites};
+pub use rewriting::{RewriteAnswer, Rewriter, Rewrites};
 
 #[cfg(test)]
 mod tests;

@@ -6,7 +6,7 @@ ghost use Rattle.custom_rewrites.specs.Expand.{replaced};
 
 use crate::expand::expansion_of;
 use regex::Error;
-use regex::bytes::Regex;
+use regex::bytes::{Matcher, Regex};
 use size_core::NoMemory;
 use std::alloc::Global;
 use std::marker::Model;
@@ -58,12 +58,23 @@ impl LabelPattern {
         }
     }
 
-    /// Whether the pattern is found in the label.
+    /// What searches for the pattern in many labels.
+    pub fn finder(&self, alloc: Global) -> Result<LabelFinder<'_>, NoMemory>
+        ensures { IfOk result (λ finder. finder ≡ self.now) }
+    {
+        let matcher = self.regex.matcher(alloc)?;
+        Ok(LabelFinder {
+            pattern: self,
+            matcher,
+        })
+    }
+
+    /// Whether the pattern is found in the label. Where it is asked of many labels, a `finder` is quicker.
     pub fn finds(&self, alloc: Global, label: &[u8]) -> Result<bool, NoMemory>
         ensures { IfOk result (λ found. found ≡ is_found self.now label.now) }
     {
-        let mut matcher = self.regex.matcher(alloc)?;
-        Ok(matcher.is_match(label))
+        let mut finder = self.finder(alloc)?;
+        Ok(finder.finds(label))
     }
 
     /// The label's new text, where the pattern is found in it.
@@ -81,6 +92,54 @@ impl LabelPattern {
             Some(captures) => Ok(Some(expansion_of(alloc, &captures, replacement)?)),
             None => Ok(None),
         }
+    }
+}
+
+/// What searches for one pattern, whose text contracts see. It keeps what its searches found out, so that the next
+/// ones are quick.
+#[derive(Drop)]
+pub struct LabelFinder<'a> {
+    pattern: &'a LabelPattern,
+    matcher: Matcher<'a>,
+}
+
+impl<'a> Model for LabelFinder<'a> {
+    ghost use Rattle.std.specs.Prelude.{List, ℕ};
+    ghost use Rattle.regex.specs.Bytes.{matcher_pattern};
+    ghost use Rattle.custom_rewrites.specs.Pattern.{FindsAs};
+
+    ghost Value = { List ℕ };
+
+    ghost view = { λ f. f.pattern.now };
+
+    ghost invariant = { λ f. FindsAs (matcher_pattern f.matcher) f.pattern.now };
+}
+
+impl<'a> LabelFinder<'a> {
+    /// Whether the pattern is found in the label.
+    pub fn finds(&mut self, label: &[u8]) -> bool
+        ensures found { result ≡ is_found self.old label.now }
+        ensures same { self.new ≡ self.old }
+    {
+        self.matcher.is_match(label)
+    }
+
+    /// The label's new text, where the pattern is found in it.
+    #[tactic(auto, using(crate::proofs::GroupLemmas::not_replaced))]
+    pub(crate) fn replaced(
+        &mut self,
+        alloc: Global,
+        label: &[u8],
+        replacement: &[u8],
+    ) -> Result<Option<Vec<u8>>, NoMemory>
+        ensures text { IfOk result (λ out. option_map (λ v. v.items) out
+            ≡ replaced self.old replacement.now label.now) }
+        ensures same { self.new ≡ self.old }
+    {
+        if !self.finds(label) {
+            return Ok(None);
+        }
+        self.pattern.replaced(alloc, label, replacement)
     }
 }
 

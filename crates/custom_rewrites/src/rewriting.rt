@@ -1,10 +1,12 @@
 //! The rewrites of a custom data source.
 
-ghost use Rattle.std.specs.Prelude.{true, ◌≡◌, ◌≤◌, ◌++◌, All, IfOk, IfErr, OnOk, OnErr};
+ghost use Rattle.std.specs.Prelude.{true, ◌≡◌, ◌≤◌, ◌++◌, All, IfOk, IfErr, OnOk, OnErr, map, option_map};
 ghost use Rattle.custom_rewrites.specs.Pattern.{IsPattern};
+ghost use Rattle.custom_rewrites.specs.Expand.{replaced};
 ghost use Rattle.custom_rewrites.specs.Rewriting.{rewritten, without_refusal, HasCause, HasOneCause};
+ghost use Rattle.custom_rewrites.specs.Shown.{shown_made, shown_ready};
 
-use crate::pattern::{LabelPattern, PatternAnswer, Patterns};
+use crate::pattern::{LabelFinder, LabelPattern, PatternAnswer, Patterns};
 use config_text::{CustomSource, Rewrite};
 use size_core::{Bytes, NoMemory};
 use std::alloc::Global;
@@ -102,24 +104,113 @@ impl Rewrites {
         Ok(Rewrites { made, alloc })
     }
 
+    /// The rewrites, ready for many labels.
+    pub fn rewriter(&self) -> Result<Rewriter<'_>, NoMemory>
+        ensures { IfOk result (λ r. r ≡ self.now) }
+    {
+        let mut ready = Vec::new(self.alloc);
+        for made in &self.made {
+            ready.push(ready_of(self.alloc, made)?)?;
+        }
+        Ok(Rewriter {
+            ready,
+            alloc: self.alloc,
+        })
+    }
+
     /// Appends the label's new text: the expanded replacement of the first rewrite whose pattern is found
-    /// in the label, or the label itself. After a refusal `out` holds what it held.
+    /// in the label, or the label itself. After a refusal `out` holds what it held. For many labels a `rewriter` is
+    /// quicker.
     pub fn rewrite(&self, label: &[u8], out: &mut Vec<u8>) -> Result<(), NoMemory>
         ensures ok { OnOk result (out.new.items ≡ out.old.items ++ rewritten label.now self.now) }
         ensures err { OnErr result (out.new.items ≡ out.old.items) }
     {
-        let mut left = self.made.as_slice();
-        'rewrites: while let [first, rest @ ..] = left {
-            let text = first
-                .pattern
-                .replaced(self.alloc, label, first.replacement.as_slice())?;
-            if let Some(text) = text {
-                out.extend_from_slice(text.as_slice())?;
-                return Ok(());
-            }
-            left = rest;
+        let mut rewriter = self.rewriter()?;
+        rewriter.rewrite(label, out)
+    }
+}
+
+/// A rewrite, and what searches for its pattern.
+#[derive(Drop)]
+struct Ready<'a> {
+    finder: LabelFinder<'a>,
+    replacement: &'a Bytes,
+}
+
+/// Makes a rewrite ready.
+fn ready_of(alloc: Global, made: &Made) -> Result<Ready<'_>, NoMemory>
+    ensures { IfOk result (λ r. shown_ready r ≡ shown_made made.now) }
+{
+    let finder = made.pattern.finder(alloc)?;
+    Ok(Ready {
+        finder,
+        replacement: &made.replacement,
+    })
+}
+
+/// The rewrites of a source, each with what searches for its pattern. Contracts see them as those of the source.
+#[derive(Drop)]
+pub struct Rewriter<'a> {
+    ready: Vec<Ready<'a>>,
+    alloc: Global,
+}
+
+impl<'a> Model for Rewriter<'a> {
+    ghost use Rattle.std.specs.Prelude.{List, map};
+    ghost use Rattle.config_text.specs.declared.config.Rewrite.{Rewrite};
+    ghost use Rattle.custom_rewrites.specs.Shown.{shown_ready};
+
+    ghost Value = { List Rewrite };
+
+    ghost view = { λ r. map shown_ready r.ready.items };
+}
+
+/// The label's new text by one rewrite, where its pattern is found in it.
+fn replaced_by(
+    ready: &mut Ready<'_>,
+    alloc: Global,
+    label: &[u8],
+) -> Result<Option<Vec<u8>>, NoMemory>
+    ensures text { IfOk result (λ out. option_map (λ v. v.items) out
+        ≡ replaced (shown_ready ready.old).pattern (shown_ready ready.old).replacement label.now) }
+    ensures same { ready.new ≡ ready.old }
+{
+    ready
+        .finder
+        .replaced(alloc, label, ready.replacement.as_slice())
+}
+
+/// Appends the label's new text by the first of these rewrites whose pattern is found in it.
+fn rewrite_by(
+    ready: &mut Vec<Ready<'_>>,
+    alloc: Global,
+    label: &[u8],
+    out: &mut Vec<u8>,
+) -> Result<(), NoMemory>
+    ensures ok { OnOk result (out.new.items ≡ out.old.items ++ rewritten label.now (map shown_ready ready.old.items)) }
+    ensures err { OnErr result (out.new.items ≡ out.old.items) }
+    ensures same { ready.new.items ≡ ready.old.items }
+{
+    let mut i = 0;
+    'rewrites: while i < ready.len() {
+        if let Some(text) = replaced_by(&mut ready[i], alloc, label)? {
+            out.extend_from_slice(text.as_slice())?;
+            return Ok(());
         }
-        out.extend_from_slice(label)?;
-        Ok(())
+        i += 1;
+    }
+    out.extend_from_slice(label)?;
+    Ok(())
+}
+
+impl<'a> Rewriter<'a> {
+    /// Appends the label's new text: the expanded replacement of the first rewrite whose pattern is found
+    /// in the label, or the label itself. After a refusal `out` holds what it held.
+    pub fn rewrite(&mut self, label: &[u8], out: &mut Vec<u8>) -> Result<(), NoMemory>
+        ensures ok { OnOk result (out.new.items ≡ out.old.items ++ rewritten label.now self.old) }
+        ensures err { OnErr result (out.new.items ≡ out.old.items) }
+        ensures same { self.new ≡ self.old }
+    {
+        rewrite_by(&mut self.ready, self.alloc, label, out)
     }
 }

@@ -23,6 +23,7 @@ fn rewrites_labels(rt: HostRuntime) -> Result<(), Fail> {
     )?;
     let mut patterns = RegexPatterns::new(Vec::new(alloc));
     let rewrites = Rewrites::build(alloc, &source, &mut patterns)?;
+    let mut rewriter = rewrites.rewriter()?;
     for (label, want) in [
         (b".text".as_slice(), b"".as_slice()),
         (b"x.text", b"x"),
@@ -34,9 +35,12 @@ fn rewrites_labels(rt: HostRuntime) -> Result<(), Fail> {
         (b"a\xffbc", b"<\xffb\\b>"),
     ] {
         let mut out = Vec::new(alloc);
-        rewrites.rewrite(label, &mut out)?;
+        rewriter.rewrite(label, &mut out)?;
         assert!(rt; out.as_slice() == want);
     }
+    let mut out = Vec::new(alloc);
+    rewrites.rewrite(b"x.text", &mut out)?;
+    assert!(rt; out.as_slice() == b"x".as_slice());
     Ok(())
 }
 
@@ -76,7 +80,9 @@ fn finds_in_bytes(rt: HostRuntime) -> Result<(), Fail> {
     let pattern = patterns.build(alloc, "zzz")?;
     assert!(rt; !pattern.finds(alloc, b".text")?);
     let pattern = patterns.build(alloc, "^a[0-9]+$")?;
-    assert!(rt; pattern.finds(alloc, b"a12")?);
-    assert!(rt; !pattern.finds(alloc, b"a\xff12")?);
+    let mut finder = pattern.finder(alloc)?;
+    assert!(rt; finder.finds(b"a12"));
+    assert!(rt; !finder.finds(b"a\xff12"));
+    assert!(rt; finder.finds(b"a3"));
     Ok(())
 }

@@ -91,7 +91,7 @@ pub fn add_symbols(alloc: Global, binary: &Binary<'_>, sheet: &mut ClaimSheet) -
     ensures kept { sheet.new.pool ≡ sheet.old.pool }
 {
     match binary {
-        Binary::Elf(file) => elf_claims::add_symbols(file, sheet),
+        Binary::Elf(file) => elf_claims::add_symbols(alloc, file, sheet),
         Binary::Macho(file) => macho_claims::add_symbols(alloc, file, sheet),
         Binary::Wasm(file) => wasm_claims::add_symbols(alloc, file, sheet),
     }

@@ -118,6 +118,13 @@ impl Base {
         })
     }
 
+    /// The file's length in bytes.
+    pub fn len(&self) -> u64
+        ensures { result ≡ self.now.len }
+    {
+        self.file_len
+    }
+
     /// The address space and virtual address of a file offset, by the first load that covers it; `None` where
     /// no load does.
     pub fn to_vm(&self, offset: u64) -> Option<(u32, u64)>
@@ -169,22 +176,20 @@ impl Base {
     pub(crate) fn file_map(
         &self,
         alloc: Global,
-        file_len: u64,
         claims: &[Claim],
         unmapped: usize,
     ) -> Result<RangeMap, NoMemory>
-        requires { self.now.len ≡ file_len }
         ensures cut { IfOk result (IsCut (offset_labelling self.now.len self.now.loads unmapped claims.now)) }
         ensures few { IfOk result (λ map. (b : ℕ) → HasPieces self.now b → length map ≤ 2 * (length claims.now * max 1 b + 1)) }
         ensures few_by_loads { IfOk result (λ map. length map ≤ 2 * (length claims.now * (2 * length self.now.loads + 1) + 1)) }
     {
         let mut ranges = Vec::new(alloc);
         for claim in claims {
-            push_offsets(&mut ranges, file_len, &self.to_file, claim)?;
+            push_offsets(&mut ranges, self.file_len, &self.to_file, claim)?;
         }
         let whole = Piece {
             start: 0,
-            len: u128::from(file_len),
+            len: u128::from(self.file_len),
             label: unmapped,
         };
         push_some(&mut ranges, whole)?;

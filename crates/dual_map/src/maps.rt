@@ -50,7 +50,7 @@ impl DualMap {
         ensures few_vm { IfOk result (λ m. (b : ℕ) → HasPieces base.now b → length m.vm ≤ 2 * (length claims.now + 1) * max 1 b + 1) }
         ensures few_by_loads { IfOk result (λ m. length m.file + length m.vm ≤ 4 * length claims.now * (2 * length base.now.loads + 1) + 2 * (2 * length base.now.loads + 1) + 4) }
     {
-        let file = base.file_map(alloc, file_len, claims, unmapped)?;
+        let file = base.file_map(alloc, claims, unmapped)?;
         let vm = base.vm_map(alloc, claims, unmapped)?;
         Ok(DualMap { file, vm })
     }

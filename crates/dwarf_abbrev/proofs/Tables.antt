@@ -1,10 +1,12 @@
 -- The declarations of a table, one after another.
-use Rattle.std.proofs.Common.{◌≡◌, ℕ, ◌<◌, ◌≤◌, ◌==◌, eq-eqb, true, false, [], ◌∷◌, Some, None, Result, Ok, Err, refl, arith}
+use Rattle.std.proofs.Common.{◌≡◌, ℕ, ◌<◌, ◌≤◌, ◌==◌, eq-eqb, Bool, true, false, List, [], ◌∷◌, Some, None, Result, Ok, Err, refl, ap, ◌∙◌, arith}
+use Rattle.std.proofs.lemmas.Bool.{eqb-true}
 use Rattle.size_core.specs.declared.fault.BadFile.{BadFile}
 use Rattle.byte_cursor.specs.Window.{Window}
 use Rattle.dwarf_abbrev.specs.declared.declaration.Head.{Head}
+use Rattle.std.specs.Prelude.{if◌then◌else◌}
 use Rattle.dwarf_abbrev.specs.Listing.{left}
-use Rattle.dwarf_abbrev.specs.Declarations.{head_from, specs_from, declaration_behind, declaration_from, declarations_from, declared, IsWhole}
+use Rattle.dwarf_abbrev.specs.Declarations.{Declaration, head_from, specs_from, declaration_behind, declaration_from, declarations_from, declared, IsWhole}
 use Rattle.dwarf_abbrev.proofs.Listings.{listing_more, listing_done, listing_bad}
 use Rattle.dwarf_abbrev.proofs.Forward.{head_shortens, declaration_shortens, specs_end}
 
@@ -58,3 +60,15 @@ rest_is_whole w at next head whole reads ends = let more = declarations_more w a
 
 pub is_whole : (w next : Window) → (declarations_from w).end ≡ Ok next → IsWhole w
 is_whole w next ends = rw ends refl
+
+-- a declaration that is found has the code, so it is the first one with its own
+has_code : (ds : List Declaration) (code : ℕ) (d : Declaration) → declared ds code ≡ Some d → d.code ≡ code
+has_code [] code d is = cc
+has_code (x ∷ ds) code d is = by_test (x.code == code) refl is (has_code ds code d)
+  where
+    by_test : (b : Bool) → (x.code == code) ≡ b → (if b then Some x else declared ds code) ≡ Some d → (declared ds code ≡ Some d → d.code ≡ code) → d.code ≡ code
+    by_test true same first rest = let has : x.code ≡ code = eqb-true x.code code same in cc
+    by_test false other later rest = rest later
+
+pub is_kept : (ds : List Declaration) (code : ℕ) (d : Declaration) → declared ds code ≡ Some d → declared ds d.code ≡ Some d
+is_kept ds code d is = ap (λ (n : ℕ). declared ds n) (has_code ds code d is) ∙ is

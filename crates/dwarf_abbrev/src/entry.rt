@@ -32,6 +32,23 @@ impl<'a> Entry<'a> {
         Entry { head, cursor }
     }
 
+    /// The same declaration, with the attributes that are left.
+    pub fn fork(&self) -> Entry<'a>
+        ensures { result ≡ self.now }
+    {
+        Entry {
+            head: self.head,
+            cursor: self.cursor.fork(),
+        }
+    }
+
+    /// The code by which entries name the declaration.
+    pub fn code(&self) -> u64
+        ensures { result ≡ self.now.code }
+    {
+        self.head.code
+    }
+
     /// The tag of the entries.
     pub fn tag(&self) -> u64
         ensures { result ≡ self.now.tag }

@@ -28,17 +28,19 @@ fn pass_declarations(cursor: &mut Cursor) -> Result<(), BadFile>
 pub struct Abbrevs<'a> {
     cursor: Cursor<'a>,
     len: u64,
+    // The declaration that was found last by `entry_kept`.
+    last: Option<Entry<'a>>,
 }
 
 impl<'a> Model for Abbrevs<'a> {
     ghost use Rattle.byte_cursor.specs.Window.{place_of};
-    ghost use Rattle.dwarf_abbrev.specs.Declarations.{IsWhole, Table, declarations_from};
+    ghost use Rattle.dwarf_abbrev.specs.Declarations.{IsKept, IsWhole, Table, declarations_from};
 
     ghost Value = { Table };
 
     ghost view = { λ a. record { place = place_of a.cursor; len = a.len; declarations = (declarations_from a.cursor).items } };
 
-    ghost invariant = { λ a. IsWhole a.cursor };
+    ghost invariant = { λ a. IsWhole a.cursor × IsKept (declarations_from a.cursor).items a.last };
 }
 
 impl<'a> Abbrevs<'a> {
@@ -59,7 +61,11 @@ impl<'a> Abbrevs<'a> {
         let mut end = cursor.fork();
         pass_declarations(&mut end)?;
         let len = cursor.left() - end.left();
-        Ok(Abbrevs { cursor, len })
+        Ok(Abbrevs {
+            cursor,
+            len,
+            last: None,
+        })
     }
 
     /// The first declaration with a code.
@@ -67,6 +73,22 @@ impl<'a> Abbrevs<'a> {
         ensures { result ≡ declared self.now.declarations code }
     {
         find_entry(&self.cursor, code)
+    }
+
+    /// The same, and the table keeps what it found: asked for the same code again it doesn't look for it from its start.
+    #[tactic(auto, using(crate::proofs::Tables::is_kept))]
+    pub fn entry_kept(&mut self, code: u64) -> Option<Entry<'a>>
+        ensures found { result ≡ declared self.old.declarations code }
+        ensures same { self.new ≡ self.old }
+    {
+        if let Some(last) = &self.last
+            && last.code() == code
+        {
+            return Some(last.fork());
+        }
+        let found = self.entry(code)?;
+        self.last = Some(found.fork());
+        Some(found)
     }
 
     /// The file offset of the table's first byte.

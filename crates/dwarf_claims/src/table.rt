@@ -1,8 +1,8 @@
 //! The roots of units that follow one another, of which many share a table of abbreviations.
 
-ghost use Rattle.std.specs.Prelude.{OnOk};
+ghost use Rattle.std.specs.Prelude.{◌≡◌};
 ghost use Rattle.size_core.specs.Checks.{Gives};
-ghost use Rattle.dwarf_units.specs.Roots.{root_of, shown_root};
+ghost use Rattle.dwarf_units.specs.Roots.{root_in, root_of, shown_root};
 ghost use Rattle.dwarf_claims.specs.Tables.{IsTableOf};
 
 use dwarf_abbrev::Abbrevs;
@@ -14,6 +14,14 @@ use size_core::BadFile;
 pub struct LastTable<'a> {
     pub offset: u64,
     pub table: Abbrevs<'a>,
+}
+
+// The root of a unit by the table that is known.
+fn root_again<'a>(unit: &DwarfUnit<'a>, last: &mut LastTable<'a>) -> Result<Root<'a>, BadFile>
+    ensures root { Gives shown_root result (root_in last.old.table unit.now) }
+    ensures same { last.new ≡ last.old }
+{
+    unit.root_in(&mut last.table)
 }
 
 /// The root of a unit. Where its abbreviations are those of the unit before, they aren't read again.
@@ -30,10 +38,10 @@ pub fn root_of<'a>(
     if let Some(known) = last
         && known.offset == unit.abbrev_offset
     {
-        return unit.root_in(&known.table);
+        return root_again(unit, known);
     }
-    let table = Abbrevs::at(&sections.abbrev, unit.abbrev_offset, unit.place)?;
-    let root = unit.root_in(&table);
+    let mut table = Abbrevs::at(&sections.abbrev, unit.abbrev_offset, unit.place)?;
+    let root = unit.root_in(&mut table);
     *last = Some(LastTable {
         offset: unit.abbrev_offset,
         table,

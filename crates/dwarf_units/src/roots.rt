@@ -52,14 +52,16 @@ fn bare_root<'a>(unit: &DwarfUnit<'a>, table: &Abbrevs<'a>) -> Root<'a>
 
 impl<'a> DwarfUnit<'a> {
     /// The root of the unit, whose abbreviations are in this table: `Abbrevs::at` of the unit's `abbrev_offset`.
-    /// Units that share a table need it read but once.
+    /// Units that share a table need it read but once, and the table keeps the declaration that it found, so that roots
+    /// of one code don't look for it again.
     ///
     /// The root has no value where its code is 0, or no byte stands behind the header. Truncated or BadLeb at the
     /// code's place where that can't be read; BadAbbrev at the unit's place where the table doesn't declare it;
     /// and then the first fault of `read_form` among the values.
     #[tactic(auto, unfolding(crate::specs::Roots::root_values, crate::specs::Filling::filled_from, crate::specs::Roots::first_value))]
-    pub fn root_in(&self, table: &Abbrevs<'a>) -> Result<Root<'a>, BadFile>
-        ensures { Gives shown_root result (root_in table.now self.now) }
+    pub fn root_in(&self, table: &mut Abbrevs<'a>) -> Result<Root<'a>, BadFile>
+        ensures root { Gives shown_root result (root_in table.old self.now) }
+        ensures same { table.new ≡ table.old }
     {
         let root = bare_root(self, table);
         let mut cursor = self.body.fork();
@@ -70,7 +72,7 @@ impl<'a> DwarfUnit<'a> {
         if code == 0 {
             return Ok(root);
         }
-        match table.entry(code) {
+        match table.entry_kept(code) {
             Some(declared) => read_values(declared, &self.shape, cursor, root),
             None => Err(BadFile {
                 fault: Fault::BadAbbrev,
@@ -84,7 +86,7 @@ impl<'a> DwarfUnit<'a> {
     pub fn root(&self, sections: &Sections<'a>) -> Result<Root<'a>, BadFile>
         ensures { Gives shown_root result (root_of sections.now self.now) }
     {
-        let table = Abbrevs::at(&sections.abbrev, self.abbrev_offset, self.place)?;
-        self.root_in(&table)
+        let mut table = Abbrevs::at(&sections.abbrev, self.abbrev_offset, self.place)?;
+        self.root_in(&mut table)
     }
 }

@@ -155,10 +155,10 @@ fn values_of_a_root(rt: HostRuntime) {
         b"\x01ab\0cd\0\x01\x02\x03\x04\x05\x06\0\0\0\x07\0\0\0\x08\0\0\0",
         0,
     );
-    let Ok(table) = Abbrevs::at(&sections.abbrev, 0, 1000) else {
+    let Ok(mut table) = Abbrevs::at(&sections.abbrev, 0, 1000) else {
         panic!(rt; "the table has no fault");
     };
-    let Ok(root) = unit.root_in(&table) else {
+    let Ok(root) = unit.root_in(&mut table) else {
         panic!(rt; "the values have no fault");
     };
     assert_eq!(rt;
@@ -182,6 +182,26 @@ fn values_of_a_root(rt: HostRuntime) {
         assert!(rt; base.content == Content::SecOffset(offset));
     }
     assert!(rt; root.ranges.is_none() && root.lines.is_none());
+}
+
+#[test]
+fn roots_by_one_table(rt: HostRuntime) {
+    let named = b"\x01ab\0cd\0\x01\x02\x03\x04\x05\x06\0\0\0\x07\0\0\0\x08\0\0\0".as_slice();
+    let sections = sections(b"", ABBREV);
+    let Ok(mut table) = Abbrevs::at(&sections.abbrev, 0, 1000) else {
+        panic!(rt; "the table has no fault");
+    };
+    for (body, has_low) in [
+        (named, true),
+        (b"\x02\x0b\x07".as_slice(), false),
+        (named, true),
+        (named, true),
+    ] {
+        let Ok(root) = unit(body, 0).root_in(&mut table) else {
+            panic!(rt; "the values have no fault");
+        };
+        assert_eq!(rt; root.low.is_some(), has_low);
+    }
 }
 
 #[test]

@@ -12,8 +12,10 @@ use crate::loads::{has_addresses, is_relocatable};
 use claim_sheet::{ClaimSheet, Reach, Stop, Wrap, span};
 use elf_file::{EM_ARM, ElfFile, SHN_LORESERVE, SHN_XINDEX};
 use elf_symbols::{
-    SHT_DYNSYM, SHT_SYMTAB, STT_FUNC, STT_GNU_IFUNC, STT_NOTYPE, STT_OBJECT, Symbol, SymbolTable,
+    NumbersIndex, SHT_DYNSYM, SHT_SYMTAB, STT_FUNC, STT_GNU_IFUNC, STT_NOTYPE, STT_OBJECT, Symbol,
+    SymbolTable,
 };
+use std::alloc::Global;
 
 fn is_data_or_code(kind: u8) -> bool
     ensures { result ≡ is_data_or_code kind }
@@ -120,7 +122,14 @@ fn add_table_symbols(
 
 // Adds the claims of section i, where it is a table of symbols of this type.
 #[tactic(auto, using(claim_sheet::proofs::SheetLemmas::adding_none), unfolding(crate::specs::SymbolClaims::claims_of_type, crate::specs::SymbolClaims::table_claims))]
-fn add_table(file: &ElfFile<'_>, kind: u32, i: u32, sheet: &mut ClaimSheet) -> Result<(), Stop>
+fn add_table(
+    file: &ElfFile<'_>,
+    numbers: &NumbersIndex<'_>,
+    kind: u32,
+    i: u32,
+    sheet: &mut ClaimSheet,
+) -> Result<(), Stop>
+    requires numbers { numbers.now ≡ file.now }
     requires kind { IsTableType kind }
     requires above { 0 < i }
     requires index { i < section_count file.now }
@@ -131,20 +140,26 @@ fn add_table(file: &ElfFile<'_>, kind: u32, i: u32, sheet: &mut ClaimSheet) -> R
     if file.section(i).kind != kind {
         return Ok(());
     }
-    let table = SymbolTable::at(file, i)?;
+    let table = SymbolTable::indexed(file, i, numbers)?;
     add_table_symbols(file, &table, sheet)
 }
 
 // Adds the claims of the tables of symbols of this type, in order.
 #[tactic(auto, using(claim_sheet::proofs::LoopLemmas::read_goes, claim_sheet::proofs::LoopLemmas::read_ends), unfolding(crate::specs::SymbolClaims::tables_claims))]
-fn add_tables(file: &ElfFile<'_>, kind: u32, sheet: &mut ClaimSheet) -> Result<(), Stop>
+fn add_tables(
+    file: &ElfFile<'_>,
+    numbers: &NumbersIndex<'_>,
+    kind: u32,
+    sheet: &mut ClaimSheet,
+) -> Result<(), Stop>
+    requires numbers { numbers.now ≡ file.now }
     requires kind { IsTableType kind }
     ensures made { OnOk result (adding_read sheet.old (tables_claims kind file.now) ≡ Ok sheet.new) }
     ensures bad { (bad : BadFileSpec) → IsErrOf result (Stop.Bad bad) → tables_claims kind file.now ≡ Err bad }
     ensures kept { sheet.new.pool ≡ sheet.old.pool }
 {
     for i in 1..file.header().sections {
-        add_table(file, kind, i, sheet)?;
+        add_table(file, numbers, kind, i, sheet)?;
     }
     Ok(())
 }
@@ -152,11 +167,12 @@ fn add_tables(file: &ElfFile<'_>, kind: u32, sheet: &mut ClaimSheet) -> Result<(
 /// Adds the claims of all symbols: those of each table of type SHT_SYMTAB in order, and then of each of type
 /// SHT_DYNSYM. Bad is the first fault of a table or a symbol.
 #[tactic(auto, using(claim_sheet::proofs::LoopLemmas::read_joined, claim_sheet::proofs::LoopLemmas::joined_front, claim_sheet::proofs::LoopLemmas::joined_later), unfolding(crate::specs::SymbolClaims::symbols_claims))]
-pub fn add_symbols(file: &ElfFile<'_>, sheet: &mut ClaimSheet) -> Result<(), Stop>
+pub fn add_symbols(alloc: Global, file: &ElfFile<'_>, sheet: &mut ClaimSheet) -> Result<(), Stop>
     ensures made { OnOk result (adding_read sheet.old (symbols_claims file.now) ≡ Ok sheet.new) }
     ensures bad { (bad : BadFileSpec) → IsErrOf result (Stop.Bad bad) → symbols_claims file.now ≡ Err bad }
     ensures kept { sheet.new.pool ≡ sheet.old.pool }
 {
-    add_tables(file, SHT_SYMTAB, sheet)?;
-    add_tables(file, SHT_DYNSYM, sheet)
+    let numbers = NumbersIndex::of(alloc, file)?;
+    add_tables(file, &numbers, SHT_SYMTAB, sheet)?;
+    add_tables(file, &numbers, SHT_DYNSYM, sheet)
 }

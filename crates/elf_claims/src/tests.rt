@@ -63,7 +63,7 @@ fn groups_of_a_plain_file(rt: HostRuntime) -> Result<(), Fail> {
     add_loads(alloc, &elf, Wrap::Plain, &mut sheet)?;
     add_sections(&elf, Wrap::Section, &mut sheet)?;
     add_headers(&elf, &mut sheet)?;
-    add_symbols(&elf, &mut sheet)?;
+    add_symbols(alloc, &elf, &mut sheet)?;
     let Ok(claims) = sheet.finish(&mut pool) else {
         panic!(rt; "eight claims are within the limit");
     };
@@ -124,7 +124,7 @@ fn symbols_that_claim_bytes(rt: HostRuntime) -> Result<(), Fail> {
         let elf = ElfFile::parse(&file)?;
         let mut pool = LabelPool::new(alloc);
         let mut sheet = ClaimSheet::begin(alloc, &mut pool, 100);
-        add_symbols(&elf, &mut sheet)?;
+        add_symbols(alloc, &elf, &mut sheet)?;
         let Ok(claims) = sheet.finish(&mut pool) else {
             panic!(rt; "a claim is within the limit");
         };
@@ -147,7 +147,7 @@ fn a_fault_past_the_limit_is_found(rt: HostRuntime) -> Result<(), Fail> {
         fault: Fault::NameOutside,
         offset: 144,
     };
-    assert_eq!(rt; add_symbols(&elf, &mut sheet), Err(Stop::Bad(bad)));
+    assert_eq!(rt; add_symbols(alloc, &elf, &mut sheet), Err(Stop::Bad(bad)));
     assert!(rt; sheet.finish(&mut pool).is_err());
     assert_eq!(rt; pool.len(), 0);
     Ok(())

@@ -4,10 +4,11 @@ ghost use Rattle.std.specs.Prelude.{◌≡◌, ◌+◌, ◌*◌, ◌<◌, ◌≤
 ghost use Rattle.size_core.specs.Checks.{Gives};
 ghost use Rattle.elf_file.specs.Layout.{encoding_of};
 ghost use Rattle.elf_file.specs.Tables.{section_at, section_count};
-ghost use Rattle.elf_symbols.specs.Symbols.{IsSymbolTable, has_numbers_of, numbers_index, numbers_of, symbol_at, symbol_count, symbol_len, table_at};
+ghost use Rattle.elf_symbols.specs.Symbols.{IsSymbolTable, bytes_of, has_numbers_of, numbers_index, symbol_at, symbol_count, symbol_len, table_at};
 ghost use Rattle.elf_symbols.specs.Shown.{shown};
 
 use crate::constants::SHT_SYMTAB_SHNDX;
+use crate::numbers::NumbersIndex;
 use crate::symbol::{Symbol, name_at, section_number_at, shndx_at, symbol_len};
 use elf_file::{ElfFile, Encoding};
 use size_core::{BadFile, Fault};
@@ -59,11 +60,12 @@ fn numbers_index(file: &ElfFile<'_>, i: u32) -> Option<u32>
     None
 }
 
-/// The numbers of sections of the table in section `i`: no bytes where no section has them.
-fn numbers_of<'a>(file: &ElfFile<'a>, i: u32) -> &'a [u8]
-    ensures { result.now ≡ numbers_of file.now i }
+/// The numbers of sections in a section, if there is one.
+fn numbers_in<'a>(file: &ElfFile<'a>, section: Option<u32>) -> &'a [u8]
+    requires { IfSome section (λ j. j < section_count file.now) }
+    ensures { result.now ≡ bytes_of file.now section }
 {
-    match numbers_index(file, i) {
+    match section {
         Some(j) => file.section_bytes(j),
         None => &[],
     }
@@ -71,9 +73,37 @@ fn numbers_of<'a>(file: &ElfFile<'a>, i: u32) -> &'a [u8]
 
 impl<'a> SymbolTable<'a> {
     /// The table in section `i`. BadIndex where its names are in no section.
-    #[tactic(auto, unfolding(crate::specs::Symbols::table_at, crate::specs::Symbols::symbol_count), using(crate::proofs::Within::table_within))]
     pub fn at(file: &ElfFile<'a>, i: u32) -> Result<SymbolTable<'a>, BadFile>
         requires { IsSymbolTable file.now i }
+        ensures { result ≡ table_at file.now i }
+    {
+        SymbolTable::with_numbers(file, i, numbers_index(file, i))
+    }
+
+    /// The same, where the file's numbers of sections are indexed: a file of many tables is then gone through once for
+    /// them all.
+    pub fn indexed(
+        file: &ElfFile<'a>,
+        i: u32,
+        numbers: &NumbersIndex<'_>,
+    ) -> Result<SymbolTable<'a>, BadFile>
+        requires table { IsSymbolTable file.now i }
+        requires numbers { numbers.now ≡ file.now }
+        ensures { result ≡ table_at file.now i }
+    {
+        SymbolTable::with_numbers(file, i, numbers.first(i))
+    }
+
+    /// The table in section `i`, which has its numbers of sections in this section, if it has any.
+    #[tactic(auto, unfolding(crate::specs::Symbols::table_at, crate::specs::Symbols::symbol_count), using(crate::proofs::Within::table_within))]
+    fn with_numbers(
+        file: &ElfFile<'a>,
+        i: u32,
+        numbers: Option<u32>,
+    ) -> Result<SymbolTable<'a>, BadFile>
+        requires table { IsSymbolTable file.now i }
+        requires numbers { numbers ≡ numbers_index file.now i }
+        requires below { IfSome numbers (λ j. j < section_count file.now) }
         ensures { result ≡ table_at file.now i }
     {
         let section = file.section(i);
@@ -92,7 +122,7 @@ impl<'a> SymbolTable<'a> {
             offset: section.offset,
             count: (section.size / symbol_len(encoding)) as u32,
             names: file.section_bytes(section.link),
-            numbers: numbers_of(file, i),
+            numbers: numbers_in(file, numbers),
         })
     }
 

@@ -1,8 +1,9 @@
 ghost use Rattle.std.specs.Prelude.{◌≡◌, ◌+◌, ◌≤◌, ◌<◌, length};
 
-use crate::{SHT_SYMTAB, SymbolTable};
+use crate::{NumbersIndex, SHT_DYNSYM, SHT_SYMTAB, SHT_SYMTAB_SHNDX, SymbolTable};
 use elf_file::ElfFile;
 use size_core::{BadFile, Fault};
+use std::test::Fail;
 
 /// Writes bytes over those from an offset on.
 fn put(file: &mut [u8], at: usize, bytes: &[u8])
@@ -14,24 +15,30 @@ fn put(file: &mut [u8], at: usize, bytes: &[u8])
     }
 }
 
-/// Two symbols at 64, their names at 112, numbers of sections for them at 120, and the headers of these three
-/// sections at 128, after that of section 0. The second symbol's section is in the numbers of sections.
-fn file_with_symbols() -> [u8; 384] {
-    let mut file = [0; 384];
-    put(&mut file, 0, b"\x7fELF\x02\x01\x01");
-    put(&mut file, 40, b"\x80");
-    put(&mut file, 52, b"\x40\0\x38\0\0\0\x40\0\x04");
+/// Writes a header for so many sections, whose headers stand at an offset, two symbols at 64 and their names at 112. The
+/// second symbol's section is in the numbers of sections.
+fn put_symbols(file: &mut [u8], headers: u8, sections: u8)
+    requires { 120 ≤ length file.old }
+    ensures { length file.new ≡ length file.old }
+{
+    put(file, 0, b"\x7fELF\x02\x01\x01");
+    put(file, 40, &[headers]);
+    put(file, 52, b"\x40\0\x38\0\0\0\x40\0");
+    put(file, 60, &[sections]);
+    put(file, 64, b"\x01\0\0\0\x12\0\x03\0\x78\0\x40\0\0\0\0\0\x08");
     put(
-        &mut file,
-        64,
-        b"\x01\0\0\0\x12\0\x03\0\x78\0\x40\0\0\0\0\0\x08",
-    );
-    put(
-        &mut file,
+        file,
         88,
         b"\x03\0\0\0\x11\0\xff\xff\x80\0\x40\0\0\0\0\0\x0c",
     );
-    put(&mut file, 112, b"\0a\0bc\0");
+    put(file, 112, b"\0a\0bc\0");
+}
+
+/// Two symbols at 64, their names at 112, numbers of sections for them at 120, and the headers of these three sections
+/// at 128, after that of section 0.
+fn file_with_symbols() -> [u8; 384] {
+    let mut file = [0; 384];
+    put_symbols(&mut file, 128, 4);
     put(&mut file, 124, b"\0\0\x01");
     put(&mut file, 196, b"\x02");
     put(&mut file, 216, b"\x40\0\0\0\0\0\0\0\x30\0\0\0\0\0\0\0\x02");
@@ -99,4 +106,75 @@ fn faults_of_a_table(rt: HostRuntime) {
         let want = want.map(|(fault, offset)| BadFile { fault, offset });
         assert_eq!(rt; fault_of(at, bytes), want, "{bytes:?} at {at}");
     }
+}
+
+/// Writes the header of section `i`, where the headers stand from 144 on.
+fn put_section(file: &mut [u8], i: usize, kind: u32, bytes: (u8, u8), link: u8)
+    requires index { i < 9 }
+    requires kind { kind < 256 }
+    requires length { length file.old ≡ 720 }
+    ensures { length file.new ≡ 720 }
+{
+    let at = 144 + 64 * i;
+    file[at + 4] = kind as u8;
+    file[at + 24] = bytes.0;
+    file[at + 32] = bytes.1;
+    file[at + 40] = link;
+}
+
+/// The symbols of `file_with_symbols` as the tables in the sections 1, 2 and 8. By the numbers of sections at 120, 128
+/// and 136 the second symbol is in section 0x10000, 0x20000 or 0x30000. The table in section 1 has those in the
+/// sections 5 and 6, that in section 2 those in the sections 4 and 7, and the third has none.
+fn file_with_tables() -> [u8; 720] {
+    let mut file = [0; 720];
+    put_symbols(&mut file, 144, 9);
+    put(&mut file, 126, b"\x01");
+    put(&mut file, 134, b"\x02");
+    put(&mut file, 142, b"\x03");
+    put_section(&mut file, 1, SHT_SYMTAB, (64, 48), 3);
+    put_section(&mut file, 2, SHT_DYNSYM, (64, 48), 3);
+    put_section(&mut file, 3, 3, (112, 6), 0);
+    put_section(&mut file, 4, SHT_SYMTAB_SHNDX, (136, 8), 2);
+    put_section(&mut file, 5, SHT_SYMTAB_SHNDX, (120, 8), 1);
+    put_section(&mut file, 6, SHT_SYMTAB_SHNDX, (128, 8), 1);
+    put_section(&mut file, 7, SHT_SYMTAB_SHNDX, (120, 8), 2);
+    put_section(&mut file, 8, SHT_SYMTAB, (64, 48), 3);
+    file
+}
+
+/// The section of a table's second symbol, or the fault of one of them.
+fn second_section(table: Result<SymbolTable<'_>, BadFile>) -> Result<u32, BadFile> {
+    let table = table?;
+    if table.len() < 2 {
+        return Ok(0);
+    }
+    let symbol = table.symbol(1)?;
+    Ok(symbol.section)
+}
+
+#[test]
+fn first_numbers_of_each_table(rt: HostRuntime) -> Result<(), Fail> {
+    let file = file_with_tables();
+    let elf = ElfFile::parse(&file)?;
+    let numbers = NumbersIndex::of(rt.alloc(), &elf)?;
+    let none = BadFile {
+        fault: Fault::BadIndex,
+        offset: 88,
+    };
+    for (i, first, want) in [
+        (1, Some(5), Ok(0x10000)),
+        (2, Some(4), Ok(0x30000)),
+        (8, None, Err(none)),
+    ] {
+        assert_eq!(rt; numbers.first(i), first);
+        assert!(rt; i > 0 && i < elf.header().sections);
+        let kind = elf.section(i).kind;
+        assert!(rt; kind == SHT_SYMTAB || kind == SHT_DYNSYM);
+        assert_eq!(rt; second_section(SymbolTable::at(&elf, i)), want);
+        assert_eq!(rt;
+            second_section(SymbolTable::indexed(&elf, i, &numbers)),
+            want
+        );
+    }
+    Ok(())
 }

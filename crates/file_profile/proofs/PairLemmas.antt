@@ -1,5 +1,5 @@
 -- What is decided of a file with its debug file, step by step.
-use Rattle.std.proofs.Common.{◌≡◌, ℕ, Bool, true, false, cond, List, Result, Ok, Err, refl, sym, ap, ◌∙◌}
+use Rattle.std.proofs.Common.{◌≡◌, ℕ, true, false, cond, List, Result, Ok, Err, refl, sym, ap, ◌∙◌}
 use Rattle.std.specs.Prelude.{IsOk}
 use Rattle.size_core.specs.declared.fault.BadFile.{BadFile}
 use Rattle.size_model.specs.declared.view.FileView.{FileView}

@@ -30,7 +30,7 @@ use Rattle.file_profile.specs.declared.answer.PlaceAnswer.{PlaceAnswer}
 use Rattle.file_profile.specs.declared.answer.PlaceAnswer.TheVariants as of_place
 use Rattle.file_profile.specs.declared.explain.Said.{Said}
 use Rattle.file_profile.specs.Claims.{OpenedFile, before_said, claims_on, layout_of, said_after, said_of}
-use Rattle.file_profile.specs.Places.{Explains, ExplainsOpened, IsSaid, explained_place, if_countable, if_inside, if_opened_for_place, is_in, named_sources, opened_explained, place_said, places_said}
+use Rattle.file_profile.specs.Places.{Explains, ExplainsOpened, IsSaid, explained_place, if_countable, if_opened_for_place, is_in, named_sources, opened_explained, place_said, places_said}
 use Rattle.file_profile.specs.Reasons.{of_file_place, refused_as}
 use Rattle.file_profile.specs.Sources.{Chosen}
 use Rattle.file_profile.specs.Views.{alone}

@@ -1,6 +1,5 @@
 -- What the answers of lower layers mean for a file.
 use Rattle.std.specs.Prelude.{ℕ, Result, Ok, Err}
-use Rattle.size_core.specs.declared.fault.BadFile.{BadFile}
 use Rattle.data_sources.specs.declared.answer.ClaimAnswer.{ClaimAnswer}
 use Rattle.data_sources.specs.declared.answer.ClaimAnswer.TheVariants as claims
 use Rattle.rollup.specs.declared.answer.RollupAnswer.{RollupAnswer}

@@ -12,7 +12,7 @@ ghost use Rattle.file_profile.specs.declared.answer.OpenedAnswer.TheVariants.{Ba
 use crate::answer::OpenedAnswer;
 use crate::asked::Plan;
 use crate::subject::Subject;
-use custom_rewrites::Rewrites;
+use custom_rewrites::{Rewriter, Rewrites};
 use data_sources::{Binary, ClaimAnswer, claims, debug_claims};
 use size_core::{Claim, LabelPool, NoMemory, Source};
 use std::alloc::Global;
@@ -27,15 +27,16 @@ pub struct Numbered {
 // The number of a label's new text.
 fn rewritten_number(
     alloc: Global,
-    rewrites: &Rewrites,
+    rewriter: &mut Rewriter<'_>,
     label: &[u8],
     pool: &mut LabelPool,
 ) -> Result<usize, NoMemory>
-    ensures number { IfOk result (λ n. slice_get pool.new n ≡ Some (rewritten label.now rewrites.now)) }
+    ensures number { IfOk result (λ n. slice_get pool.new n ≡ Some (rewritten label.now rewriter.old)) }
+    ensures same { rewriter.new ≡ rewriter.old }
     ensures kept { KeepsLabels pool.old pool.new }
 {
     let mut text = Vec::new(alloc);
-    rewrites.rewrite(label, &mut text)?;
+    rewriter.rewrite(label, &mut text)?;
     pool.intern(&text)
 }
 
@@ -49,9 +50,10 @@ fn rewritten_numbers(
     ensures numbers { IfOk result (λ v. IsRenumbering (λ label. rewritten label rewrites.now) labels.now pool.new v.items) }
     ensures kept { KeepsLabels pool.old pool.new }
 {
+    let mut rewriter = rewrites.rewriter()?;
     let mut numbers = Vec::new(alloc);
     for k in 0..labels.len() {
-        let number = rewritten_number(alloc, rewrites, labels.get(k), pool)?;
+        let number = rewritten_number(alloc, &mut rewriter, labels.get(k), pool)?;
         numbers.push(number)?;
     }
     Ok(numbers)

@@ -26,10 +26,10 @@ use std::sync::ledger::Ledger;
 fn marks_of(alloc: Global, pattern: &LabelPattern, pool: &LabelPool) -> Result<Vec<bool>, NoMemory>
     ensures { IfOk result (λ marks. marks.items ≡ map (is_found pattern.now) pool.now) }
 {
+    let mut finder = pattern.finder(alloc)?;
     let mut marks = Vec::new(alloc);
     for k in 0..pool.len() {
-        let found = pattern.finds(alloc, pool.get(k))?;
-        marks.push(found)?;
+        marks.push(finder.finds(pool.get(k)))?;
     }
     Ok(marks)
 }

@@ -1,4 +1,4 @@
-ghost use Rattle.std.specs.Prelude.{◌≡◌, ◌+◌, ◌<◌, ◌≤◌, ◌^◌, All, IfOk, IsTrue, length};
+ghost use Rattle.std.specs.Prelude.{◌≡◌, ◌<◌, All, IfOk, IsTrue, length};
 ghost use Rattle.size_core.specs.declared.claim.Claim.{Claim as ClaimSpec};
 ghost use Rattle.size_model.specs.Loads.{IsLoad};
 
@@ -9,46 +9,49 @@ use std::alloc::Global;
 use std::process::Abort;
 use std::test::Fail;
 
-// A file with its claims.
+// A file with its claims. A load is its space, its address and size there, its offset, and its size in the file.
 #[derive(Clone, Copy)]
 struct Example<'a> {
     len: u64,
-    loads: &'a [Load],
+    loads: &'a [(u32, u64, u64, u64, u64)],
     claims: &'a [Claim],
 }
 
-fn load(space: u32, vaddr: u64, memsz: u64, offset: u64, filesz: u64) -> Load {
-    Load {
-        space,
-        vaddr,
-        memsz,
-        offset,
-        filesz,
-    }
+const NOWHERE: Span = Span {
+    space: 0,
+    start: 0,
+    len: 0,
+};
+
+fn addresses(space: u32, start: u64, len: u64) -> Span {
+    Span { space, start, len }
 }
 
-fn claim(side: Side, vm: (u32, u64, u64), file: (u64, u64), label: usize) -> Claim {
+fn offsets(start: u64, len: u64) -> Span {
+    addresses(0, start, len)
+}
+
+fn of_both(vm: Span, file: Span, label: usize) -> Claim {
     Claim {
-        side,
-        vm: Span {
-            space: vm.0,
-            start: vm.1,
-            len: vm.2,
-        },
-        file: Span {
-            space: 0,
-            start: file.0,
-            len: file.1,
-        },
+        side: Side::Both,
+        vm,
+        file,
         label,
     }
 }
 
-// Whether a load ends in its space.
-fn ends_in_space(load: Load) -> bool
-    ensures { IsTrue result → load.vaddr + load.memsz ≤ 2 ^ 64 }
-{
-    u128::from(load.vaddr) + u128::from(load.memsz) <= 1 << 64
+fn of_file(file: Span, label: usize) -> Claim {
+    Claim {
+        side: Side::File,
+        ..of_both(NOWHERE, file, label)
+    }
+}
+
+fn of_memory(vm: Span, label: usize) -> Claim {
+    Claim {
+        side: Side::Vm,
+        ..of_both(vm, NOWHERE, label)
+    }
 }
 
 // The base of an example, whose loads end in their spaces.
@@ -56,9 +59,15 @@ fn base_of(rt: &impl Abort, alloc: Global, example: &Example<'_>) -> Result<Base
     ensures { IfOk result (λ base. base.len ≡ example.now.len) }
 {
     let mut loads = Vec::new(alloc);
-    for &load in example.loads {
-        assert!(rt; ends_in_space(load));
-        loads.push(load)?;
+    for &(space, vaddr, memsz, offset, filesz) in example.loads {
+        assert!(rt; u128::from(vaddr) + u128::from(memsz) <= 1 << 64);
+        loads.push(Load {
+            space,
+            vaddr,
+            memsz,
+            offset,
+            filesz,
+        })?;
     }
     assert!(rt; example.len < 1 << 63);
     Ok(Base::from_loads(alloc, example.len, loads.as_slice())?)
@@ -94,14 +103,14 @@ fn is_covered(
 fn claims_of_sections_cover(rt: HostRuntime) -> Result<(), Fail> {
     let example = Example {
         len: 352,
-        loads: &[load(0, 0x40_0000, 136, 0, 136)],
+        loads: &[(0, 0x40_0000, 136, 0, 136)],
         claims: &[
-            claim(Side::Both, (0, 0x40_0078, 16), (120, 16), 0),
-            claim(Side::File, (0, 0, 0), (136, 17), 1),
-            claim(Side::File, (0, 0, 0), (0, 64), 2),
-            claim(Side::File, (0, 0, 0), (64, 56), 3),
-            claim(Side::File, (0, 0, 0), (160, 192), 4),
-            claim(Side::Both, (0, 0x40_0000, 136), (0, 136), 5),
+            of_both(addresses(0, 0x40_0078, 16), offsets(120, 16), 0),
+            of_file(offsets(136, 17), 1),
+            of_file(offsets(0, 64), 2),
+            of_file(offsets(64, 56), 3),
+            of_file(offsets(160, 192), 4),
+            of_both(addresses(0, 0x40_0000, 136), offsets(0, 136), 5),
         ],
     };
     for (place, want) in [
@@ -130,15 +139,15 @@ fn claims_cover_what_is_loaded(rt: HostRuntime) -> Result<(), Fail> {
     let example = Example {
         len: 100,
         loads: &[
-            load(0, 1000, 40, 0, 50),
-            load(0, 1020, 60, 30, 60),
-            load(1, u64::MAX - 7, 8, 96, 8),
+            (0, 1000, 40, 0, 50),
+            (0, 1020, 60, 30, 60),
+            (1, u64::MAX - 7, 8, 96, 8),
         ],
         claims: &[
-            claim(Side::Vm, (0, 1030, 20), (0, 0), 0),
-            claim(Side::File, (0, 0, 0), (50, 48), 1),
-            claim(Side::Vm, (1, u64::MAX - 3, 100), (0, 0), 2),
-            claim(Side::Both, (0, 1000, 10), (0, 5), 3),
+            of_memory(addresses(0, 1030, 20), 0),
+            of_file(offsets(50, 48), 1),
+            of_memory(addresses(1, u64::MAX - 3, 100), 2),
+            of_both(addresses(0, 1000, 10), offsets(0, 5), 3),
         ],
     };
     for (place, want) in [
@@ -203,11 +212,11 @@ fn a_limit_gives_the_first_and_so_many_more(rt: HostRuntime) -> Result<(), Fail>
         len: 9,
         loads: &[],
         claims: &[
-            claim(Side::File, (0, 0, 0), (6, 3), 0),
-            claim(Side::Both, (0, 0, 0), (0, 9), 1),
-            claim(Side::Vm, (0, 0, 9), (0, 0), 0),
-            claim(Side::File, (0, 0, 0), (2, 4), 2),
-            claim(Side::File, (0, 0, 0), (0, 6), 0),
+            of_file(offsets(6, 3), 0),
+            of_both(NOWHERE, offsets(0, 9), 1),
+            of_memory(addresses(0, 0, 9), 0),
+            of_file(offsets(2, 4), 2),
+            of_file(offsets(0, 6), 0),
         ],
     };
     let labels = [b"a".as_slice(), b"b", b"c", b"none"];
@@ -244,7 +253,7 @@ fn nothing_covers(rt: HostRuntime) -> Result<(), Fail> {
     let example = Example {
         len: 9,
         loads: &[],
-        claims: &[claim(Side::File, (0, 0, 0), (6, 3), 0)],
+        claims: &[of_file(offsets(6, 3), 0)],
     };
     let labels = [b"a".as_slice(), b"none"];
     let said = said(&rt, rt.alloc(), &example, &labels, Place::Offset(5), 1)?;

@@ -6,9 +6,10 @@ use Rattle.std.specs.declared.cmp.Ordering.TheVariants.{Less, Equal, Greater}
 use Rattle.std.specs.Ordering.{is_gt, nat_cmp, ordering_then, ordering_reverse}
 use Rattle.std.specs.Cmp.Lexicographic.{slice_cmp, nat_list_cmp_total}
 use Rattle.std.specs.List.Sorted.{IsStrictlySortedBy}
-use Rattle.std.proofs.lemmas.Cmp.{ranked, tied_itself}
+use Rattle.std.proofs.lemmas.Cmp.{tied_itself}
 use Rattle.std.proofs.lemmas.List.{get_or-map, length-map, drop_more}
 use Rattle.std.proofs.lemmas.List.Elements.{All-from_recursion, All-head, All-tail}
+use Rattle.rollup.proofs.Paths.{same_list, same_number}
 use Rattle.rollup.specs.Totals.{row_cmp}
 use Rattle.rollup.specs.declared.table.RollupRow.{RollupRow}
 use Rattle.report_rows.specs.Groups.{row_from, table_at, labels_at}
@@ -17,19 +18,13 @@ use Rattle.report_rows.specs.Groups.{row_from, table_at, labels_at}
 abbrev pub IsDeep : ℕ → List RollupRow → Type 0
 IsDeep level rows = All (λ (r : RollupRow). level < length r.path) rows
 
-then-equal : (r s : Ordering) → ordering_then r s ≡ Equal → (r ≡ Equal) × (s ≡ Equal)
+pub then-equal : (r s : Ordering) → ordering_then r s ≡ Equal → (r ≡ Equal) × (s ≡ Equal)
 then-equal Less s e = cc e
 then-equal Equal s e = (refl, e)
 then-equal Greater s e = cc e
 
 pub bytes-equal : (a b : List ℕ) → slice_cmp nat_cmp a b ≡ Equal → a ≡ b
-bytes-equal [] [] e = refl
-bytes-equal [] (y ∷ ys) e = cc e
-bytes-equal (x ∷ xs) [] e = cc e
-bytes-equal (x ∷ xs) (y ∷ ys) e =
-    let both = then-equal (nat_cmp x y) (slice_cmp nat_cmp xs ys) e in
-    let head : x ≡ y = ranked x y Equal (sym both.0) in
-    rw (head, bytes-equal xs ys both.1) refl
+bytes-equal a b e = same_list nat_cmp same_number a b e
 
 not-above : (r s : Ordering) → ordering_then r s ≡ Less → is_gt r ≡ false
 not-above Less s e = refl

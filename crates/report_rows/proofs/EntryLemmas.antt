@@ -1,5 +1,5 @@
 -- The entries of a table: their sums, and the order under each.
-use Rattle.std.proofs.Common.{◌≡◌, ℕ, ◌<◌, ◌≤◌, List, [], ◌∷◌, ◌++◌, length, get_or, drop, map, refl, sym, ap, ◌∙◌, subst, Bool, true, false, cond, arith}
+use Rattle.std.proofs.Common.{◌≡◌, ℕ, ◌<◌, ◌≤◌, List, [], ◌∷◌, ◌++◌, length, get_or, drop, map, refl, sym, ap, ◌∙◌, subst, Bool, true, false, cond, not, arith}
 use Rattle.std.specs.Prelude.{All, filter}
 use Rattle.std.specs.declared.cmp.Ordering.TheVariants.{Less}
 use Rattle.std.specs.Cmp.Lexicographic.{nat_list_cmp_total}
@@ -9,7 +9,8 @@ use Rattle.std.specs.Str.{bytes_eq}
 use Rattle.std.proofs.lemmas.Cmp.{tied_itself}
 use Rattle.std.proofs.lemmas.List.{get_or-map, length-map, length-drop}
 use Rattle.std.proofs.lemmas.List.Elements.{All-head, All-tail}
-use Rattle.std.proofs.lemmas.List.Sums.{sum_by-cons, sum_by-take-drop}
+use Rattle.std.proofs.lemmas.List.Filters.{sum_by-filter_both}
+use Rattle.std.proofs.lemmas.List.Sums.{sum_by-take-drop}
 use Rattle.std.proofs.lemmas.Simd.{map-map}
 use Rattle.std.specs.Ordering.{is_lt, nat_cmp}
 use Rattle.report_rows.specs.Order.{within}
@@ -20,7 +21,7 @@ use Rattle.rollup.specs.declared.table.RollupRow.{RollupRow}
 use Rattle.report_rows.specs.declared.groups.Group.{Group}
 use Rattle.report_rows.specs.declared.row.RowOptions.{RowOptions}
 use Rattle.report_rows.specs.Groups.{row_from, table_at, group_label, group_entry, others_group, Fits, IsPart, IsGroup, IsRange}
-use Rattle.report_rows.specs.Tables.{Table, vm_sum, file_sum, without, under, first_labels}
+use Rattle.report_rows.specs.Tables.{Table, without, under, first_labels}
 use Rattle.report_rows.specs.Rows.{Entry, by_key, children, entries_of, has_shown, label_cmp, label_entry, limited, others_entry}
 use Rattle.report_rows.proofs.OrderLemmas.{sum_by-in_order}
 use Rattle.report_rows.proofs.TableLemmas.{same_bytes, sum_by-map, sum_by-same, labels-sum}
@@ -66,13 +67,8 @@ unfolding under IsStrictlySortedBy
 under-sorted l [] h = tt
 under-sorted l (r ∷ t) h = sorted-path l r t r.path refl h.0 (under-sorted l t h.1)
 
-filter-at : {X : Type 0} (f : X → ℕ) (x : X) (ys xs : List X) (b : Bool) → sum_by f ys ≤ sum_by f xs → sum_by f (cond b (x ∷ ys) ys) ≤ sum_by f (x ∷ xs)
-filter-at f x ys xs true le = omega (arith, sum_by-cons f x ys, sum_by-cons f x xs)
-filter-at f x ys xs false le = omega (arith, sum_by-cons f x xs)
-
 pub filter-le : {X : Type 0} (p : X → Bool) (f : X → ℕ) (xs : List X) → sum_by f (filter p xs) ≤ sum_by f xs
-filter-le p f [] = omega arith
-filter-le p f (x ∷ xs) = filter-at f x (filter p xs) xs (p x) (filter-le p f xs)
+filter-le p f xs = omega (arith, sum_by-filter_both p (λ x. not (p x)) (λ x. refl) f xs)
 
 pub children-le : (o : RowOptions) (t : Table) (f : List ℕ → ℕ) → sum_by f (children o t) ≤ sum_by f (first_labels t)
 unfolding children

@@ -1,7 +1,8 @@
 -- Rows of levels: what holds of each with the rows behind it, their tree, and the sums of a level.
-use Rattle.std.proofs.Common.{◌≡◌, ℕ, zero, suc, ◌+◌, ◌-◌, ◌<◌, ◌≤◌, ◌==◌, ◌||◌, List, [], ◌∷◌, ◌++◌, length, take, get_or, map, refl, sym, ap, ◌∙◌, subst, zero-add, Bool, true, false, not, arith}
+use Rattle.std.proofs.Common.{◌≡◌, ℕ, zero, suc, ◌+◌, ◌-◌, ◌<◌, ◌≤◌, ◌==◌, ◌||◌, List, [], ◌∷◌, ◌++◌, length, take, get_or, map, refl, sym, ap, ◌∙◌, subst, zero-add, Bool, true, false, not, le-ltb, lt-ltb, eq-eqb, ne_eqb, arith}
 use Rattle.std.specs.Prelude.{⊤, All, nat_lt}
 use Rattle.std.specs.List.{sum_by, flat_map}
+use Rattle.std.proofs.Math.Bool.{or-true, or-false}
 use Rattle.std.proofs.lemmas.Grind.{common_steps}
 use Rattle.std.proofs.lemmas.List.{append-nil, append_assoc, map-append, flat_map_more, map_more}
 use Rattle.std.proofs.lemmas.List.Elements.{All-head, All-tail}
@@ -110,17 +111,11 @@ module _ {T E R : Type 0} (entries : T → List E) (below : E → T) (row : ℕ 
 -- a row has no children where the next level is no greater
 pub no-child : (level : ℕ) (r : Row) (rows : List Row) → r.level ≡ level → Stops (λ (s : Row). s.level) (level + 1) rows → has_children r rows ≡ false
 no-child level r [] e stops = refl
-no-child level r (next ∷ rows) e stops = lower r.level next.level (omega (arith, stops))
-  where
-    lower : (m n : ℕ) → n ≤ m → nat_lt m n ≡ false
-    lower m n le = grind (arith, common_steps)
+no-child level r (next ∷ rows) e stops = le-ltb r.level next.level (omega (arith, stops))
 
 -- and it has some where the next is greater
 child : (r : Row) (next : Row) (rows : List Row) → r.level < next.level → has_children r (next ∷ rows) ≡ true
-child r next rows lt = higher r.level next.level lt
-  where
-    higher : (m n : ℕ) → m < n → nat_lt m n ≡ true
-    higher m n lt = grind (arith, common_steps)
+child r next rows lt = lt-ltb r.level next.level lt
 
 pub stopped : (size : Row → ℕ) (level : ℕ) (rows : List Row) → Stops (λ (r : Row). r.level) level rows → level_sum size level rows ≡ 0
 stopped size level [] stops = refl
@@ -178,32 +173,18 @@ module _ {T E : Type 0} (entries : T → List E) (below : E → T) (shape : E �
       abbrev InTree : Row → List Row → Type 0
       InTree r rows = (r.level < depth) × (has_children r rows ≡ not (is_others r.kind || (r.level + 1 == depth))) × Stops level-of (r.level + 1 + 1) rows
 
-      or-true : (b : Bool) → not (b || true) ≡ false
-      or-true true = refl
-      or-true false = refl
-
-      or-false : (b : Bool) → not (b || false) ≡ not b
-      or-false true = refl
-      or-false false = refl
-
       in-tree : (n level : ℕ) (e : E) (after : List Row) → depth ≡ level + suc n → Sound n e → Stops level-of (level + 1) after → InTree (row_at level e) (rows_at n (level + 1) (below e) ++ after)
       unfolding rows_over
       in-tree zero level e after d is stops = (
         omega (arith, d),
-        (let last : (level + 1 == depth) ≡ true = ends level depth (omega (arith, d)) in no-child level (row_at level e) after refl stops ∙ sym (rw last (or-true (is_others (shape e).kind)))),
+        (let last : (level + 1 == depth) ≡ true = eq-eqb (level + 1) depth (omega (arith, d)) in no-child level (row_at level e) after refl stops ∙ sym (rw last (ap not (or-true (is_others (shape e).kind))))),
         stops-later level-of (level + 1) (level + 1 + 1) after (omega arith) stops,
       )
-        where
-          ends : (m d : ℕ) → d ≡ m + 1 → (m + 1 == d) ≡ true
-          ends m d e = grind (arith, common_steps)
       in-tree (suc n) level e after d is stops = (
         omega (arith, d),
-        (let more : (level + 1 == depth) ≡ false = goes level depth (omega (arith, d)) in children-are n level e after stops ∙ (some n e is ∙ sym (rw more (or-false (is_others (shape e).kind))))),
+        (let more : (level + 1 == depth) ≡ false = ne_eqb (level + 1) depth (λ e. omega (arith, d, e)) in children-are n level e after stops ∙ (some n e is ∙ sym (rw more (ap not (or-false (is_others (shape e).kind)))))),
         stops-entries entries below row_at level-of (λ l x. refl) n (level + 1) (entries (below e)) after (stops-later level-of (level + 1) (level + 1 + 1) after (omega arith) stops),
       )
-        where
-          goes : (m d : ℕ) → m + 1 < d → (m + 1 == d) ≡ false
-          goes m d lt = grind (arith, common_steps)
 
       are-levels : (high : ℕ) (rows : List Row) → Stops level-of (high + 1) rows → EachRow InTree rows → AreLevels depth high rows
       are-levels high [] stops each = tt

@@ -1,5 +1,5 @@
 -- A list within a limit.
-use Rattle.std.proofs.Common.{◌≡◌, ℕ, suc, ◌+◌, ◌<◌, ◌≤◌, ◌==◌, ◌||◌, List, [], ◌∷◌, length, take, drop, map, refl, sym, ap, ◌∙◌, Bool, true, false, cond, not, leb, arith, ◌⊎◌, inl, inr}
+use Rattle.std.proofs.Common.{◌≡◌, ℕ, suc, ◌+◌, ◌<◌, ◌≤◌, ◌==◌, ◌||◌, List, [], ◌∷◌, length, take, drop, map, refl, ap, ◌∙◌, Bool, true, false, cond, not, leb, arith, ◌⊎◌, inl, inr}
 use Rattle.std.specs.Prelude.{All, insert}
 use Rattle.std.specs.List.{sum_by, position_or_len}
 use Rattle.std.specs.declared.cmp.Ordering.{Ordering}

@@ -1,6 +1,6 @@
 -- The rows of a report show the paths of its table.
 use Rattle.std.proofs.Common.{◌≡◌, ℕ, zero, suc, ◌+◌, ◌<◌, ◌≤◌, ◌==◌, ◌||◌, List, [], ◌∷◌, ◌++◌, length, take, drop, map, refl, sym, ap, ◌∙◌, subst, Bool, true, false, cond, leb, arith}
-use Rattle.std.specs.Prelude.{⊤, All, filter, nat_lt}
+use Rattle.std.specs.Prelude.{All, filter, nat_lt}
 use Rattle.std.specs.List.{sum_by, flat_map}
 use Rattle.std.specs.Str.{bytes_eq}
 use Rattle.std.proofs.lemmas.Grind.{common_steps}
@@ -21,7 +21,7 @@ use Rattle.report_rows.specs.Paths.{AreSizesBelow, Path, RowsShowPaths, ShowRows
 use Rattle.report_rows.proofs.LevelLemmas.{Stops, level-sum, stops-later}
 use Rattle.report_rows.proofs.LimitLemmas.{All-within}
 use Rattle.report_rows.proofs.OrderLemmas.{sum_by-in_order, sum_by-placed}
-use Rattle.report_rows.proofs.TableLemmas.{absent, has, once, same_bytes, sum_by-map, sum_by-same}
+use Rattle.report_rows.proofs.TableLemmas.{absent, has, once, same_bytes, sum-zero, sum_by-map, sum_by-same}
 use Rattle.report_rows.proofs.TreeLemmas.{listing-nil}
 
 -- Paths and their tables.
@@ -112,10 +112,6 @@ some-left labels n more = above (length (drop n labels)) (omega (arith, length-d
 
     above : (m : ℕ) → 0 < m → (m == 0) ≡ false
     above m lt = grind (arith, common_steps)
-
-sum-zero : (labels : List (List ℕ)) → sum_by (λ l. 0) labels ≡ 0
-sum-zero [] = refl
-sum-zero (l ∷ labels) = omega (arith, sum_by-cons (λ l. 0) l labels, sum-zero labels)
 
 -- a size of entries that is one of labels, and one of the labels that are left out
 module _ (o : RowOptions) (t : Table) (labels : List (List ℕ)) where

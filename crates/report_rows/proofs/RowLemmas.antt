@@ -1,5 +1,5 @@
 -- Rows behind references, their labels and their sums.
-use Rattle.std.proofs.Common.{◌≡◌, ℕ, ◌+◌, ◌<◌, ◌≤◌, List, [], length, take, get_or, map, refl, sym, ap, ◌∙◌, Bool, true, false, not, Some, arith, Bor, leb}
+use Rattle.std.proofs.Common.{◌≡◌, ℕ, ◌+◌, ◌<◌, ◌≤◌, List, [], length, take, get_or, map, refl, sym, ap, ◌∙◌, Bool, true, false, not, Some, Bor}
 use Rattle.std.specs.Prelude.{slice_get}
 use Rattle.std.specs.List.{sum_by}
 use Rattle.std.specs.Str.{bytes_eq}
@@ -7,7 +7,6 @@ use Rattle.std.proofs.lemmas.List.{take-map, get_or-map, get_or_default, length-
 use Rattle.std.proofs.lemmas.List.Sums.{sum_by_more_le}
 use Rattle.std.proofs.lemmas.Option.{get_or_from_slice_get}
 use Rattle.rollup.specs.declared.table.RollupRow.{RollupRow}
-use Rattle.std.proofs.lemmas.Grind.{common_steps}
 use Rattle.report_rows.specs.Groups.{labels_at}
 use Rattle.report_rows.specs.Levels.{level_labels}
 use Rattle.std.proofs.lemmas.Simd.{map-map}

@@ -1,28 +1,20 @@
 -- Where a shown size is above 0.
 use Rattle.std.proofs.Common.{◌≡◌, ℕ, ◌<◌, ◌||◌, refl, Bool, true, false, arith, ◌⊎◌, inl, inr}
 use Rattle.std.specs.Prelude.{nat_lt}
-use Rattle.std.proofs.lemmas.Bool.{cases_Bool}
+use Rattle.std.proofs.lemmas.Bool.{cases_Bool, or_parts}
 use Rattle.std.proofs.lemmas.Grind.{common_steps}
 use Rattle.report_rows.specs.Shown.{shown}
-
-or-left : (a b : Bool) → (a || b) ≡ false → a ≡ false
-or-left true b e = cc e
-or-left false b e = refl
-
-or-right : (a b : Bool) → (a || b) ≡ false → b ≡ false
-or-right true b e = cc e
-or-right false b e = e
 
 none-above : (n : ℕ) → nat_lt 0 n ≡ false → n ≡ 0
 none-above n e = grind (arith, common_steps)
 
 -- a size that is shown, where nothing shown is above 0
 pub first-none : (a b : Bool) (v f : ℕ) → a ≡ true → (nat_lt 0 (shown a v) || nat_lt 0 (shown b f)) ≡ false → v ≡ 0
-first-none true b v f e unshown = none-above v (or-left (nat_lt 0 v) (nat_lt 0 (shown b f)) unshown)
+first-none true b v f e unshown = none-above v (or_parts (nat_lt 0 v) (nat_lt 0 (shown b f)) unshown).0
 first-none false b v f e unshown = cc e
 
 pub second-none : (a b : Bool) (v f : ℕ) → b ≡ true → (nat_lt 0 (shown a v) || nat_lt 0 (shown b f)) ≡ false → f ≡ 0
-second-none a true v f e unshown = none-above f (or-right (nat_lt 0 (shown a v)) (nat_lt 0 f) unshown)
+second-none a true v f e unshown = none-above f (or_parts (nat_lt 0 (shown a v)) (nat_lt 0 f) unshown).1
 second-none a false v f e unshown = cc e
 
 -- which size it is that is above 0

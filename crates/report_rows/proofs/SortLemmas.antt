@@ -19,7 +19,7 @@ use Rattle.report_rows.specs.Keys.{key_of}
 use Rattle.report_rows.specs.Order.{in_order}
 use Rattle.report_rows.specs.Tables.{Table, vm_sum, file_sum, under, first_labels}
 use Rattle.report_rows.specs.Rows.{Entry, label_cmp, has_shown, children}
-use Rattle.report_rows.proofs.AscendLemmas.{ascend, bytes-equal}
+use Rattle.report_rows.proofs.AscendLemmas.{ascend, bytes-equal, then-equal}
 use Rattle.report_rows.proofs.GroupLemmas.{deep_of}
 use Rattle.report_rows.proofs.OrderLemmas.{in_order_is}
 
@@ -29,13 +29,8 @@ label_key o t l = key_of o (vm_sum (under l t)) (file_sum (under l t))
 pub label_total : (o : RowOptions) (t : Table) → IsTotalOrder (label_cmp o t)
 label_total o t = then_total {R = λ a b. nat_cmp (label_key o t b) (label_key o t a)} {S = slice_cmp nat_cmp} (on_total (label_key o t) (back_total nat_cmp_total)) nat_list_cmp_total
 
-second : (r s : Ordering) → ordering_then r s ≡ Equal → s ≡ Equal
-second Less s e = cc e
-second Equal s e = e
-second Greater s e = cc e
-
 pub label_is : (o : RowOptions) (t : Table) (a b : List ℕ) → label_cmp o t a b ≡ Equal → a ≡ b
-label_is o t a b e = bytes-equal a b (second _ _ e)
+label_is o t a b e = bytes-equal a b (then-equal _ _ e).1
 
 least-turned : (r s : Ordering) → r ≡ ordering_reverse s → is_gt s ≡ false → is_lt r ≡ false
 least-turned Less Less e h = cc e

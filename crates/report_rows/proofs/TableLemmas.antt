@@ -1,6 +1,6 @@
 -- The table under a label, and what the labels of a table add up to.
 use Rattle.std.proofs.Common.{◌≡◌, ℕ, ◌+◌, ◌<◌, List, [], ◌∷◌, ◌++◌, length, map, refl, sym, ap, ◌∙◌, subst, Bool, true, false, cond, ◌||◌, ◌&&◌, arith, inl, inr}
-use Rattle.std.specs.Prelude.{All}
+use Rattle.std.specs.Prelude.{All, filter}
 use Rattle.std.specs.List.{list_any, starts_with, sum_by}
 use Rattle.std.specs.Str.{bytes_eq}
 use Rattle.std.proofs.lemmas.Bool.{cases_Bool}
@@ -19,6 +19,20 @@ pub sum_by-map : {X Y : Type 0} (f : Y → ℕ) (g : X → Y) (xs : List X) → 
 sum_by-map f g [] = refl
 sum_by-map f g (x ∷ xs) = omega (arith, sum_by-cons f (g x) (map g xs), sum_by-cons (λ y. f (g y)) x xs, sum_by-map f g xs)
 
+pub sum-zero : {X : Type 0} (xs : List X) → sum_by (λ x. 0) xs ≡ 0
+sum-zero [] = refl
+sum-zero (x ∷ xs) = omega (arith, sum_by-cons (λ y. 0) x xs, sum-zero xs)
+
+-- the sums of two sizes over a part, where they are alike in what is left out
+pub both-sums : {X : Type 0} (p : X → Bool) (f g : X → ℕ) → ((x : X) → p x ≡ false → f x ≡ g x) → (xs : List X) → sum_by f (filter p xs) + sum_by g xs ≡ sum_by g (filter p xs) + sum_by f xs
+both-sums p f g alike [] = refl
+both-sums {X} p f g alike (x ∷ xs) = at (p x) refl (both-sums p f g alike xs)
+  where
+    at : (b : Bool) → p x ≡ b → sum_by f (filter p xs) + sum_by g xs ≡ sum_by g (filter p xs) + sum_by f xs
+        → sum_by f (cond b (x ∷ filter p xs) (filter p xs)) + sum_by g (x ∷ xs) ≡ sum_by g (cond b (x ∷ filter p xs) (filter p xs)) + sum_by f (x ∷ xs)
+    at true e more = omega (arith, sum_by-cons f x (filter p xs), sum_by-cons f x xs, sum_by-cons g x (filter p xs), sum_by-cons g x xs, more)
+    at false e more = omega (arith, sum_by-cons f x xs, sum_by-cons g x xs, alike x e, more)
+
 pub same_bytes : (a b : List ℕ) → bytes_eq a b ≡ true → a ≡ b
 same_bytes a b e = (bytes_eq-Decides a b).0 e
 
@@ -35,9 +49,6 @@ under-sum f label (r ∷ t) =
 
 -- a size of rows, whatever their paths
 module _ (size : RollupRow → ℕ) (same : (r : RollupRow) (p : List (List ℕ)) → size (record r { path = p }) ≡ size r) where
-  sum-one : (r : RollupRow) → sum_by size (r ∷ []) ≡ size r
-  sum-one r = omega (arith, sum_by-cons size r [])
-
   prefix-at : (r : RollupRow) (l k : List ℕ) (path p : List (List ℕ)) (b : Bool)
       → sum_by (λ (s : RollupRow). cond (starts_with bytes_eq s.path path) (size s) 0) (cond b (record r { path = p } ∷ []) []) ≡ cond (b && starts_with bytes_eq p path) (size r) 0
   prefix-at r l k path p true =

@@ -5,7 +5,6 @@ use Rattle.std.specs.List.{sum_by}
 use Rattle.std.specs.Str.{bytes_eq}
 use Rattle.std.proofs.lemmas.List.{append-nil}
 use Rattle.std.proofs.lemmas.List.Elements.{All-head, All-tail, All-cons, All-map, All-weaker, filter_passes}
-use Rattle.std.proofs.lemmas.List.Sums.{sum_by-cons}
 use Rattle.rollup.specs.declared.table.RollupRow.{RollupRow}
 use Rattle.report_rows.specs.declared.row.RowOptions.{RowOptions}
 use Rattle.report_rows.specs.declared.row.Row.{Row}
@@ -20,7 +19,7 @@ use Rattle.report_rows.proofs.LevelLemmas.{Stops, are-tree, each-row, has_some, 
 use Rattle.report_rows.proofs.LimitLemmas.{All-within, sum_by-within, within-nil}
 use Rattle.report_rows.proofs.OrderLemmas.{sum_by-in_order, All-in_order}
 use Rattle.report_rows.proofs.ShownLemmas.{first-none, second-none, some-shown}
-use Rattle.report_rows.proofs.TableLemmas.{sum_by-map, sum_by-same, labels-sum}
+use Rattle.report_rows.proofs.TableLemmas.{both-sums, sum-zero, sum_by-map, sum_by-same, labels-sum}
 
 -- each path has so many labels
 abbrev pub AreOf : ℕ → Table → Type 0
@@ -44,12 +43,7 @@ of-under n l (r ∷ t) all =
 
 -- sums over the entries
 sum-shown : {X : Type 0} (p : X → Bool) (f : X → ℕ) (xs : List X) → ((x : X) → p x ≡ false → f x ≡ 0) → sum_by f (filter p xs) ≡ sum_by f xs
-sum-shown p f [] none = refl
-sum-shown {X} p f (x ∷ xs) none = at (p x) refl (sum-shown p f xs none)
-  where
-    at : (b : Bool) → p x ≡ b → sum_by f (filter p xs) ≡ sum_by f xs → sum_by f (cond b (x ∷ filter p xs) (filter p xs)) ≡ sum_by f (x ∷ xs)
-    at true e more = omega (arith, sum_by-cons f x (filter p xs), sum_by-cons f x xs)
-    at false e more = omega (arith, sum_by-cons f x xs, none x e)
+sum-shown p f xs none = omega (arith, both-sums p f (λ x. 0) none xs, sum-zero xs, sum-zero (filter p xs))
 
 -- a size of entries that is a size of the tables under labels, and 0 where nothing is shown
 record IsSize (o : RowOptions) (f : Entry → ℕ) (size : RollupRow → ℕ) : Type 0 where

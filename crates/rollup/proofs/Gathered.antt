@@ -1,63 +1,79 @@
--- Sizes by numbers of labels: places, growth, and what the entries weigh.
-use Rattle.std.proofs.Common.{if◌then◌else◌, ◌||◌, ◌^◌, ◌≡◌, ◌+◌, ◌<◌, ◌≤◌, ℕ, zero, suc, Bool, true, false, cond, ◌&&◌, List, [], ◌∷◌, ◌++◌, length, get_or, set, slice_get, Some, refl, sym, ap, subst, ◌∙◌, inl, inr, ◌⊎◌, map, arith}
-use Rattle.std.specs.List.{list_any, sum_by, position_or_len}
+-- Sizes by numbers of labels: growth, and what the entries weigh.
+use Rattle.std.proofs.Common.{◌^◌, ◌≡◌, ◌+◌, ◌<◌, ◌≤◌, ℕ, zero, suc, Bool, true, false, cond, ◌&&◌, List, [], ◌∷◌, ◌++◌, length, get_or, set, slice_get, position, Some, option_map, refl, sym, ap, subst, ◌∙◌, inl, inr, ◌⊎◌, map, arith}
+use Rattle.std.specs.List.{sum_by}
 use Rattle.std.specs.Prelude.{All}
-use Rattle.std.proofs.lemmas.List.Sums.{sum_by-cons, sum_by_push, sum_by-set, position_or_len_is}
+use Rattle.std.specs.Str.{bytes_eq}
+use Rattle.std.proofs.lemmas.List.Sums.{sum_by-cons, sum_by_push, sum_by-set}
 use Rattle.std.proofs.lemmas.List.Elements.{All-push}
+use Rattle.std.proofs.lemmas.List.Quantifiers.{position-Some}
 use Rattle.std.proofs.lemmas.List.{get_or-set_other, get_or-set_same, length-set, length-map, map-append}
-use Rattle.std.proofs.lemmas.Option.{slice_get_within, slice_get-get_or, get_or_from_slice_get}
+use Rattle.std.proofs.lemmas.Option.{slice_get_within, slice_get-map, get_or_from_slice_get}
+use Rattle.std.proofs.lemmas.Slice.Eq.{bytes_eq-Decides}
 use Rattle.std.proofs.lemmas.Bool.{cases_eq}
+use Rattle.indexmap.specs.IndexMap.{set_value_at}
 use Rattle.rollup.specs.declared.cursor.Part.{Part}
 use Rattle.rollup.specs.declared.cursor.Part.TheVariants.{File, Vm}
 use Rattle.rollup.specs.declared.sizes.Sizes.{Sizes}
 use Rattle.size_model.specs.Numbered.{text_of}
 use Rattle.rollup.specs.declared.table.RollupRow.{RollupRow}
 use Rattle.rollup.specs.Rows.{FitTogether}
-use Rattle.rollup.specs.Sizes.{row_of, Entry, no_entry, no_sizes, entry_of, entries_from, size_in, part_of, other, sizes_of, grown_sizes, grown, weight, IsGrown, IsGrownIf, IsPlaced, IsEntry}
+use Rattle.rollup.specs.Sizes.{row_of, Entry, no_entry, entry_of, size_in, part_of, other, sizes_of, grown_sizes, grown, weight, IsGrown, IsGrownIf, IsEntry}
 
-pub length-entries : (ns : List (List ℕ)) (ss : List Sizes) → length ss ≡ length ns → length (entries_from ns ss) ≡ length ns
-length-entries [] ss e = refl
-length-entries (n ∷ ns) [] e = absurd (omega arith)
-length-entries (n ∷ ns) (s ∷ ss) e = omega (arith, length-entries ns ss (omega arith))
+same : {A : Type 0} {x y : A} → Some x ≡ Some y → x ≡ y
+same e = cc
 
-pub get-entries : (ns : List (List ℕ)) (ss : List Sizes) (i : ℕ) → length ss ≡ length ns → i < length ns → get_or (entries_from ns ss) i no_entry ≡ entry_of (get_or ns i []) (get_or ss i no_sizes)
-get-entries [] ss i e lt = absurd (omega arith)
-get-entries (n ∷ ns) [] i e lt = absurd (omega arith)
-get-entries (n ∷ ns) (s ∷ ss) zero e lt = refl
-get-entries (n ∷ ns) (s ∷ ss) (suc i) e lt = get-entries ns ss i (omega arith) (omega arith)
-
-pub set-entries : (ns : List (List ℕ)) (ss : List Sizes) (i : ℕ) (s : Sizes) → length ss ≡ length ns → i < length ns → entries_from ns (set ss i s) ≡ set (entries_from ns ss) i (entry_of (get_or ns i []) s)
-set-entries [] ss i s e lt = absurd (omega arith)
-set-entries (n ∷ ns) [] i s e lt = absurd (omega arith)
-set-entries (n ∷ ns) (t ∷ ss) zero s e lt = refl
-set-entries (n ∷ ns) (t ∷ ss) (suc i) s e lt = ap (λ es. entry_of n t ∷ es) (set-entries ns ss i s (omega arith) (omega arith))
-
-pub push-entries : (ns : List (List ℕ)) (ss : List Sizes) (n : List ℕ) (s : Sizes) → length ss ≡ length ns → entries_from (ns ++ n ∷ []) (ss ++ s ∷ []) ≡ entries_from ns ss ++ entry_of n s ∷ []
-push-entries [] [] n s e = refl
-push-entries [] (t ∷ ss) n s e = absurd (omega arith)
-push-entries (m ∷ ns) [] n s e = absurd (omega arith)
-push-entries (m ∷ ns) (t ∷ ss) n s e = ap (λ es. entry_of m t ∷ es) (push-entries ns ss n s (omega arith))
+-- an entry of a map from numbers, which its keys hold, to sizes
+abbrev seen : {V : Type 0} → (V → List ℕ) → V × Sizes → Entry
+seen f e = entry_of (f e.0) e.1
 
 grown-entry : (part : Part) (size : ℕ) (n : List ℕ) (s : Sizes) → entry_of n (grown_sizes part size s) ≡ grown part size (entry_of n s)
 grown-entry File size n s = refl
 grown-entry Vm size n s = refl
 
--- one of the sizes at a place grows
-pub grows : (part : Part) (numbers : List ℕ) (size : ℕ) (ns : List (List ℕ)) (ss : List Sizes) (i : ℕ) → length ss ≡ length ns → slice_get ns i ≡ Some numbers
-    → IsGrown part numbers size (entries_from ns ss) (entries_from ns (set ss i (grown_sizes part size (get_or ss i no_sizes))))
-grows part numbers size ns ss i e at =
-    let lt : i < length ns = slice_get_within ns i numbers at in
-    let here : get_or ns i [] ≡ numbers = get_or_from_slice_get ns i numbers [] at in
-    let there = get-entries ns ss i e lt in
-    inl (
-      i,
-      record {
-        within = omega (arith, length-entries ns ss e);
-        there = ap (λ (x : Entry). x.numbers) there ∙ here;
-        set = set-entries ns ss i (grown_sizes part size (get_or ss i no_sizes)) e lt
-            ∙ (ap (set (entries_from ns ss) i) (grown-entry part size (get_or ns i []) (get_or ss i no_sizes)) ∙ ap (λ x. set (entries_from ns ss) i (grown part size x)) (sym there));
-      },
-    )
+size-of : (part : Part) (n : List ℕ) (s : Sizes) → size_in part (entry_of n s) ≡ part_of part s
+size-of File n s = refl
+size-of Vm n s = refl
+
+module _ {V : Type 0} (f : V → List ℕ) where
+  set-seen : (es : List (V × Sizes)) (i : ℕ) (v : V) (s t : Sizes) → slice_get es i ≡ Some (v, s) → map (seen f) (set_value_at es i t) ≡ set (map (seen f) es) i (entry_of (f v) t)
+  set-seen [] i v s t at = refl
+  set-seen (e ∷ es) zero v s t at = ap (λ (w : V). entry_of (f w) t ∷ map (seen f) es) (ap (λ (p : V × Sizes). p.0) (same at))
+  set-seen (e ∷ es) (suc i) v s t at = ap (λ ds. seen f e ∷ ds) (set-seen es i v s t at)
+
+  -- what stands at a place is an entry, and its sizes are among the values
+  entry-seen : (es : List (V × Sizes)) (i : ℕ) (v : V) (s t : Sizes) → slice_get es i ≡ Some (v, s) → slice_get (map (λ (e : V × Sizes). e.1) es) i ≡ Some t → get_or (map (seen f) es) i no_entry ≡ entry_of (f v) t
+  entry-seen es i v s t at value =
+      let one : s ≡ t = same (sym (slice_get-map (λ (e : V × Sizes). e.1) es i ∙ ap (option_map (λ (e : V × Sizes). e.1)) at) ∙ value) in
+      get_or_from_slice_get (map (seen f) es) i (entry_of (f v) s) no_entry (slice_get-map (seen f) es i ∙ ap (option_map (seen f)) at) ∙ ap (entry_of (f v)) one
+
+  pub fits-seen : (part : Part) (size : ℕ) (es : List (V × Sizes)) (i : ℕ) (v : V) (s t : Sizes) → slice_get es i ≡ Some (v, s) → slice_get (map (λ (e : V × Sizes). e.1) es) i ≡ Some t
+      → ((j : ℕ) → size_in part (get_or (map (seen f) es) j no_entry) + size < 2 ^ 128) → part_of part t + size < 2 ^ 128
+  fits-seen part size es i v s t at value fits =
+      omega (arith, fits i, ap (size_in part) (entry-seen es i v s t at value), size-of part (f v) t)
+
+  -- one of the sizes of numbers that are there grows
+  pub grows : (part : Part) (numbers : List ℕ) (size : ℕ) (es : List (V × Sizes)) (i : ℕ) (v : V) (s t : Sizes)
+      → position (λ w. bytes_eq numbers (f w)) (map (λ (e : V × Sizes). e.0) es) ≡ Some i → slice_get es i ≡ Some (v, s) → slice_get (map (λ (e : V × Sizes). e.1) es) i ≡ Some t
+      → IsGrown part numbers size (map (seen f) es) (map (seen f) (set_value_at es i (grown_sizes part size t)))
+  grows part numbers size es i v s t first at value =
+      let keys = map (λ (e : V × Sizes). e.0) es in
+      let key : get_or keys i v ≡ v = get_or_from_slice_get keys i v v (slice_get-map (λ (e : V × Sizes). e.0) es i ∙ ap (option_map (λ (e : V × Sizes). e.0)) at) in
+      let numbered : numbers ≡ f v = (bytes_eq-Decides numbers (f v)).0 (sym (ap (λ w. bytes_eq numbers (f w)) key) ∙ (position-Some (λ w. bytes_eq numbers (f w)) keys i v first).1) in
+      let here = entry-seen es i v s t at value in
+      inl (
+        i,
+        record {
+          within = omega (arith, slice_get_within es i (v, s) at, length-map es (seen f));
+          there = ap (λ (x : Entry). x.numbers) here ∙ sym numbered;
+          set = set-seen es i v s (grown_sizes part size t) at ∙ ap (set (map (seen f) es) i) (grown-entry part size (f v) t ∙ ap (grown part size) (sym here));
+        },
+      )
+
+  -- numbers that are new stand last
+  pub added-last : (part : Part) (numbers : List ℕ) (size : ℕ) (es new : List (V × Sizes)) (v : V) (s : Sizes) → f v ≡ numbers → s ≡ sizes_of part size → new ≡ es ++ (v, s) ∷ []
+      → IsGrown part numbers size (map (seen f) es) (map (seen f) new)
+  added-last part numbers size es new v s is sized made =
+      inr (ap (map (seen f)) made ∙ (map-append (seen f) es ((v, s) ∷ []) ∙ ap (λ (e : Entry). map (seen f) es ++ e ∷ []) (ap (λ ns. entry_of ns s) is ∙ ap (entry_of numbers) sized)))
 
 -- what an entry weighs
 abbrev weigh : Part → (List ℕ → Bool) → Entry → ℕ
@@ -141,49 +157,6 @@ entries-grown part numbers size k n old new lt deep below (inl (i, h)) all =
 entries-grown part numbers size k n old new lt deep below (inr h) all =
     subst (All (IsEntry k n)) (sym h) (All-push (IsEntry k n) old (entry_of numbers (sizes_of part size)) all (some-new part size k n numbers lt deep below))
 
-or_left : (b c : Bool) → (b || c) ≡ false → b ≡ false
-or_left true c e = e
-or_left false c e = refl
-
-or_right : (b c : Bool) → (b || c) ≡ false → c ≡ false
-or_right true c e = cc
-or_right false c e = e
-
-none_passes : {V : Type 0} (p : V → Bool) (xs : List V) (k : ℕ) (d : V) → list_any p xs ≡ false → k < length xs → p (get_or xs k d) ≡ false
-none_passes p [] k d e lt = absurd (omega arith)
-none_passes p (x ∷ xs) zero d e lt = or_left (p x) (list_any p xs) e
-none_passes p (x ∷ xs) (suc k) d e lt = none_passes p xs k d (or_right (p x) (list_any p xs) e) (omega arith)
-
--- numbers that are new stand last
-pub placed-last : {V : Type 0} (f : V → List ℕ) (eq : V → V → Bool) (keys new : List V) (v : V) (numbers : List ℕ) (i : ℕ) → f v ≡ numbers → list_any (eq v) keys ≡ false
-    → new ≡ (if list_any (eq v) keys then keys else keys ++ v ∷ []) → i ≡ position_or_len (eq v) keys → IsPlaced (map f keys) (map f new) numbers i
-placed-last f eq keys new v numbers i is absent made at =
-    inr (
-      ap (map f) (made ∙ ap (λ (b : Bool). if b then keys else keys ++ v ∷ []) absent) ∙ (map-append f keys (v ∷ []) ∙ ap (λ (l : List ℕ). map f keys ++ l ∷ []) is),
-      at ∙ (position_or_len_is (eq v) keys (length keys) v (omega arith) (λ k lt. none_passes (eq v) keys k v absent lt) (λ lt. absurd (omega arith)) ∙ sym (length-map keys f)),
-    )
-
--- where the place is the number of sizes, the numbers are new
-pub added-last : (part : Part) (numbers : List ℕ) (size : ℕ) (old new : List (List ℕ)) (ss : List Sizes) (s : Sizes) (i : ℕ) → length ss ≡ length old → i ≡ length ss → IsPlaced old new numbers i
-    → s ≡ sizes_of part size → IsGrown part numbers size (entries_from old ss) (entries_from new (ss ++ s ∷ []))
-added-last part numbers size old new ss s i e last (inl (same, at)) is = absurd (omega (arith, slice_get_within old i numbers at, e, last))
-added-last part numbers size old new ss s i e last (inr (made, at)) is =
-    inr (ap (λ ns. entries_from ns (ss ++ s ∷ [])) made ∙ (push-entries old ss numbers s e ∙ ap (λ t. entries_from old ss ++ entry_of numbers t ∷ []) is))
-
--- elsewhere they were there
-pub place-there : (numbers : List ℕ) (old new : List (List ℕ)) (ss : List Sizes) (i : ℕ) → length ss ≡ length old → (i ≡ length ss → ⊥) → IsPlaced old new numbers i
-    → (i < length ss) × (new ≡ old) × (slice_get old i ≡ Some numbers)
-place-there numbers old new ss i e other (inl (same, at)) = (omega (arith, slice_get_within old i numbers at, e), same, at)
-place-there numbers old new ss i e other (inr (made, at)) = absurd (other (omega (arith, at, e)))
-
--- the size at a place is that of the entry there
-pub part-at : (part : Part) (ns : List (List ℕ)) (ss : List Sizes) (i : ℕ) → length ss ≡ length ns → i < length ns → size_in part (get_or (entries_from ns ss) i no_entry) ≡ part_of part (get_or ss i no_sizes)
-part-at part ns ss i e lt = ap (size_in part) (get-entries ns ss i e lt) ∙ by_part part
-  where
-    by_part : (part : Part) → size_in part (entry_of (get_or ns i []) (get_or ss i no_sizes)) ≡ part_of part (get_or ss i no_sizes)
-    by_part File = refl
-    by_part Vm = refl
-
 pub weight-grown_if : (b : Bool) (part : Part) (test : List ℕ → Bool) (numbers : List ℕ) (size : ℕ) (old new : List Entry) → IsGrownIf b part numbers size old new → weight part test new ≡ weight part test old + cond (b && test numbers) size 0
 weight-grown_if true part test numbers size old new h = weight-grown part test numbers size old new h
 weight-grown_if false part test numbers size old new h = ap (weight part test) h ∙ (let none : weight part test old ≡ weight part test old + 0 = omega arith in none)
@@ -195,13 +168,6 @@ weight-other_if false part test numbers size old new h = ap (weight (other part)
 pub entries-grown_if : (b : Bool) (part : Part) (numbers : List ℕ) (size k n : ℕ) (old new : List Entry) → 0 < size → length numbers ≡ k → (b ≡ true → All (λ m. m < n) numbers) → IsGrownIf b part numbers size old new → All (IsEntry k n) old → All (IsEntry k n) new
 entries-grown_if true part numbers size k n old new lt deep below h all = entries-grown part numbers size k n old new lt deep (below refl) h all
 entries-grown_if false part numbers size k n old new lt deep below h all = subst (All (IsEntry k n)) (sym h) all
-
--- the entry at a place
-pub entry-at : (ns : List (List ℕ)) (ss : List Sizes) (i : ℕ) (numbers : List ℕ) (s : Sizes) → length ss ≡ length ns → i < length ss → slice_get ns i ≡ Some numbers → s ≡ get_or ss i s
-    → get_or (entries_from ns ss) i no_entry ≡ entry_of numbers s
-entry-at ns ss i numbers s e lt at is =
-    let size : get_or ss i no_sizes ≡ s = get_or_from_slice_get ss i (get_or ss i s) no_sizes (slice_get-get_or ss i s lt) ∙ sym is in
-    get-entries ns ss i e (omega arith) ∙ (ap (λ n. entry_of n (get_or ss i no_sizes)) (get_or_from_slice_get ns i numbers [] at) ∙ ap (entry_of numbers) size)
 
 -- the sizes of an entry's row are the entry's
 sum_rows : (f : RollupRow → ℕ) (g : Entry → ℕ) (pool : List (List ℕ)) → ((e : Entry) → f (row_of pool e) ≡ g e) → (es : List Entry) → sum_by f (map (row_of pool) es) ≡ sum_by g es

@@ -24,9 +24,9 @@ covered part (m ∷ ms) x all = ap (λ b. b && is_covered (layers part ms) x) (a
 bare : (part : Part) (m : Maps) (ms : List Maps) (x : ℕ) → is_some (label_in (pieces_of part m) x) ≡ false → is_covered (layers part (m ∷ ms)) x ≡ false
 bare part m ms x e = ap (λ b. b && is_covered (layers part ms) x) e
 
-pub offsets-counted : (layout : Layout) (maps : List Maps) (len : ℕ) (test : List ℕ → Bool) (marks : Option (List Bool)) → layout.len ≡ len → All (IsOver layout) maps → counted test marks (layers File maps) len ≡ file_counted test marks maps len
-offsets-counted layout maps len test marks e over =
-    count-same (is_counted_at test marks (layers File maps)) (λ o. passes marks (numbers_at (layers File maps) o) && test (numbers_at (layers File maps) o)) 0 len (λ o low high.
+pub offsets-counted : (layout : Layout) (maps : List Maps) (test : List ℕ → Bool) (marks : Option (List Bool)) → All (IsOver layout) maps → counted test marks (layers File maps) layout.len ≡ file_counted test marks maps layout.len
+offsets-counted layout maps test marks over =
+    count-same (is_counted_at test marks (layers File maps)) (λ o. passes marks (numbers_at (layers File maps) o) && test (numbers_at (layers File maps) o)) 0 layout.len (λ o low high.
     ap (λ b. b && (passes marks (numbers_at (layers File maps) o) && test (numbers_at (layers File maps) o)))
     (covered File maps o (λ k d lt. (over k d lt).offsets o ∙ (let below : nat_lt o layout.len ≡ true = grind (arith, nat_tests) in below))))
 

@@ -1,12 +1,11 @@
 -- Sizes by the numbers of labels, as a walk gathers them.
-use Rattle.std.specs.Prelude.{◌≡◌, ◌+◌, ◌<◌, ℕ, Bool, true, false, ◌&&◌, nat_le, if◌then◌else◌, List, [], ◌∷◌, ◌++◌, map, All, length, slice_index_or, slice_set, ◌⊎◌, Option, Some, slice_get}
+use Rattle.std.specs.Prelude.{◌≡◌, ◌+◌, ◌<◌, ℕ, Bool, true, false, ◌&&◌, nat_le, if◌then◌else◌, List, [], ◌∷◌, ◌++◌, map, All, length, slice_index_or, slice_set, ◌⊎◌, Option}
 use Rattle.std.specs.List.{list_all, sum_by}
 use Rattle.size_model.specs.Numbered.{text_of}
 use Rattle.rollup.specs.declared.cursor.Cursor.{Cursor}
 use Rattle.rollup.specs.declared.cursor.Part.{Part}
 use Rattle.rollup.specs.declared.cursor.Part.TheVariants.{File, Vm}
 use Rattle.rollup.specs.declared.sizes.Sizes.{Sizes}
-use Rattle.rollup.specs.declared.sizes.PathSizes.{PathSizes}
 use Rattle.rollup.specs.declared.table.RollupRow.{RollupRow}
 use Rattle.rollup.specs.Adding.{passes}
 
@@ -19,23 +18,8 @@ pub record Entry : Type 0 where
 abbrev pub no_entry : Entry
 no_entry = record { numbers = []; vm = 0; file = 0 }
 
-abbrev pub no_sizes : Sizes
-no_sizes = record { vm = 0; file = 0 }
-
 abbrev pub entry_of : List ℕ → Sizes → Entry
 entry_of numbers s = record { numbers = numbers; vm = s.vm; file = s.file }
-
-abbrev pub entries_from : List (List ℕ) → List Sizes → List Entry
-entries_from [] ss = []
-entries_from (n ∷ ns) [] = []
-entries_from (n ∷ ns) (s ∷ ss) = entry_of n s ∷ entries_from ns ss
-
-abbrev pub entries_of : PathSizes → List Entry
-entries_of g = entries_from g.paths g.sizes.items
-
--- each list of numbers has its sizes
-abbrev pub IsTable : PathSizes → Type 0
-IsTable g = length g.sizes.items ≡ length g.paths
 
 -- one of the two sizes
 abbrev pub size_in : Part → Entry → ℕ
@@ -65,10 +49,6 @@ grown Vm size e = record { numbers = e.numbers; vm = e.vm + size; file = e.file 
 -- the sizes of the entries of whose numbers a test holds, added up
 abbrev pub weight : Part → (List ℕ → Bool) → List Entry → ℕ
 weight part test es = sum_by (λ (e : Entry). if test e.numbers then size_in part e else 0) es
-
--- the numbers were found at a place, or are new and stand last
-abbrev pub IsPlaced : List (List ℕ) → List (List ℕ) → List ℕ → ℕ → Type 0
-IsPlaced old new numbers i = ((new ≡ old) × (slice_get old i ≡ Some numbers)) ⊎ ((new ≡ old ++ numbers ∷ []) × (i ≡ length old))
 
 -- the entry of the numbers grew
 pub record IsGrownAt (part : Part) (numbers : List ℕ) (size : ℕ) (old new : List Entry) (i : ℕ) : Type 0 where

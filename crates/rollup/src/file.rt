@@ -5,7 +5,7 @@ ghost use Rattle.std.specs.Option.{option_copied};
 ghost use Rattle.dual_map.specs.Layout.{IsOver, LabelsBelow};
 ghost use Rattle.rollup.specs.Adding.{piece_count};
 ghost use Rattle.rollup.specs.Counted.{file_counted, vm_counted, vm_limit};
-ghost use Rattle.rollup.specs.Sizes.{IsEntry, IsTable, entries_of, weight};
+ghost use Rattle.rollup.specs.Sizes.{IsEntry, weight};
 ghost use Rattle.rollup.specs.declared.cursor.Part.TheVariants.{File, Vm};
 
 use crate::cursor::Part;
@@ -32,21 +32,18 @@ fn last_position(base: &Base, maps: &[DualMap]) -> u128
 pub fn sizes_of_file<L: Ledger>(
     alloc: Global,
     base: &Base,
-    file_len: u64,
     maps: &[DualMap],
     marks: Option<&[bool]>,
     steps: &mut Steps<L>,
 ) -> Result<PathSizes, NoMemory>
-    requires len { base.now.len ≡ file_len }
     requires over { All (IsOver base.now) maps.now }
-    ensures table { IfOk result IsTable }
-    ensures file { IfOk result (λ sizes. (test : List ℕ → Bool) → weight File test (entries_of sizes) ≡ file_counted test (option_copied marks.entry) maps.now file_len) }
-    ensures vm { IfOk result (λ sizes. (test : List ℕ → Bool) → weight Vm test (entries_of sizes) ≡ vm_counted test (option_copied marks.entry) maps.now base.now.loads) }
-    ensures entries { IfOk result (λ sizes. (n : ℕ) → All (LabelsBelow n) maps.now → All (IsEntry (length maps.now) n) (entries_of sizes)) }
+    ensures file { IfOk result (λ sizes. (test : List ℕ → Bool) → weight File test sizes ≡ file_counted test (option_copied marks.entry) maps.now base.now.len) }
+    ensures vm { IfOk result (λ sizes. (test : List ℕ → Bool) → weight Vm test sizes ≡ vm_counted test (option_copied marks.entry) maps.now base.now.loads) }
+    ensures entries { IfOk result (λ sizes. (n : ℕ) → All (LabelsBelow n) maps.now → All (IsEntry (length maps.now) n) sizes) }
     ensures cost { steps.new ≤ steps.old + piece_count maps.now }
 {
     let mut sizes = PathSizes::new(alloc);
-    let len = u128::from(file_len);
+    let len = u128::from(base.len());
     walk(alloc, &mut sizes, maps, Part::File, len, marks, steps)?;
     let last = last_position(base, maps);
     walk(alloc, &mut sizes, maps, Part::Vm, last, marks, steps)?;

@@ -1,12 +1,12 @@
 //! The rows of one file.
 
-ghost use Rattle.std.specs.Prelude.{◌≡◌, ◌^◌, ◌<◌, [], IfOk, All, length, map, slice_index_or};
+ghost use Rattle.std.specs.Prelude.{◌≡◌, ◌^◌, ◌<◌, [], IfOk, OnOk, All, length, map, slice_index_or};
 ghost use Rattle.std.specs.List.{range_with_len};
 ghost use Rattle.std.specs.List.Sorted.{IsPermutation, IsSorted};
 ghost use Rattle.size_model.specs.Numbered.{text_of};
 ghost use Rattle.rollup.specs.Order.{IsRanked, falling_ranks, rank_in, ranked_row};
 ghost use Rattle.rollup.specs.Rows.{FitTogether, falling};
-ghost use Rattle.rollup.specs.Sizes.{Entry, IsTable, entries_of, no_entry, row_of};
+ghost use Rattle.rollup.specs.Sizes.{Entry, no_entry, row_of};
 
 use crate::order::{rank_at, ranks_of};
 use crate::sizes::PathSizes;
@@ -36,13 +36,13 @@ fn ranked_entries(
     ranks: &[usize],
     sizes: &PathSizes,
 ) -> Result<Vec<Ranked>, AllocError>
-    requires { IsTable sizes.now }
-    ensures entries { IfOk result (λ v. map (λ (r : Ranked). r.entry) v.items ≡ range_with_len 0 (length (entries_of sizes.now))) }
-    ensures ranks { IfOk result (λ v. All (IsRanked ranks.now (entries_of sizes.now)) v.items) }
+    ensures entries { IfOk result (λ v. map (λ (r : Ranked). r.entry) v.items ≡ range_with_len 0 (length sizes.now)) }
+    ensures ranks { IfOk result (λ v. All (IsRanked ranks.now sizes.now) v.items) }
 {
-    let mut ranked = Vec::with_capacity(alloc, sizes.sizes.len())?;
-    for entry in 0..sizes.sizes.len() {
-        let along = ranks_along(alloc, ranks, sizes.paths.get(entry))?;
+    let mut ranked = Vec::with_capacity(alloc, sizes.len())?;
+    for entry in 0..sizes.len() {
+        let (numbers, _) = sizes.get(entry);
+        let along = ranks_along(alloc, ranks, numbers)?;
         ranked.push(Ranked {
             ranks: along,
             entry,
@@ -51,12 +51,12 @@ fn ranked_entries(
     Ok(ranked)
 }
 
-// Puts the greatest path first.
-fn sort_falling(ranked: &mut Vec<Ranked>)
+// Puts the greatest path first. Paths come mostly in runs that ascend, which a stable sort merges.
+fn sort_falling(ranked: &mut Vec<Ranked>) -> Result<(), AllocError>
     ensures same { IsPermutation ranked.old.items ranked.new.items }
-    ensures sorted { IsSorted falling_ranks ranked.new.items }
+    ensures sorted { OnOk result (IsSorted falling_ranks ranked.new.items) }
 {
-    ranked.sort_unstable_by(|a, b| b.ranks.as_slice().cmp(&a.ranks.as_slice()));
+    ranked.sort_by(|a, b| b.ranks.as_slice().cmp(&a.ranks.as_slice()))
 }
 
 // The path that the labels of these numbers spell.
@@ -78,16 +78,15 @@ fn row_at(
     sizes: &PathSizes,
     i: usize,
 ) -> Result<RollupRow, NoMemory>
-    requires table { IsTable sizes.now }
-    requires within { i < length sizes.now.sizes.items }
-    requires below { All (λ n. n < length pool.now) (slice_index_or (entries_of sizes.now) i no_entry).numbers }
-    requires vm { (slice_index_or (entries_of sizes.now) i no_entry).vm < 2 ^ 64 }
-    requires file { (slice_index_or (entries_of sizes.now) i no_entry).file < 2 ^ 64 }
-    ensures { IfOk result (λ r. r ≡ row_of pool.now (slice_index_or (entries_of sizes.now) i no_entry)) }
+    requires within { i < length sizes.now }
+    requires below { All (λ n. n < length pool.now) (slice_index_or sizes.now i no_entry).numbers }
+    requires vm { (slice_index_or sizes.now i no_entry).vm < 2 ^ 64 }
+    requires file { (slice_index_or sizes.now i no_entry).file < 2 ^ 64 }
+    ensures { IfOk result (λ r. r ≡ row_of pool.now (slice_index_or sizes.now i no_entry)) }
 {
-    let size = sizes.sizes[i];
+    let (numbers, size) = sizes.get(i);
     Ok(RollupRow {
-        path: spell(alloc, pool, sizes.paths.get(i))?,
+        path: spell(alloc, pool, numbers)?,
         vm: size.vm as u64,
         file: size.file as u64,
     })
@@ -99,12 +98,11 @@ fn rows_of(
     sizes: &PathSizes,
     ranked: &[Ranked],
 ) -> Result<Vec<RollupRow>, NoMemory>
-    requires table { IsTable sizes.now }
-    requires within { All (λ (r : Ranked). r.entry < length (entries_of sizes.now)) ranked.now }
-    requires below { All (λ (e : Entry). All (λ n. n < length pool.now) e.numbers) (entries_of sizes.now) }
-    requires vm { All (λ (e : Entry). e.vm < 2 ^ 64) (entries_of sizes.now) }
-    requires file { All (λ (e : Entry). e.file < 2 ^ 64) (entries_of sizes.now) }
-    ensures { IfOk result (λ v. v.items ≡ map (ranked_row pool.now (entries_of sizes.now)) ranked.now) }
+    requires within { All (λ (r : Ranked). r.entry < length sizes.now) ranked.now }
+    requires below { All (λ (e : Entry). All (λ n. n < length pool.now) e.numbers) sizes.now }
+    requires vm { All (λ (e : Entry). e.vm < 2 ^ 64) sizes.now }
+    requires file { All (λ (e : Entry). e.file < 2 ^ 64) sizes.now }
+    ensures { IfOk result (λ v. v.items ≡ map (ranked_row pool.now sizes.now) ranked.now) }
 {
     let mut rows = Vec::with_capacity(alloc, ranked.len())?;
     for entry in ranked {
@@ -119,14 +117,13 @@ pub fn new_rows(
     pool: &LabelPool,
     sizes: &PathSizes,
 ) -> Result<Vec<RollupRow>, NoMemory>
-    requires table { IsTable sizes.now }
-    requires below { All (λ (e : Entry). All (λ n. n < length pool.now) e.numbers) (entries_of sizes.now) }
-    requires fits { FitTogether [] (map (row_of pool.now) (entries_of sizes.now)) }
-    ensures same { IfOk result (λ v. IsPermutation (map (row_of pool.now) (entries_of sizes.now)) v.items) }
+    requires below { All (λ (e : Entry). All (λ n. n < length pool.now) e.numbers) sizes.now }
+    requires fits { FitTogether [] (map (row_of pool.now) sizes.now) }
+    ensures same { IfOk result (λ v. IsPermutation (map (row_of pool.now) sizes.now) v.items) }
     ensures falls { IfOk result (λ v. IsSorted falling v.items) }
 {
     let ranks = ranks_of(alloc, pool)?;
     let mut ranked = ranked_entries(alloc, ranks.as_slice(), sizes)?;
-    sort_falling(&mut ranked);
+    sort_falling(&mut ranked)?;
     rows_of(alloc, pool, sizes, ranked.as_slice())
 }

@@ -12,6 +12,7 @@ mod table;
 mod walk;
 
 pub use answer::RollupAnswer;
+pub use order::compare_paths;
 pub use table::{Rollup, RollupRow};
 
 #[cfg(test)]

@@ -7,7 +7,7 @@ ghost use Rattle.rollup.specs.Totals.{path_cmp, row_cmp};
 ghost use Rattle.rollup.specs.Rows.{Climbs, EndsUpto, EndsUptoFirst, FitTogether, Splits};
 ghost use Rattle.rollup.specs.Rows.{enlarged, falling, is_above, is_upto, joins_last, pushed, with_row, with_rows};
 
-use crate::order::compare;
+use crate::order::compare_paths;
 use crate::table::RollupRow;
 use size_core::{NoMemory, Path};
 use std::alloc::Global;
@@ -38,7 +38,7 @@ fn count_above(rows: &[RollupRow], path: &Path) -> usize
     ensures bound { result ≤ length rows.now }
     ensures split { Splits (is_above path.now) rows.now result }
 {
-    rows.partition_point(|row| compare(&row.path, path).is_gt())
+    rows.partition_point(|row| compare_paths(&row.path, path).is_gt())
 }
 
 // How many of these rows, the least path first, are not above a path.
@@ -47,14 +47,14 @@ fn count_upto(rows: &[RollupRow], path: &Path) -> usize
     ensures bound { result ≤ length rows.now }
     ensures split { Splits (is_upto path.now) rows.now result }
 {
-    rows.partition_point(|row| compare(&row.path, path).is_le())
+    rows.partition_point(|row| compare_paths(&row.path, path).is_le())
 }
 
 fn joins(rows: &[RollupRow], path: &Path) -> bool
     ensures { result ≡ joins_last rows.now path.now }
 {
     match rows.last() {
-        Some(last) => compare(&last.path, path) == Ordering::Equal,
+        Some(last) => compare_paths(&last.path, path) == Ordering::Equal,
         None => false,
     }
 }

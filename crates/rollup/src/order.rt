@@ -19,8 +19,8 @@ fn compare_labels(a: &Bytes, b: &Bytes) -> Ordering
     a.as_slice().cmp(&b.as_slice())
 }
 
-/// Compares two paths, label by label.
-pub fn compare(a: &Path, b: &Path) -> Ordering
+/// Compares two paths label by label, and labels byte by byte.
+pub fn compare_paths(a: &Path, b: &Path) -> Ordering
     ensures { result ≡ path_cmp a.now b.now }
 {
     let count = a.len().min(b.len());
@@ -59,7 +59,8 @@ fn numbers_in_order(alloc: Global, pool: &LabelPool) -> Result<Vec<usize>, NoMem
     for number in 0..pool.len() {
         numbers.push(number)?;
     }
-    numbers.sort_unstable_by(|a, b| compare_numbers(pool, *a, *b));
+    // Labels come mostly in runs that ascend, which a stable sort merges.
+    numbers.sort_by(|a, b| compare_numbers(pool, *a, *b))?;
     Ok(numbers)
 }
 

@@ -138,7 +138,7 @@ impl Rollup {
         if mapped > MOST {
             return Err(RollupAnswer::MappedTooLarge);
         }
-        let sizes = sizes_of_file(self.alloc, base, file_len, maps, passes, steps)?;
+        let sizes = sizes_of_file(self.alloc, base, maps, passes, steps)?;
         let new = new_rows(self.alloc, pool, &sizes)?;
         merge(self.alloc, &mut self.rows, new)?;
         self.lengths = lengths as u64;

@@ -75,10 +75,8 @@ fn maps_of(
     rt: &impl Abort,
     alloc: Global,
     base: &Base,
-    len: u64,
     sources: &[&[Claim]],
 ) -> Result<Vec<DualMap>, Fail>
-    requires { base.now.len ≡ len }
     ensures count { IfOk result (λ maps. length maps.items ≡ length sources.now) }
     ensures over { IfOk result (λ maps. All (IsOver base.now) maps.items) }
     ensures labels { IfOk result (λ maps. All (LabelsBelow 9) maps.items) }
@@ -86,7 +84,7 @@ fn maps_of(
     let mut maps = Vec::new(alloc);
     for claims in sources {
         all_below(rt, claims);
-        maps.push(DualMap::build(alloc, base, len, claims, 0)?)?;
+        maps.push(DualMap::build(alloc, base, base.len(), claims, 0)?)?;
     }
     Ok(maps)
 }
@@ -117,7 +115,6 @@ fn loads_of(alloc: Global, memsz: u64) -> Result<Vec<Load>, NoMemory>
 fn add<L: Ledger>(
     rollup: &mut Rollup,
     base: &Base,
-    len: u64,
     maps: &[DualMap],
     pool: &LabelPool,
     marks: Option<&[bool]>,
@@ -126,7 +123,6 @@ fn add<L: Ledger>(
     requires name { blank.name ≡ L.name }
     requires parts { blank.parts ≡ L.parts }
     requires some { 0 < blank.parts }
-    requires len { base.now.len ≡ len }
     requires depth { length maps.now ≡ rollup.old.depth }
     requires over { All (IsOver base.now) maps.now }
     requires labels { All (LabelsBelow (length pool.now)) maps.now }
@@ -134,7 +130,7 @@ fn add<L: Ledger>(
     ensures depth { rollup.new.depth ≡ rollup.old.depth }
 {
     let mut steps = Steps::<L>::begin(blank);
-    rollup.add_file(base, len, maps, pool, marks, &mut steps)
+    rollup.add_file(base, base.len(), maps, pool, marks, &mut steps)
 }
 
 // Adds a file of one load.
@@ -156,16 +152,8 @@ fn adds(
     let pool = pool_of(rt, alloc)?;
     let loads = loads_of(alloc, memsz)?;
     let base = Base::from_loads(alloc, len, loads.as_slice())?;
-    let maps = maps_of(rt, alloc, &base, len, sources)?;
-    let added = add::<Brand>(
-        rollup,
-        &base,
-        len,
-        maps.as_slice(),
-        &pool,
-        marks,
-        Blank::new(1),
-    );
+    let maps = maps_of(rt, alloc, &base, sources)?;
+    let added = add::<Brand>(rollup, &base, maps.as_slice(), &pool, marks, Blank::new(1));
     Ok(added.err())
 }
 

@@ -6,7 +6,7 @@ ghost use Rattle.std.specs.Option.{option_copied};
 ghost use Rattle.dual_map.specs.Layout.{LabelsBelow};
 ghost use Rattle.rollup.specs.Adding.{passes};
 ghost use Rattle.rollup.specs.Walk.{Each, IsAt, IsReached, layers, reads, piece_total, stop_of, no_cursor};
-ghost use Rattle.rollup.specs.Sizes.{IsTable, IsGrownIf, IsEntry, entries_of, all_started, labels_of, is_counted, no_entry, size_in, weight, other};
+ghost use Rattle.rollup.specs.Sizes.{IsGrownIf, IsEntry, all_started, labels_of, is_counted, no_entry, size_in, weight, other};
 ghost use Rattle.rollup.specs.Counted.{counted};
 
 use crate::cursor::{Cursor, Part};
@@ -98,11 +98,9 @@ fn count(
     to: u128,
     numbers: &mut Vec<usize>,
 ) -> Result<(), NoMemory>
-    requires table { IsTable sizes.old }
     requires order { at ≤ to }
-    requires fits { (i : ℕ) → size_in part (slice_index_or (entries_of sizes.old) i no_entry) + (to - at) < 2 ^ 128 }
-    ensures table { OnOk result (IsTable sizes.new) }
-    ensures grown { OnOk result (IsGrownIf (is_counted (option_copied marks.entry) at cursors.now) part (labels_of cursors.now) (to - at) (entries_of sizes.old) (entries_of sizes.new)) }
+    requires fits { (i : ℕ) → size_in part (slice_index_or sizes.old i no_entry) + (to - at) < 2 ^ 128 }
+    ensures grown { OnOk result (IsGrownIf (is_counted (option_copied marks.entry) at cursors.now) part (labels_of cursors.now) (to - at) sizes.old sizes.new) }
 {
     if !labels_at(cursors, at, numbers)? {
         return Ok(());
@@ -142,13 +140,11 @@ pub fn walk<L: Ledger>(
     marks: Option<&[bool]>,
     steps: &mut Steps<L>,
 ) -> Result<(), NoMemory>
-    requires table { IsTable sizes.old }
-    requires none { (test : List ℕ → Bool) → weight part test (entries_of sizes.old) ≡ 0 }
+    requires none { (test : List ℕ → Bool) → weight part test sizes.old ≡ 0 }
     requires fits { limit ≤ 2 ^ 97 }
-    ensures table { OnOk result (IsTable sizes.new) }
-    ensures counted { OnOk result ((test : List ℕ → Bool) → weight part test (entries_of sizes.new) ≡ counted test (option_copied marks.entry) (layers part maps.now) limit) }
-    ensures other { OnOk result ((test : List ℕ → Bool) → weight (other part) test (entries_of sizes.new) ≡ weight (other part) test (entries_of sizes.old)) }
-    ensures entries { OnOk result ((n : ℕ) → All (LabelsBelow n) maps.now → All (IsEntry (length maps.now) n) (entries_of sizes.old) → All (IsEntry (length maps.now) n) (entries_of sizes.new)) }
+    ensures counted { OnOk result ((test : List ℕ → Bool) → weight part test sizes.new ≡ counted test (option_copied marks.entry) (layers part maps.now) limit) }
+    ensures other { OnOk result ((test : List ℕ → Bool) → weight (other part) test sizes.new ≡ weight (other part) test sizes.old) }
+    ensures entries { OnOk result ((n : ℕ) → All (LabelsBelow n) maps.now → All (IsEntry (length maps.now) n) sizes.old → All (IsEntry (length maps.now) n) sizes.new) }
     ensures cost { steps.new ≤ steps.old + piece_total (layers part maps.now) }
 {
     let mut cursors = first_pieces(alloc, maps, part, steps)?;

@@ -1,13 +1,13 @@
 -- What the rows of two rollups side by side say of both.
-use Rattle.std.proofs.Common.{◌≡◌, ℕ, ◌+◌, ◌<◌, ◌≤◌, Bool, true, false, cond, List, [], ◌∷◌, ◌++◌, length, drop, refl, sym, ap, ◌∙◌, arith, map, ◌⊎◌, inl, inr}
+use Rattle.std.proofs.Common.{◌≡◌, ℕ, ◌+◌, ◌<◌, ◌≤◌, Bool, true, false, cond, List, ◌++◌, length, drop, refl, sym, ap, ◌∙◌, arith, map, ◌⊎◌, inl, inr}
 use Rattle.std.specs.Prelude.{All}
 use Rattle.std.specs.List.{sum_by}
 use Rattle.std.specs.declared.cmp.Ordering.TheVariants.{Equal}
 use Rattle.std.proofs.lemmas.List.{drop_all}
 use Rattle.std.proofs.lemmas.List.Elements.{All-from_recursion, recursion_from_All}
-use Rattle.std.proofs.lemmas.List.Sums.{sum_by-cons}
 use Rattle.rollup.specs.declared.table.RollupRow.{RollupRow}
 use Rattle.rollup.specs.Totals.{IsTotals, row_cmp}
+use Rattle.report_rows.proofs.TableLemmas.{sum-zero}
 use Rattle.size_growth.specs.Between.{IsBetween}
 use Rattle.size_growth.specs.declared.growth.GrowthPath.{GrowthPath}
 use Rattle.size_growth.specs.Merged.{new_path, base_path, both_path, merged}
@@ -24,10 +24,6 @@ rest-left ns bs i j out new all le so-far is =
 abbrev none : RollupRow → ℕ
 none r = 0
 
-sum-none : (rows : List RollupRow) → sum_by none rows ≡ 0
-sum-none [] = refl
-sum-none (r ∷ rows) = omega (arith, sum_by-cons none r rows, sum-none rows)
-
 cond-zero : (b : Bool) → ◌≡◌ {A = ℕ} (cond b 0 0) 0
 cond-zero true = refl
 cond-zero false = refl
@@ -36,11 +32,11 @@ cond-zero false = refl
 module _ (w : GrowthPath → ℕ) (u : RollupRow → ℕ) where
   of-new : ((n : RollupRow) → w (new_path n) ≡ u n) → ((b : RollupRow) → w (base_path b) ≡ 0) → ((n b : RollupRow) → row_cmp n b ≡ Equal → w (both_path n b) ≡ u n)
       → (ns bs : List RollupRow) → sum_by w (merged ns bs) ≡ sum_by u ns
-  of-new one other both ns bs = omega (arith, sum-merged w u none one other (λ n b e. omega (arith, both n b e)) ns bs, sum-none bs)
+  of-new one other both ns bs = omega (arith, sum-merged w u none one other (λ n b e. omega (arith, both n b e)) ns bs, sum-zero bs)
 
   of-base : ((n : RollupRow) → w (new_path n) ≡ 0) → ((b : RollupRow) → w (base_path b) ≡ u b) → ((n b : RollupRow) → row_cmp n b ≡ Equal → w (both_path n b) ≡ u b)
       → (ns bs : List RollupRow) → sum_by w (merged ns bs) ≡ sum_by u bs
-  of-base one other both ns bs = omega (arith, sum-merged w none u one other (λ n b e. omega (arith, both n b e)) ns bs, sum-none ns)
+  of-base one other both ns bs = omega (arith, sum-merged w none u one other (λ n b e. omega (arith, both n b e)) ns bs, sum-zero ns)
 
 pub merged-between : (ns bs : List RollupRow) → IsBetween ns bs (merged ns bs)
 merged-between ns bs = record {

@@ -10,8 +10,8 @@ use Rattle.std.specs.declared.cmp.Ordering.{Ordering}
 use Rattle.std.specs.declared.cmp.Ordering.TheVariants.{Less, Equal, Greater}
 use Rattle.std.proofs.lemmas.List.Elements.{All-from_recursion, recursion_from_All}
 use Rattle.std.proofs.lemmas.List.Sums.{sum_by-cons}
-use Rattle.rollup.proofs.Paths.{same_list, same_number}
 use Rattle.rollup.specs.Totals.{path_cmp}
+use Rattle.report_rows.proofs.AscendLemmas.{bytes-equal}
 use Rattle.report_rows.proofs.EntryLemmas.{past}
 use Rattle.report_rows.proofs.TableLemmas.{same_bytes, bytes_eq-same}
 use Rattle.size_growth.specs.declared.growth.GrowthPath.{GrowthPath}
@@ -22,9 +22,6 @@ use Rattle.size_growth.specs.Runs.{Under, first_label, joined, path_from, runs}
 
 abbrev label_cmp : List ℕ → List ℕ → Ordering
 label_cmp a b = slice_cmp nat_cmp a b
-
-same_label : (a b : List ℕ) → label_cmp a b ≡ Equal → a ≡ b
-same_label a b e = same_list nat_cmp same_number a b e
 
 -- the sizes under a label
 module _ (size : GrowthSizes → ℕ) (label : List ℕ) where
@@ -103,7 +100,7 @@ by-label l k p q other less = at (label_cmp l k) refl less
     at : (o : Ordering) → label_cmp l k ≡ o → ordering_then o (path_cmp p q) ≡ Less → o ≡ Less
     at Less e h = refl
     at Equal e h =
-        let same : bytes_eq l k ≡ true = ap (bytes_eq l) (sym (same_label l k e)) ∙ bytes_eq-same l in
+        let same : bytes_eq l k ≡ true = ap (bytes_eq l) (sym (bytes-equal l k e)) ∙ bytes_eq-same l in
         cc (same, other)
     at Greater e h = cc h
 

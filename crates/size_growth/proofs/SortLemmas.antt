@@ -1,17 +1,19 @@
 -- Groups in order stand for entries in order.
-use Rattle.std.proofs.Common.{◌≡◌, ℕ, ◌<◌, List, [], ◌∷◌, map, refl, sym, ap, ◌∙◌, Bool, true, false, cond, arith}
+use Rattle.std.proofs.Common.{◌≡◌, ℕ, ◌<◌, List, [], ◌∷◌, get_or, map, refl, sym, ap, ◌∙◌}
 use Rattle.std.specs.Prelude.{All, filter}
 use Rattle.std.specs.declared.cmp.Ordering.{Ordering}
 use Rattle.std.specs.declared.cmp.Ordering.TheVariants.{Less, Equal, Greater}
 use Rattle.std.specs.Ordering.{is_lt, nat_cmp, ordering_then}
-use Rattle.std.specs.Cmp.{IsTotalOrder, nat_cmp_total, then_total, back_total, on_total}
 use Rattle.std.specs.List.Sorted.{IsPermutation, IsSorted}
-use Rattle.std.proofs.lemmas.Cmp.{ranked}
-use Rattle.std.proofs.lemmas.Grind.{common_steps}
 use Rattle.std.proofs.lemmas.List.Elements.{All-head, All-tail, All-from_recursion}
+use Rattle.rollup.proofs.Paths.{nat_greater, same_number}
 use Rattle.report_rows.specs.declared.row.RowOptions.{RowOptions}
 use Rattle.report_rows.specs.Order.{placed, in_order}
+use Rattle.report_rows.proofs.AscendLemmas.{then-equal}
+use Rattle.report_rows.proofs.LimitLemmas.{map-placed}
+use Rattle.report_rows.proofs.OrderLemmas.{in_order_is, All-in_order}
 use Rattle.size_growth.specs.contracts.groups.GroupOrd.TheImpl as group_ord
+use Rattle.size_growth.specs.contracts.groups.GroupOrd.TheImpl.Laws.{total-law}
 use Rattle.size_growth.specs.declared.groups.Group.{Group}
 use Rattle.size_growth.specs.declared.growth.GrowthPath.{GrowthPath}
 use Rattle.size_growth.specs.declared.growth.GrowthSizes.{GrowthSizes}
@@ -19,7 +21,6 @@ use Rattle.size_growth.specs.Items.{HasKey, IsGroup, Rise, group_entry}
 use Rattle.size_growth.specs.Keys.{growth_key}
 use Rattle.size_growth.specs.Rows.{Entry, by_key, children, is_child, label_entry}
 use Rattle.size_growth.specs.Runs.{runs, table_at}
-use Rattle.report_rows.proofs.OrderLemmas.{in_order_is, All-in_order}
 use Rattle.size_growth.proofs.SumLemmas.{same_sizes}
 
 -- the order of groups: the larger key, then the earlier place, then the other fields
@@ -29,42 +30,12 @@ sizes_cmp a b = ordering_then (nat_cmp a.new_vm b.new_vm) (ordering_then (nat_cm
 abbrev pub group_cmp : Group → Group → Ordering
 group_cmp a b = ordering_then (nat_cmp b.key.0 a.key.0) (ordering_then (nat_cmp a.from b.from) (ordering_then (nat_cmp a.to b.to) (sizes_cmp a.sizes b.sizes)))
 
-sizes_total : IsTotalOrder sizes_cmp
-sizes_total =
-    then_total {R = λ (a b : GrowthSizes). nat_cmp a.new_vm b.new_vm} {S = λ (a b : GrowthSizes). ordering_then (nat_cmp a.new_file b.new_file) (ordering_then (nat_cmp a.base_vm b.base_vm) (nat_cmp a.base_file b.base_file))}
-    (on_total (λ (s : GrowthSizes). s.new_vm) nat_cmp_total)
-    (then_total {R = λ (a b : GrowthSizes). nat_cmp a.new_file b.new_file} {S = λ (a b : GrowthSizes). ordering_then (nat_cmp a.base_vm b.base_vm) (nat_cmp a.base_file b.base_file)} (on_total (λ (s : GrowthSizes). s.new_file) nat_cmp_total)
-    (then_total {R = λ (a b : GrowthSizes). nat_cmp a.base_vm b.base_vm} {S = λ (a b : GrowthSizes). nat_cmp a.base_file b.base_file} (on_total (λ (s : GrowthSizes). s.base_vm) nat_cmp_total) (on_total (λ (s : GrowthSizes). s.base_file) nat_cmp_total)))
-
-group_total : IsTotalOrder group_cmp
-group_total =
-    then_total {R = λ (a b : Group). nat_cmp b.key.0 a.key.0} {S = λ (a b : Group). ordering_then (nat_cmp a.from b.from) (ordering_then (nat_cmp a.to b.to) (sizes_cmp a.sizes b.sizes))}
-    (on_total (λ (g : Group). g.key.0) (back_total nat_cmp_total))
-    (then_total {R = λ (a b : Group). nat_cmp a.from b.from} {S = λ (a b : Group). ordering_then (nat_cmp a.to b.to) (sizes_cmp a.sizes b.sizes)} (on_total (λ (g : Group). g.from) nat_cmp_total)
-    (then_total {R = λ (a b : Group). nat_cmp a.to b.to} {S = λ (a b : Group). sizes_cmp a.sizes b.sizes} (on_total (λ (g : Group). g.to) nat_cmp_total) (on_total (λ (g : Group). g.sizes) sizes_total)))
-
-first-of : (r s : Ordering) → ordering_then r s ≡ Equal → r ≡ Equal
-first-of Less s e = cc e
-first-of Equal s e = refl
-first-of Greater s e = cc e
-
-second-of : (r s : Ordering) → ordering_then r s ≡ Equal → s ≡ Equal
-second-of Less s e = cc e
-second-of Equal s e = e
-second-of Greater s e = cc e
-
-same-number : (m n : ℕ) → nat_cmp m n ≡ Equal → m ≡ n
-same-number m n e = ranked m n Equal (sym e)
-
 sizes_is : (s t : GrowthSizes) → sizes_cmp s t ≡ Equal → s ≡ t
 sizes_is s t e =
-    let a = same-number s.new_vm t.new_vm (first-of _ _ e) in
-    let r = second-of (nat_cmp s.new_vm t.new_vm) _ e in
-    let b = same-number s.new_file t.new_file (first-of _ _ r) in
-    let q = second-of (nat_cmp s.new_file t.new_file) _ r in
-    let c = same-number s.base_vm t.base_vm (first-of _ _ q) in
-    let d = same-number s.base_file t.base_file (second-of (nat_cmp s.base_vm t.base_vm) _ q) in
-    same_sizes s t a b c d
+    let a = then-equal (nat_cmp s.new_vm t.new_vm) _ e in
+    let b = then-equal (nat_cmp s.new_file t.new_file) _ a.1 in
+    let c = then-equal (nat_cmp s.base_vm t.base_vm) _ b.1 in
+    same_sizes s t (same_number _ _ a.0) (same_number _ _ b.0) (same_number _ _ c.0) (same_number _ _ c.1)
 
 same-group : (k j f g t u : ℕ) (s r : GrowthSizes) → k ≡ j → f ≡ g → t ≡ u → s ≡ r
     → ◌≡◌ {A = Group} (record { key = record { 0 = k }; from = f; to = t; sizes = s }) (record { key = record { 0 = j }; from = g; to = u; sizes = r })
@@ -72,15 +43,10 @@ same-group k j f g t u s r a b c d = rw (a, b, c, d) refl
 
 group_is : (a b : Group) → group_cmp a b ≡ Equal → a ≡ b
 group_is a b e =
-    let k = same-number b.key.0 a.key.0 (first-of _ _ e) in
-    let r = second-of (nat_cmp b.key.0 a.key.0) _ e in
-    let f = same-number a.from b.from (first-of _ _ r) in
-    let q = second-of (nat_cmp a.from b.from) _ r in
-    let t = same-number a.to b.to (first-of _ _ q) in
-    same-group a.key.0 b.key.0 a.from b.from a.to b.to a.sizes b.sizes (sym k) f t (sizes_is a.sizes b.sizes (second-of (nat_cmp a.to b.to) _ q))
-
-later : (m n : ℕ) → n < m → nat_cmp m n ≡ Greater
-later m n lt = grind (arith, common_steps)
+    let k = then-equal (nat_cmp b.key.0 a.key.0) _ e in
+    let f = then-equal (nat_cmp a.from b.from) _ k.1 in
+    let t = then-equal (nat_cmp a.to b.to) _ f.1 in
+    same-group a.key.0 b.key.0 a.from b.from a.to b.to a.sizes b.sizes (sym (same_number _ _ k.0)) (same_number _ _ f.0) (same_number _ _ t.0) (sizes_is a.sizes b.sizes t.1)
 
 then-greater : (r s t : Ordering) → s ≡ Greater → is_lt (ordering_then r (ordering_then s t)) ≡ is_lt r
 then-greater Less s t e = refl
@@ -94,23 +60,8 @@ module _ (o : RowOptions) (f : Group → Entry) (says : (g : Group) → (f g).si
   -- a later group stands before another where its key is larger
   tells : (g h : Group) → HasKey o g → HasKey o h → g.from < h.from → is_lt (group_cmp h g) ≡ is_lt (by_key o (f h) (f g))
   tells g h kg kh lt =
-      then-greater (nat_cmp g.key.0 h.key.0) (nat_cmp h.from g.from) (ordering_then (nat_cmp h.to g.to) (sizes_cmp h.sizes g.sizes)) (later h.from g.from lt)
+      then-greater (nat_cmp g.key.0 h.key.0) (nat_cmp h.from g.from) (ordering_then (nat_cmp h.to g.to) (sizes_cmp h.sizes g.sizes)) (nat_greater h.from g.from lt)
       ∙ (ap (λ n. is_lt (nat_cmp n h.key.0)) (key-is g kg) ∙ ap (λ n. is_lt (nat_cmp (growth_key o (f g).sizes) n)) (key-is h kh))
-
-  place-at : (g h : Group) (hs : List Group) (b c : Bool) → b ≡ c → map f (placed group_cmp g hs) ≡ placed (by_key o) (f g) (map f hs)
-      → map f (cond b (h ∷ placed group_cmp g hs) (g ∷ h ∷ hs)) ≡ cond c (f h ∷ placed (by_key o) (f g) (map f hs)) (f g ∷ f h ∷ map f hs)
-  place-at g h hs true true e more = ap (λ es. f h ∷ es) more
-  place-at g h hs true false e more = cc e
-  place-at g h hs false true e more = cc e
-  place-at g h hs false false e more = refl
-
-  placed-map : (g : Group) (hs : List Group) → HasKey o g → All (HasKey o) hs → All (λ (h : Group). g.from < h.from) hs → map f (placed group_cmp g hs) ≡ placed (by_key o) (f g) (map f hs)
-  unfolding placed
-  placed-map g [] kg keys behind = refl
-  placed-map g (h ∷ hs) kg keys behind =
-      let K : Group → Type 0 = HasKey o in
-      let B : Group → Type 0 = λ k. g.from < k.from in
-      place-at g h hs (is_lt (group_cmp h g)) (is_lt (by_key o (f h) (f g))) (tells g h kg (All-head K h hs keys) (All-head B h hs behind)) (placed-map g hs kg (All-tail K h hs keys) (All-tail B h hs behind))
 
   order-map : (groups : List Group) → All (HasKey o) groups → Rise groups → map f (in_order group_cmp groups) ≡ in_order (by_key o) (map f groups)
   unfolding in_order
@@ -118,13 +69,17 @@ module _ (o : RowOptions) (f : Group → Entry) (says : (g : Group) → (f g).si
   order-map (g ∷ groups) keys rise =
       let K : Group → Type 0 = HasKey o in
       let B : Group → Type 0 = λ k. g.from < k.from in
-      placed-map g (in_order group_cmp groups) (All-head K g groups keys) (All-in_order group_cmp K groups (All-tail K g groups keys)) (All-in_order group_cmp B groups (All-from_recursion B groups rise.0))
+      let hs = in_order group_cmp groups in
+      let own = All-head K g groups keys in
+      let have = All-in_order group_cmp K groups (All-tail K g groups keys) in
+      let behind = All-in_order group_cmp B groups (All-from_recursion B groups rise.0) in
+      map-placed group_cmp (by_key o) f g hs (λ k d lt. tells g (get_or hs k d) own (have k d lt) (behind k d lt))
       ∙ ap (placed (by_key o) (f g)) (order-map groups (All-tail K g groups keys) rise.1)
 
   -- groups that were sorted stand for the entries in order
   pub sorted-entries : (given sorted : List Group) → IsPermutation given sorted → IsSorted (λ x y. group_ord.ghosts.cmp x y) sorted → All (HasKey o) given → Rise given
       → map f sorted ≡ in_order (by_key o) (map f given)
-  sorted-entries given sorted same order keys rise = ap (map f) (in_order_is group_cmp group_total group_is given sorted same order) ∙ order-map given keys rise
+  sorted-entries given sorted same order keys rise = ap (map f) (in_order_is group_cmp total-law group_is given sorted same order) ∙ order-map given keys rise
 
 -- sorted groups are the children
 pub sorted-children : (o : RowOptions) (level : ℕ) (paths : List GrowthPath) (given sorted : List Group) → IsPermutation given sorted → IsSorted (λ x y. group_ord.ghosts.cmp x y) sorted → All (IsGroup o paths) given → Rise given

@@ -1,5 +1,5 @@
 -- Sizes that are added up.
-use Rattle.std.proofs.Common.{◌≡◌, ℕ, ◌+◌, ◌<◌, List, length, get_or, take, drop, refl, sym, ap, ◌∙◌, subst, arith}
+use Rattle.std.proofs.Common.{◌≡◌, ℕ, ◌+◌, ◌<◌, List, length, get_or, take, drop, refl, sym, arith}
 use Rattle.std.proofs.lemmas.List.Sums.{sum_by_more, sum_by_more_le}
 use Rattle.report_rows.proofs.GroupLemmas.{part-le}
 use Rattle.report_rows.proofs.TableLemmas.{sum_by-map}
@@ -30,13 +30,6 @@ module _ {X : Type 0} (f : X → GrowthSizes) where
     base_vm = omega (arith, sum_by_more_le (λ x. (f x).base_vm) xs i d lt, fits.base_vm);
     base_file = omega (arith, sum_by_more_le (λ x. (f x).base_file) xs i d lt, fits.base_file);
   }
-
-  -- an element that is read
-  pub fits_at : (xs : List X) (i : ℕ) (x : X) (s : GrowthSizes) → i < length xs → x ≡ get_or xs i x → s ≡ sums_by f (take i xs) → Fits (sums_by f xs) → Fits (plus s (f x))
-  fits_at xs i x s lt is so-far fits = subst (λ t. Fits (plus t (f x))) (sym so-far) (subst (λ y. Fits (plus (sums_by f (take i xs)) (f y))) (sym is) (fits_more xs i x lt fits))
-
-  pub sums_at : (xs : List X) (i : ℕ) (x : X) (s : GrowthSizes) → i < length xs → x ≡ get_or xs i x → s ≡ sums_by f (take i xs) → plus s (f x) ≡ sums_by f (take (i + 1) xs)
-  sums_at xs i x s lt is so-far = ap (λ t. plus t (f x)) so-far ∙ (ap (λ y. plus (sums_by f (take i xs)) (f y)) is ∙ sums_more xs i x lt)
 
   pub fits_part : (xs : List X) (from n : ℕ) → Fits (sums_by f xs) → Fits (sums_by f (take n (drop from xs)))
   fits_part xs from n fits = record {

@@ -16,7 +16,7 @@ use Rattle.report_rows.proofs.LevelLemmas.{Stops, are-tree, each-row, has_some, 
 use Rattle.report_rows.proofs.LimitLemmas.{All-within, sum_by-within, within-nil}
 use Rattle.report_rows.proofs.OrderLemmas.{sum_by-in_order, All-in_order}
 use Rattle.report_rows.proofs.ShownLemmas.{first-none, second-none, some-shown}
-use Rattle.report_rows.proofs.TableLemmas.{sum_by-map, sum_by-same}
+use Rattle.report_rows.proofs.TableLemmas.{both-sums, sum_by-map, sum_by-same}
 use Rattle.size_growth.specs.declared.growth.GrowthPath.{GrowthPath}
 use Rattle.size_growth.specs.declared.growth.GrowthSizes.{GrowthSizes}
 use Rattle.size_growth.specs.declared.row.GrowthRow.{GrowthRow}
@@ -94,16 +94,6 @@ module _ (size : GrowthSizes → ℕ) (is : IsSize size) where
 
   pub sum-entries : (o : RowOptions) (t : List GrowthPath) → sum_by of-entry (entries_of o t) ≡ sum_by of-entry (children o t)
   sum-entries o t = sum_by-within o.limit (by_key o) others_entry of-entry (children o t) (is.others (drop o.limit (children o t)))
-
--- the sums of two sizes over a part, where they are alike in what is left out
-both-sums : {X : Type 0} (p : X → Bool) (f g : X → ℕ) → ((x : X) → p x ≡ false → f x ≡ g x) → (xs : List X) → sum_by f (filter p xs) + sum_by g xs ≡ sum_by g (filter p xs) + sum_by f xs
-both-sums p f g alike [] = refl
-both-sums {X} p f g alike (x ∷ xs) = at (p x) refl (both-sums p f g alike xs)
-  where
-    at : (b : Bool) → p x ≡ b → sum_by f (filter p xs) + sum_by g xs ≡ sum_by g (filter p xs) + sum_by f xs
-        → sum_by f (cond b (x ∷ filter p xs) (filter p xs)) + sum_by g (x ∷ xs) ≡ sum_by g (cond b (x ∷ filter p xs) (filter p xs)) + sum_by f (x ∷ xs)
-    at true e more = omega (arith, sum_by-cons f x (filter p xs), sum_by-cons f x xs, sum_by-cons g x (filter p xs), sum_by-cons g x xs, more)
-    at false e more = omega (arith, sum_by-cons f x xs, sum_by-cons g x xs, alike x e, more)
 
 -- a new size and its base size, which are equal where nothing shown has changed
 pub record ArePair (o : RowOptions) (new base : GrowthSizes → ℕ) : Type 0 where

@@ -4,10 +4,9 @@ ghost use Rattle.std.specs.Prelude.{◌≡◌, ◌+◌, ◌^◌, ◌<◌, ◌≤
 ghost use Rattle.size_growth.specs.Between.{IsBetween, Stands};
 ghost use Rattle.size_growth.specs.Merged.{base_path, both_path, new_path, left};
 
-use crate::compare::{compare, copy};
 use crate::growth::{Growth, GrowthPath, GrowthSizes};
-use rollup::{Rollup, RollupRow};
-use size_core::NoMemory;
+use rollup::{Rollup, RollupRow, compare_paths};
+use size_core::{NoMemory, Path};
 use std::alloc::Global;
 use std::cmp::Ordering;
 
@@ -16,6 +15,17 @@ use std::cmp::Ordering;
 pub struct Place {
     pub new: usize,
     pub base: usize,
+}
+
+// The same path once more.
+fn copy(alloc: Global, path: &Path) -> Result<Path, NoMemory>
+    ensures { IfOk result (λ p. p ≡ path.now) }
+{
+    let mut labels = Path::new(alloc);
+    for i in 0..path.len() {
+        labels.push(path.get(i).copy()?)?;
+    }
+    Ok(labels)
 }
 
 // A path that only the new files have.
@@ -81,7 +91,7 @@ fn pass_lesser(
 {
     let ours = new.row(at.new);
     let theirs = base.row(at.base);
-    match compare(&ours.path, &theirs.path) {
+    match compare_paths(&ours.path, &theirs.path) {
         Ordering::Less => {
             paths.push(only_new(alloc, ours)?)?;
             Ok(Place {

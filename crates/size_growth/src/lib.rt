@@ -2,7 +2,6 @@
 #![tactic(auto)]
 
 mod between;
-mod compare;
 mod groups;
 mod growth;
 mod items;

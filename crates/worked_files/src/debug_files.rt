@@ -6,7 +6,8 @@ use crate::dwarf::{
 };
 use crate::image::{EXECUTABLE, LOAD, NAMES, NULL, Section, Segment, TEXT, file};
 use crate::lines::{PLAIN, Program, Step};
-use crate::numbers::Class;
+use crate::macho::{Command, MachoHead, MachoSection, MachoSegment, macho_file};
+use crate::numbers::{Class, Order};
 use std::alloc::{AllocError, Global};
 
 // Where the code of all these files but those of lines begins.
@@ -124,7 +125,108 @@ pub fn two_units(alloc: Global, version: u16) -> Result<Vec<u8>, AllocError> {
     with_code(alloc, CODE, &debug.sections()?)
 }
 
-/// The same, whose `.debug_info` is marked as compressed, or has the name that told so before there was a mark.
+// Where the debug sections of two units stand in a Mach-O file.
+const INFO: MachoSection<'static> = MachoSection {
+    segment: b"__DWARF",
+    name: b"__debug_info",
+    addr: 0,
+    size: 39,
+    offset: 896,
+    flags: 0,
+};
+
+const DEBUG: [MachoSection<'static>; 8] = [
+    INFO,
+    MachoSection {
+        name: b"__debug_abbrev",
+        size: 26,
+        offset: 935,
+        ..INFO
+    },
+    MachoSection {
+        name: b"__debug_str",
+        size: 8,
+        offset: 961,
+        ..INFO
+    },
+    MachoSection {
+        name: b"__debug_str_offs",
+        size: 16,
+        offset: 969,
+        ..INFO
+    },
+    MachoSection {
+        name: b"__debug_addr",
+        size: 32,
+        offset: 985,
+        ..INFO
+    },
+    MachoSection {
+        name: b"__debug_rnglists",
+        size: 35,
+        offset: 1017,
+        ..INFO
+    },
+    MachoSection {
+        name: b"__debug_aranges",
+        size: 112,
+        offset: 1052,
+        ..INFO
+    },
+    MachoSection {
+        name: b"__debug_line",
+        size: 69,
+        offset: 1164,
+        ..INFO
+    },
+];
+
+// The code, whose bytes are in another file.
+const MACHO_TEXT: [MachoSection<'static>; 1] = [MachoSection {
+    segment: b"__TEXT",
+    name: b"__text",
+    addr: CODE,
+    size: 48,
+    offset: 0x1000,
+    flags: 0,
+}];
+
+/// The same code as a Mach-O file of debug information tells it in DWARF 5: 1,233 bytes, the last 337 of them debug
+/// sections.
+pub fn macho_units(alloc: Global) -> Result<Vec<u8>, AllocError> {
+    let debug = two_units_of(alloc, 5)?;
+    let mut bytes = Vec::new(alloc);
+    for section in &debug.sections()? {
+        bytes.extend_from_slice(section.bytes)?;
+    }
+    let text = MachoSegment {
+        name: b"__TEXT",
+        vaddr: CODE,
+        memsz: 48,
+        offset: 0,
+        filesz: 0,
+        access: 5,
+        sections: &MACHO_TEXT,
+    };
+    let dwarf = MachoSegment {
+        name: b"__DWARF",
+        vaddr: CODE + 0x1000,
+        memsz: 337,
+        offset: 896,
+        filesz: 337,
+        access: 7,
+        sections: &DEBUG,
+    };
+    let head = MachoHead {
+        class: Class::Bits64,
+        order: Order::Little,
+        kind: 10,
+    };
+    let commands = [Command::Segment(text), Command::Segment(dwarf)];
+    macho_file(alloc, head, &commands, 1233, &[(896, &bytes)])
+}
+
+/// Code of two units, whose `.debug_info` is marked as compressed, or has the name that told so before there was a mark.
 pub fn compressed_units(alloc: Global, marked: bool) -> Result<Vec<u8>, AllocError> {
     let debug = two_units_of(alloc, 4)?;
     let mut sections = debug.sections()?;

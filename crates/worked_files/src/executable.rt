@@ -144,7 +144,7 @@ fn symbol_table(alloc: Global) -> Result<Vec<u8>, AllocError> {
             ..FUNCTION
         })?;
     }
-    symbols(alloc, Class::Bits64, &table)
+    symbols(alloc, EXECUTABLE, &table)
 }
 
 // What the units name: strings and ranges, and from DWARF 5 on by indexes.

@@ -1,4 +1,4 @@
-//! Small ELF files, least byte first (ELF gABI, chapters 4 and 5).
+//! Small ELF files (ELF gABI, chapters 4 and 5).
 
 use crate::numbers::{Class, Numbers, Order};
 use std::alloc::{AllocError, Global};
@@ -7,6 +7,7 @@ use std::alloc::{AllocError, Global};
 #[derive(Clone, Copy)]
 pub struct Head {
     pub class: Class,
+    pub order: Order,
     /// ET_REL is 1, ET_EXEC is 2.
     pub kind: u16,
     pub machine: u16,
@@ -15,6 +16,7 @@ pub struct Head {
 /// An executable for x86-64.
 pub const EXECUTABLE: Head = Head {
     class: Class::Bits64,
+    order: Order::Little,
     kind: 2,
     machine: 62,
 };
@@ -94,8 +96,12 @@ fn put_header(
         Class::Bits32 => (1, 52, 32, 40),
         Class::Bits64 => (2, 64, 56, 64),
     };
+    let order = match head.order {
+        Order::Little => 1,
+        Order::Big => 2,
+    };
     image.text(b"\x7fELF")?;
-    image.text(&[class, 1, 1])?;
+    image.text(&[class, order, 1])?;
     image.zeros(9)?;
     image.half(head.kind)?;
     image.half(head.machine)?;
@@ -164,14 +170,14 @@ fn put_symbol(image: &mut Numbers, class: Class, s: Symbol) -> Result<(), AllocE
 }
 
 /// A table of symbols, the first of which is the null symbol.
-pub fn symbols(alloc: Global, class: Class, symbols: &[Symbol]) -> Result<Vec<u8>, AllocError> {
-    let mut image = Numbers::new(alloc, class, Order::Little);
-    image.zeros(match class {
+pub fn symbols(alloc: Global, head: Head, symbols: &[Symbol]) -> Result<Vec<u8>, AllocError> {
+    let mut image = Numbers::new(alloc, head.class, head.order);
+    image.zeros(match head.class {
         Class::Bits32 => 16,
         Class::Bits64 => 24,
     })?;
     for symbol in symbols {
-        put_symbol(&mut image, class, *symbol)?;
+        put_symbol(&mut image, head.class, *symbol)?;
     }
     Ok(image.bytes)
 }
@@ -210,7 +216,7 @@ pub fn file(
     sections: &[Section<'_>],
 ) -> Result<Vec<u8>, AllocError> {
     let (names, places) = names_of(alloc, sections)?;
-    let mut image = Numbers::new(alloc, head.class, Order::Little);
+    let mut image = Numbers::new(alloc, head.class, head.order);
     let names_index = sections.iter().position(|s| s.name == NAMES.name);
     put_header(
         &mut image,
@@ -222,7 +228,7 @@ pub fn file(
     for segment in segments {
         put_segment(&mut image, head.class, *segment)?;
     }
-    let mut headers = Numbers::new(alloc, head.class, Order::Little);
+    let mut headers = Numbers::new(alloc, head.class, head.order);
     for (i, section) in sections.iter().enumerate() {
         let name = places.get(i).copied().unwrap_or(0);
         let start = image.bytes.len() as u64;
@@ -236,14 +242,14 @@ pub fn file(
     }
     let end = image.bytes.len();
     image.zeros(7 - end.wrapping_sub(1) % 8)?;
-    let table = image.bytes.len() as u64;
-    let headers = headers.bytes;
-    image.text(&headers)?;
+    let mut table = Numbers::new(alloc, head.class, head.order);
+    table.address(image.bytes.len() as u64)?;
+    image.text(&headers.bytes)?;
     let place = match head.class {
         Class::Bits32 => 32,
         Class::Bits64 => 40,
     };
-    Ok(patched(image.bytes, place, &table.to_le_bytes()))
+    Ok(patched(image.bytes, place, &table.bytes))
 }
 
 /// A file with other bytes at a place.

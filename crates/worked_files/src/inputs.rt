@@ -1,7 +1,7 @@
 //! The files of the worked runs.
 
 use crate::debug_files::{
-    compressed_units, folders, operations, two_rows, two_units, unnamed_units,
+    compressed_units, folders, macho_units, operations, two_rows, two_units, unnamed_units,
 };
 use crate::executable::executable;
 use crate::image::{
@@ -108,10 +108,46 @@ pub fn two_functions(alloc: Global) -> Result<Vec<u8>, AllocError> {
         size: 12,
         ..a
     };
-    let symbols = symbols(alloc, Class::Bits64, &[a, b])?;
+    let symbols = symbols(alloc, EXECUTABLE, &[a, b])?;
     let table = symbol_table(&symbols, 3);
     let sections = [NULL, TEXT, table, SYMBOL_NAMES, NAMES];
     file(alloc, EXECUTABLE, &[LOAD], &sections)
+}
+
+/// An executable of 392 bytes for PowerPC, of 32 bits and the greatest byte of a number first, with the functions `a` and
+/// `b` of 8 bytes each.
+pub fn big_endian(alloc: Global) -> Result<Vec<u8>, AllocError> {
+    let head = Head {
+        class: Class::Bits32,
+        order: Order::Big,
+        machine: 20,
+        ..EXECUTABLE
+    };
+    let load = Segment {
+        vaddr: 0x10000,
+        filesz: 100,
+        memsz: 100,
+        ..LOAD
+    };
+    let text = Section {
+        addr: 0x10054,
+        ..TEXT
+    };
+    let a = Symbol {
+        name: 1,
+        value: 0x10054,
+        size: 8,
+        ..FUNCTION
+    };
+    let b = Symbol {
+        name: 3,
+        value: 0x1005c,
+        ..a
+    };
+    let symbols = symbols(alloc, head, &[a, b])?;
+    let table = symbol_table(&symbols, 3);
+    let sections = [NULL, text, table, SYMBOL_NAMES, NAMES];
+    file(alloc, head, &[load], &sections)
 }
 
 /// An object of 440 bytes: 16 bytes of code, 8 bytes of code, and 32 bytes of zeros.
@@ -120,7 +156,7 @@ pub fn object(alloc: Global) -> Result<Vec<u8>, AllocError> {
     file(alloc, RELOCATABLE, &[], &[NULL, TEXT_A, TEXT_B, bss, NAMES])
 }
 
-/// An object of 624 bytes whose two sections of code are one function each, `a` and `b`.
+/// An object of 592 bytes whose two sections of code are one function each, `a` and `b`.
 pub fn object_functions(alloc: Global) -> Result<Vec<u8>, AllocError> {
     let a = Symbol {
         name: 1,
@@ -133,7 +169,7 @@ pub fn object_functions(alloc: Global) -> Result<Vec<u8>, AllocError> {
         section: 2,
         ..a
     };
-    let symbols = symbols(alloc, Class::Bits64, &[a, b])?;
+    let symbols = symbols(alloc, RELOCATABLE, &[a, b])?;
     let table = symbol_table(&symbols, 4);
     let sections = [NULL, TEXT_A, TEXT_B, table, SYMBOL_NAMES, NAMES];
     file(alloc, RELOCATABLE, &[], &sections)
@@ -227,6 +263,8 @@ pub enum Input {
     LoadedTwice,
     ManySections,
     TwoFunctions,
+    /// Two functions in a file of 32 bits, the greatest byte of a number first.
+    BigEndian,
     OwnNames,
     NamedAsOthers,
     SourceNames,
@@ -236,6 +274,8 @@ pub enum Input {
     ObjectFunctions,
     /// Two units, by a version of DWARF.
     Units(u16),
+    /// Two units in a Mach-O file.
+    MachoUnits,
     /// Two units whose entries are compressed: whether a flag says so, and else the section's name.
     Compressed(bool),
     UnnamedUnits,
@@ -275,6 +315,7 @@ pub fn bytes_of(alloc: Global, input: Input) -> Result<Vec<u8>, AllocError> {
         Input::LoadedTwice => loaded_twice(alloc),
         Input::ManySections => many_sections(alloc),
         Input::TwoFunctions => two_functions(alloc),
+        Input::BigEndian => big_endian(alloc),
         Input::OwnNames => own_names(alloc),
         Input::NamedAsOthers => named_as_others(alloc),
         Input::SourceNames => source_names(alloc),
@@ -283,6 +324,7 @@ pub fn bytes_of(alloc: Global, input: Input) -> Result<Vec<u8>, AllocError> {
         Input::Object => object(alloc),
         Input::ObjectFunctions => object_functions(alloc),
         Input::Units(version) => two_units(alloc, version),
+        Input::MachoUnits => macho_units(alloc),
         Input::Compressed(marked) => compressed_units(alloc, marked),
         Input::UnnamedUnits => unnamed_units(alloc),
         Input::Operations(version) => operations(alloc, version),

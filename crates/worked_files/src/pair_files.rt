@@ -70,7 +70,7 @@ pub fn debug_file(alloc: Global, last: u8, names: u32) -> Result<Vec<u8>, AllocE
         size: 12,
         ..FUNCTION
     };
-    let symbols = symbols(alloc, Class::Bits64, &[f])?;
+    let symbols = symbols(alloc, EXECUTABLE, &[f])?;
     let id = build_id(last);
     let sections = debug_sections(&id, &symbols, names);
     file(alloc, EXECUTABLE, &[], &sections)

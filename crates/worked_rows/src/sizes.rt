@@ -21,7 +21,7 @@ pub struct Sizes {
 
 impl Sizes {
     /// The file size and the VM size of a label.
-    pub fn of(&self, label: &[u8]) -> (u64, u64) {
+    pub(crate) fn of(&self, label: &[u8]) -> (u64, u64) {
         for (i, sizes) in self.file.iter().zip(&self.vm).enumerate() {
             if i < self.labels.len() && self.labels.get(i) == label {
                 return (*sizes.0, *sizes.1);
@@ -31,7 +31,7 @@ impl Sizes {
     }
 
     /// How many labels have a size above 0.
-    pub fn shown(&self) -> usize {
+    pub(crate) fn shown(&self) -> usize {
         self.file
             .iter()
             .zip(&self.vm)
@@ -102,7 +102,7 @@ fn both_sizes(alloc: Global, maps: &DualMap, labels: LabelPool) -> Result<Sizes,
 }
 
 /// The sizes of the labels of a data source on a file of this name.
-pub fn sizes_of(
+pub(crate) fn sizes_of(
     alloc: Global,
     binary: &Binary<'_>,
     source: Source,

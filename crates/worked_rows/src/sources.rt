@@ -183,8 +183,8 @@ fn bit_0_of_an_arm_function_is_no_address(rt: HostRuntime) -> Result<(), Fail> {
     for (machine, start) in [(40, 0x8000), (3, 0x8001)] {
         let head = Head {
             class: Class::Bits32,
-            kind: 2,
             machine,
+            ..EXECUTABLE
         };
         let load = Segment {
             offset: 84,
@@ -203,7 +203,7 @@ fn bit_0_of_an_arm_function_is_no_address(rt: HostRuntime) -> Result<(), Fail> {
             size: 4,
             ..FUNCTION
         };
-        let symbols = symbols(alloc, Class::Bits32, &[function])?;
+        let symbols = symbols(alloc, head, &[function])?;
         let table = symbol_table(&symbols, 3);
         let file = file(
             alloc,
@@ -237,7 +237,7 @@ fn a_symbol_without_its_section_is_a_fault_of_symbols_alone(rt: HostRuntime) -> 
         section: 0xffff,
         ..FUNCTION
     };
-    let symbols = symbols(alloc, Class::Bits64, &[function])?;
+    let symbols = symbols(alloc, EXECUTABLE, &[function])?;
     let table = symbol_table(&symbols, 3);
     let file = file(
         alloc,

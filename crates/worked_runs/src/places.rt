@@ -257,7 +257,7 @@ const LOADS: [Case<'static>; 4] = [
     ),
 ];
 
-// Each data source on a Mach-O file and on a module, which has no units and lines.
+// Each data source on a Mach-O file, and those that modules have on a module.
 const FORMATS: [Case<'static>; 2] = [
     (
         &[
@@ -366,7 +366,7 @@ type Ended<'a> = (&'a [&'a str], Input, Limits, Outcome, u8, &'a str);
 
 const OUTSIDE: &str = "bloaty: place outside the file";
 
-const ENDS: [Ended<'static>; 10] = [
+const ENDS: [Ended<'static>; 11] = [
     (
         &["--debug-vmaddr=0x400088", "a.elf"],
         Input::Plain,
@@ -438,6 +438,18 @@ const ENDS: [Ended<'static>; 10] = [
     ),
     (
         &["-d", "compileunits", "--debug-fileoff=20", "a.elf"],
+        MODULE,
+        FULL,
+        Outcome::Bad {
+            file: 1,
+            fault: Fault::SourceNotForFile,
+            offset: 0,
+        },
+        1,
+        "bloaty: a.elf: offset 0: SourceNotForFile",
+    ),
+    (
+        &["-d", "inlines", "--debug-fileoff=20", "a.elf"],
         MODULE,
         FULL,
         Outcome::Bad {

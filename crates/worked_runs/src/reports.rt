@@ -135,7 +135,7 @@ const SECTIONS: [Case<'static>; 8] = [
 ];
 
 // A symbol has the bytes that no earlier symbol has, and a section those that no symbol has.
-const SYMBOLS: [Case<'static>; 3] = [
+const SYMBOLS: [Case<'static>; 4] = [
     Case {
         words: &["--csv", "-n", "0", "-d", "symbols", "a.elf"],
         file: Input::TwoFunctions,
@@ -151,6 +151,22 @@ const SYMBOLS: [Case<'static>; 3] = [
             "[section .text],4,4",
             "b,4,4",
             "[Unmapped],0,2",
+        ],
+    },
+    Case {
+        words: &["--csv", "-n", "0", "-d", "symbols", "a.elf"],
+        file: Input::BigEndian,
+        report: &[
+            "symbols,vmsize,filesize",
+            "[ELF Section Headers],0,200",
+            "[ELF Header],52,52",
+            "[section .symtab],0,48",
+            "[section .shstrtab],0,33",
+            "[ELF Program Headers],32,32",
+            "a,8,8",
+            "b,8,8",
+            "[Unmapped],0,6",
+            "[section .strtab],0,5",
         ],
     },
     // Symbols without a name and without a size.

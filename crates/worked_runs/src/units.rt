@@ -24,7 +24,7 @@ const ALL_SIZES: [&str; 6] = ["--csv", "-n", "0", "-d", "compileunits", "a.elf"]
 
 // A unit has its ranges, its entries, its abbreviations, its line program, and what its sets add to that. A set of no
 // unit, whose 8 bytes of code no unit has, stays with its section.
-const UNITS: [Case<'static>; 8] = [
+const UNITS: [Case<'static>; 9] = [
     Case {
         words: &VM_SIZES,
         file: Input::Units(2),
@@ -105,6 +105,18 @@ const UNITS: [Case<'static>; 8] = [
             "b.c,.text,16,16",
             "b.c,.debug_abbrev,0,12",
         ],
+    },
+    // A Mach-O file of debug information maps what it tells of its units as well.
+    Case {
+        words: &[
+            "--csv",
+            "-d",
+            "compileunits",
+            "--source-filter=^[ab][.]c$",
+            "a.elf",
+        ],
+        file: Input::MachoUnits,
+        report: &["compileunits,vmsize,filesize", "a.c,127,103", "b.c,111,95"],
     },
     Case {
         words: &VM_SIZES,

@@ -1,6 +1,5 @@
 -- One data source more says what it says.
-use Rattle.std.proofs.Common.{◌≡◌, Err, ap, sym, ◌∙◌, arith}
-use Rattle.std.specs.Prelude.{length}
+use Rattle.std.proofs.Common.{Err, ap, arith}
 use Rattle.std.proofs.lemmas.Result.{err_from_is_err_and}
 use Rattle.size_model.proofs.Firsts.{item_at}
 use Rattle.file_profile.specs.Places.{named_sources, places_said}

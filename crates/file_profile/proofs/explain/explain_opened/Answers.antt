@@ -1,11 +1,10 @@
 -- What is decided of a place, step by step.
 use Rattle.std.proofs.Common.{◌≡◌, true, ap, ◌∙◌, arith}
-use Rattle.std.specs.Prelude.{length}
 use Rattle.std.proofs.lemmas.Result.{err_from_is_err_and}
 use Rattle.size_model.specs.Loads.{mapped_count}
 use Rattle.data_sources.specs.Loads.{loads_of}
 use Rattle.dual_map.specs.Layout.{Layout}
-use Rattle.file_profile.specs.Places.{is_in, named_sources}
+use Rattle.file_profile.specs.Places.{named_sources}
 use Rattle.file_profile.proofs.PlaceLemmas.{in-is, opened-large, opened-outside, opened-refused, opened-said}
 use Rattle.file_profile.proofs.explain.explain_opened.Goals as goal
 

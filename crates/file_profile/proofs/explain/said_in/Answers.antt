@@ -1,6 +1,5 @@
 -- What is said of the claims by number is what is said of the claims.
 use Rattle.std.proofs.Common.{◌≡◌, ap, ◌∙◌, arith}
-use Rattle.size_core.specs.declared.claim.Claim.{Claim}
 use Rattle.size_model.specs.Numbered.{numbered_view}
 use Rattle.data_sources.specs.Views.{unmapped}
 use Rattle.file_profile.proofs.NumberLemmas.{plain-made}

@@ -2,7 +2,7 @@
 use Rattle.std.proofs.Common.{◌≡◌, sym, ap, ◌∙◌}
 use Rattle.std.proofs.lemmas.Result.{err_from_is_err_and}
 use Rattle.file_profile.specs.Views.{alone}
-use Rattle.file_profile.proofs.AloneLemmas.{answers-refused, fault-before, view-before, viewed-bad, viewed-before, viewed-ok}
+use Rattle.file_profile.proofs.AloneLemmas.{answers-refused, fault-before, viewed-bad, viewed-before, viewed-ok}
 use Rattle.file_profile.proofs.profile.profile_file.Goals as goal
 
 pub returns-in_err-binary-clause-answer : goal.returns-in_err-binary-clause-answer

@@ -19,16 +19,17 @@ tree-requires c =
     let all : seen c.as_slice.result.now ≡ rollup.rows = ap seen c.as_slice.ensures.value ∙ (c.loop-i.invariant ∙ take_all c.loop-i.i rollup.rows (omega (arith, c.len-i-end.ensures.count))) in
     subst (λ n. IsPart n 0 (seen c.as_slice.result.now)) (sym c.depth.ensures) (is_part rollup.depth rollup.lengths rollup.mapped rollup.rows (seen c.as_slice.result.now) c.len-i-end.ensures.totals all)
 
-pub returns-clause-levels : goal.returns-clause-levels
-returns-clause-levels c =
+-- all rows are read, and they are a part
+part : (c : goal.After-drop-all-2) → IsPart c.depth.result 0 (seen c.as_slice.result.now)
+part c =
     let rollup = c.args.rollup.now in
     let all : seen c.as_slice.result.now ≡ rollup.rows = ap seen c.as_slice.ensures.value ∙ (c.loop-i.invariant ∙ take_all c.loop-i.i rollup.rows (omega (arith, c.len-i-end.ensures.count))) in
-    let part = subst (λ n. IsPart n 0 (seen c.as_slice.result.now)) (sym c.depth.ensures) (is_part rollup.depth rollup.lengths rollup.mapped rollup.rows (seen c.as_slice.result.now) c.len-i-end.ensures.totals all) in
-    IfOk-weaker c.tree.result _ _ (λ t is. subst (λ (u : RowTree). IsTree u.depth u.rows) (sym is) (is-tree c.args.options.now c.depth.result (seen c.as_slice.result.now) part.deep)) c.tree.ensures
+    subst (λ n. IsPart n 0 (seen c.as_slice.result.now)) (sym c.depth.ensures) (is_part rollup.depth rollup.lengths rollup.mapped rollup.rows (seen c.as_slice.result.now) c.len-i-end.ensures.totals all)
+
+pub returns-clause-levels : goal.returns-clause-levels
+returns-clause-levels c =
+    IfOk-weaker c.tree.result _ _ (λ t is. subst (λ (u : RowTree). IsTree u.depth u.rows) (sym is) (is-tree c.args.options.now c.depth.result (seen c.as_slice.result.now) (part c).deep)) c.tree.ensures
 
 pub returns-clause-sums : goal.returns-clause-sums
 returns-clause-sums c =
-    let rollup = c.args.rollup.now in
-    let all : seen c.as_slice.result.now ≡ rollup.rows = ap seen c.as_slice.ensures.value ∙ (c.loop-i.invariant ∙ take_all c.loop-i.i rollup.rows (omega (arith, c.len-i-end.ensures.count))) in
-    let part = subst (λ n. IsPart n 0 (seen c.as_slice.result.now)) (sym c.depth.ensures) (is_part rollup.depth rollup.lengths rollup.mapped rollup.rows (seen c.as_slice.result.now) c.len-i-end.ensures.totals all) in
-    IfOk-weaker c.tree.result _ _ (λ t is. subst (AddsUp c.args.options.now.domain) (sym is) (adds-up c.args.options.now c.depth.result (seen c.as_slice.result.now) part.deep)) c.tree.ensures
+    IfOk-weaker c.tree.result _ _ (λ t is. subst (AddsUp c.args.options.now.domain) (sym is) (adds-up c.args.options.now c.depth.result (seen c.as_slice.result.now) (part c).deep)) c.tree.ensures

@@ -23,7 +23,7 @@ returns-clause-cost g c = omega (arith, c.walk.ensures.cost, c.walk-2.ensures.co
 pub returns-clause-file : goal.returns-clause-file
 returns-clause-file g c = λ test.
     c.in_ok-walk-2.ensures.other test ∙ (c.in_ok-walk.ensures.counted test
-    ∙ (ap (counted test (option_copied c.args.marks) (layers File c.args.maps.now)) c.from-len.ensures ∙ offsets-counted c.args.base.now c.args.maps.now c.args.file_len test (option_copied c.args.marks) c.requires.len c.requires.over))
+    ∙ (ap (counted test (option_copied c.args.marks) (layers File c.args.maps.now)) (c.from-len.ensures ∙ c.len.ensures) ∙ offsets-counted c.args.base.now c.args.maps.now test (option_copied c.args.marks) c.requires.over))
 
 pub returns-clause-vm : goal.returns-clause-vm
 returns-clause-vm g c = λ test.
@@ -32,4 +32,4 @@ returns-clause-vm g c = λ test.
 
 pub returns-clause-entries : goal.returns-clause-entries
 returns-clause-entries g c = λ n below.
-    c.in_ok-walk-2.ensures.entries n below (c.in_ok-walk.ensures.entries n below (subst (All (IsEntry (length c.args.maps.now) n)) (sym c.new-sizes.ensures.none) (λ k d lt. absurd (omega arith))))
+    c.in_ok-walk-2.ensures.entries n below (c.in_ok-walk.ensures.entries n below (subst (All (IsEntry (length c.args.maps.now) n)) (sym c.new-sizes.ensures) (λ k d lt. absurd (omega arith))))

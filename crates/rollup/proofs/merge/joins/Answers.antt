@@ -13,4 +13,4 @@ by_index Greater = refl
 
 pub returns-in-Some : goal.returns-in-Some
 returns-in-Some c =
-    c.eq.ensures ∙ (by_index c.compare.result ∙ (ap is_eq c.compare.ensures ∙ sym (joins_last-last c.args.rows.now c.in-Some.last.now c.args.path.now (sym c.in-Some.ensures.value))))
+    c.eq.ensures ∙ (by_index c.compare_paths.result ∙ (ap is_eq c.compare_paths.ensures ∙ sym (joins_last-last c.args.rows.now c.in-Some.last.now c.args.path.now (sym c.in-Some.ensures.value))))

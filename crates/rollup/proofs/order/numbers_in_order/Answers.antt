@@ -16,14 +16,14 @@ pub returns-clause-all : goal.returns-clause-all
 returns-clause-all c =
     let count : c.loop-number.number ≡ length c.args.pool.now = omega arith in
     let made = c.loop-number.invariant ∙ ap (range_with_len 0) count in
-    subst (λ l. IsPermutation l c.sort_unstable_by.new.self.items) made c.sort_unstable_by.ensures.permutation
+    subst (λ l. IsPermutation l c.sort_by.new.self.items) made c.sort_by.ensures.permutation
 
 pub returns-clause-ascend : goal.returns-clause-ascend
 returns-clause-ascend c =
     let pool = c.args.pool.now in
     let count : c.loop-number.number ≡ length pool = omega arith in
     let made = c.loop-number.invariant ∙ ap (range_with_len 0) count in
-    let all = subst (λ l. IsPermutation l c.sort_unstable_by.new.self.items) made c.sort_unstable_by.ensures.permutation in
-    let sorted : IsSorted (label_cmp pool) c.sort_unstable_by.new.self.items =
-    c.sort_unstable_by.ensures.sorted (λ a b. is_lt (label_cmp pool a b)) (ranks_by nat_list_cmp_total (text_of pool)) (always_returns_same _ _ _ (λ a r f k. search rules)) in
-    numbers_ascend pool c.sort_unstable_by.new.self.items all c.len.ensures.distinct sorted
+    let all = subst (λ l. IsPermutation l c.sort_by.new.self.items) made c.sort_by.ensures.permutation in
+    let sorted : IsSorted (label_cmp pool) c.sort_by.new.self.items =
+    c.in_ok-sort_by.ensures.sorted (λ a b. is_lt (label_cmp pool a b)) (ranks_by nat_list_cmp_total (text_of pool)) (always_returns_same _ _ _ (λ a r f k. search rules)) in
+    numbers_ascend pool c.sort_by.new.self.items all c.len.ensures.distinct sorted

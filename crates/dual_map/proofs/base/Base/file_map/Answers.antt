@@ -11,8 +11,7 @@ use Rattle.dual_map.proofs.base.Base.file_map.Goals as goal
 -- what was pushed
 all : (c : goal.After-drop-ranges-2) → c.as_slice.result.now ≡ all_offsets c.self.inside.file_len c.self.inside.to_file c.args.unmapped c.args.claims.now
 all c =
-    let len : c.self.inside.file_len ≡ c.args.file_len = ap (λ (l : Layout). l.len) c.self.view_is ∙ c.requires in
-    rw len (c.as_slice.ensures.value ∙ (rw c.from.ensures at c.in_ok-push_some.ensures.value ∙ rw (drop_all c.loop-claim.claim-index c.args.claims.now c.loop-claim-test.false) at c.loop-claim.invariant.ranges))
+    (c.as_slice.ensures.value ∙ (rw c.from.ensures at c.in_ok-push_some.ensures.value ∙ rw (drop_all c.loop-claim.claim-index c.args.claims.now c.loop-claim-test.false) at c.loop-claim.invariant.ranges))
 
 pub returns-clause-cut : goal.returns-clause-cut
 returns-clause-cut c =

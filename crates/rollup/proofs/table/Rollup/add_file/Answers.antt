@@ -9,7 +9,7 @@ use Rattle.rollup.specs.Totals.{IsTotals, Totals}
 use Rattle.rollup.specs.Adding.{file_where, vm_where}
 use Rattle.rollup.specs.Counted.{file_counted, vm_counted}
 use Rattle.rollup.specs.Rows.{AreMerged}
-use Rattle.rollup.specs.Sizes.{IsEntry, entries_of, row_of}
+use Rattle.rollup.specs.Sizes.{IsEntry, row_of}
 use Rattle.rollup.proofs.OneFile.{file-le, vm-le}
 use Rattle.rollup.proofs.Merging.{alone_fits, merged_from, moved_fits}
 use Rattle.rollup.proofs.Totalling.{fit_together, file_added, vm_added, new_totals}
@@ -23,19 +23,19 @@ new_rows-requires-clause-below g c = λ k d lt. (c.in_ok-sizes.ensures.entries (
 
 pub new_rows-requires-clause-fits : goal.new_rows-requires-clause-fits
 new_rows-requires-clause-fits g c =
-    let es = entries_of c.in_ok-sizes.sizes in
+    let es = c.in_ok-sizes.sizes in
     alone_fits c.self.inside.rows.items (map (row_of c.args.pool.now) es)
     (fit_together c.args.pool.now c.self.inside.rows.items es c.self.inside.depth c.self.inside.lengths c.self.inside.mapped c.args.file_len (mapped_count c.args.base.now.loads) c.self.invariant
-    (omega (arith, c.in_ok-sizes.ensures.file (λ _. true), file-le (λ _. true) (option_copied c.args.passes) c.args.maps.now c.args.file_len))
+    (omega (arith, c.in_ok-sizes.ensures.file (λ _. true), file-le (λ _. true) (option_copied c.args.passes) c.args.maps.now c.args.base.now.len, c.requires.len))
     (omega (arith, c.in_ok-sizes.ensures.vm (λ _. true), vm-le (λ _. true) (option_copied c.args.passes) c.args.maps.now c.args.base.now.loads))
     (omega (arith, c.from.ensures, c.from-2.ensures, c.if-lengths-gt-MOST.false)) (omega (arith, c.from-3.ensures, c.mapped_size.ensures, c.if-mapped-gt-MOST.false)))
 
 pub merge-requires-clause-fits : goal.merge-requires-clause-fits
 merge-requires-clause-fits g c =
-    let es = entries_of c.in_ok-sizes.sizes in
+    let es = c.in_ok-sizes.sizes in
     moved_fits c.self.inside.rows.items (map (row_of c.args.pool.now) es) c.in_ok-new.new.items c.in_ok-new.ensures.same
     (fit_together c.args.pool.now c.self.inside.rows.items es c.self.inside.depth c.self.inside.lengths c.self.inside.mapped c.args.file_len (mapped_count c.args.base.now.loads) c.self.invariant
-    (omega (arith, c.in_ok-sizes.ensures.file (λ _. true), file-le (λ _. true) (option_copied c.args.passes) c.args.maps.now c.args.file_len))
+    (omega (arith, c.in_ok-sizes.ensures.file (λ _. true), file-le (λ _. true) (option_copied c.args.passes) c.args.maps.now c.args.base.now.len, c.requires.len))
     (omega (arith, c.in_ok-sizes.ensures.vm (λ _. true), vm-le (λ _. true) (option_copied c.args.passes) c.args.maps.now c.args.base.now.loads))
     (omega (arith, c.from.ensures, c.from-2.ensures, c.if-lengths-gt-MOST.false)) (omega (arith, c.from-3.ensures, c.mapped_size.ensures, c.if-mapped-gt-MOST.false)))
 
@@ -44,17 +44,17 @@ merge-requires-clause-ordered g c = c.self.invariant.ordered
 
 pub returns-clause-file : goal.returns-clause-file
 returns-clause-file g c = λ test.
-    let es = entries_of c.in_ok-sizes.sizes in
+    let es = c.in_ok-sizes.sizes in
     let old : c.self.inside.rows.items ≡ c.args.self.now.rows = ap (λ (t : Totals). t.rows) c.self.view_is in
     let merged : AreMerged c.self.inside.rows.items (map (row_of c.args.pool.now) es) c.merge.new.rows.items =
     merged_from c.self.inside.rows.items (map (row_of c.args.pool.now) es) c.in_ok-new.new.items c.merge.new.rows.items c.in_ok-new.ensures.same c.in_ok-merge.ensures.ok in
     file_added c.args.pool.now c.self.inside.rows.items es test c.merge.new.rows.items merged
-    ∙ (ap (λ k. file_where test c.self.inside.rows.items + k) (c.in_ok-sizes.ensures.file (λ ns. test (map (text_of c.args.pool.now) ns)))
+    ∙ (ap (λ k. file_where test c.self.inside.rows.items + k) (c.in_ok-sizes.ensures.file (λ ns. test (map (text_of c.args.pool.now) ns)) ∙ ap (file_counted (λ ns. test (map (text_of c.args.pool.now) ns)) (option_copied c.args.passes) c.args.maps.now) c.requires.len)
     ∙ ap (λ rows. file_where test rows + file_counted (λ ns. test (map (text_of c.args.pool.now) ns)) (option_copied c.args.passes) c.args.maps.now c.args.file_len) old)
 
 pub returns-clause-vm : goal.returns-clause-vm
 returns-clause-vm g c = λ test.
-    let es = entries_of c.in_ok-sizes.sizes in
+    let es = c.in_ok-sizes.sizes in
     let old : c.self.inside.rows.items ≡ c.args.self.now.rows = ap (λ (t : Totals). t.rows) c.self.view_is in
     let merged : AreMerged c.self.inside.rows.items (map (row_of c.args.pool.now) es) c.merge.new.rows.items =
     merged_from c.self.inside.rows.items (map (row_of c.args.pool.now) es) c.in_ok-new.new.items c.merge.new.rows.items c.in_ok-new.ensures.same c.in_ok-merge.ensures.ok in
@@ -67,7 +67,7 @@ invariant_of-self g c = subst (λ rows. IsTotals c.self.inside.depth rows c.self
 
 pub invariant_of-self-2 : goal.invariant_of-self-2
 invariant_of-self-2 g c =
-    let es = entries_of c.in_ok-sizes.sizes in
+    let es = c.in_ok-sizes.sizes in
     let pool = c.args.pool.now in
     let new = c.merge.new.rows.items in
     let merged : AreMerged c.self.inside.rows.items (map (row_of pool) es) c.merge.new.rows.items =
@@ -78,6 +78,6 @@ invariant_of-self-2 g c =
     let mapped : c.from-3.result + c.mapped_size.result ≡ c.self.inside.mapped + mapped_count c.args.base.now.loads = omega (arith, c.from-3.ensures, c.mapped_size.ensures) in
     subst (λ k. IsTotals c.self.inside.depth new k (c.from-3.result + c.mapped_size.result)) (sym lengths) (subst (λ k. IsTotals c.self.inside.depth new (c.self.inside.lengths + c.args.file_len) k) (sym mapped)
     (new_totals pool c.self.inside.rows.items es c.self.inside.depth c.self.inside.lengths c.self.inside.mapped c.args.file_len (mapped_count c.args.base.now.loads) (length pool) new c.self.invariant all merged
-    (omega (arith, c.in_ok-sizes.ensures.file (λ _. true), file-le (λ _. true) (option_copied c.args.passes) c.args.maps.now c.args.file_len))
+    (omega (arith, c.in_ok-sizes.ensures.file (λ _. true), file-le (λ _. true) (option_copied c.args.passes) c.args.maps.now c.args.base.now.len, c.requires.len))
     (omega (arith, c.in_ok-sizes.ensures.vm (λ _. true), vm-le (λ _. true) (option_copied c.args.passes) c.args.maps.now c.args.base.now.loads))
     (omega (arith, lengths, c.if-lengths-gt-MOST.false)) (omega (arith, mapped, c.if-mapped-gt-MOST.false))))

@@ -1,0 +1,123 @@
+//! Sections with numbers of sections, by the tables of symbols that they belong to.
+
+ghost use Rattle.std.specs.Prelude.{◌≡◌, ◌++◌, ◌<◌, ◌≤◌, IfOk, IfSome, OnOk, length};
+ghost use Rattle.elf_file.specs.Tables.{section_count};
+ghost use Rattle.elf_symbols.specs.Symbols.{numbers_index};
+ghost use Rattle.elf_symbols.specs.Numbers.{AreBefore, IsNumbersIndex, RiseByTable, all_numbers, first_for, numbers_at};
+
+use crate::constants::SHT_SYMTAB_SHNDX;
+use elf_file::ElfFile;
+use size_core::NoMemory;
+use std::alloc::Global;
+use std::marker::Model;
+
+/// A section with numbers of sections.
+#[derive(Clone, Copy, Debug)]
+pub struct TableNumbers {
+    /// The section of the table that the numbers belong to.
+    pub table: u32,
+    pub section: u32,
+}
+
+/// The sections of a file with numbers of sections, by their tables. Where a file has none, no memory is taken.
+#[derive(Drop)]
+pub struct NumbersIndex<'a> {
+    file: &'a [u8],
+    known: Vec<TableNumbers>,
+}
+
+impl<'a> Model for NumbersIndex<'a> {
+    ghost use Rattle.std.specs.Prelude.{ℕ, List};
+    ghost use Rattle.elf_symbols.specs.Numbers.{IsNumbersIndex};
+
+    ghost Value = { List ℕ };
+
+    ghost view = { λ n. n.file.now };
+
+    ghost invariant = { λ n. IsNumbersIndex n.file.now n.known.items };
+}
+
+/// Adds section `j`, where it has numbers of sections.
+#[tactic(auto, unfolding(crate::specs::Numbers::numbers_at))]
+fn push_numbers(file: &ElfFile<'_>, j: u32, known: &mut Vec<TableNumbers>) -> Result<(), NoMemory>
+    requires { j < section_count file.now }
+    ensures { OnOk result (known.new.items ≡ known.old.items ++ numbers_at file.now j) }
+{
+    let section = file.section(j);
+    if section.kind != SHT_SYMTAB_SHNDX {
+        return Ok(());
+    }
+    known.push(TableNumbers {
+        table: section.link,
+        section: j,
+    })?;
+    Ok(())
+}
+
+/// The sections with numbers of sections, in the file's order.
+#[tactic(auto, using(size_core::proofs::Gathered::gather_next, size_core::proofs::Gathered::gather_end), unfolding(crate::specs::Numbers::all_numbers))]
+fn all_numbers(alloc: Global, file: &ElfFile<'_>) -> Result<Vec<TableNumbers>, NoMemory>
+    ensures { IfOk result (λ v. v.items ≡ all_numbers file.now) }
+{
+    let mut known = Vec::new(alloc);
+    for j in 1..file.header().sections {
+        push_numbers(file, j, &mut known)?;
+    }
+    Ok(known)
+}
+
+/// The sections with numbers of sections, by their tables, and those of one table in the file's order.
+fn numbers_by_table(alloc: Global, file: &ElfFile<'_>) -> Result<Vec<TableNumbers>, NoMemory>
+    ensures { IfOk result (λ v. IsNumbersIndex file.now v.items) }
+{
+    let mut known = all_numbers(alloc, file)?;
+    known.sort_by_key(|numbers| numbers.table)?;
+    Ok(known)
+}
+
+/// How many sections belong to tables before section `i`.
+fn count_before(known: &[TableNumbers], i: u32) -> usize
+    requires { RiseByTable known.now }
+    ensures bound { result ≤ length known.now }
+    ensures point { AreBefore i known.now result }
+{
+    known.partition_point(|numbers| numbers.table < i)
+}
+
+/// The first section of these that belongs to the table in section `i`.
+fn first_for(known: &[TableNumbers], i: u32) -> Option<u32>
+    requires { RiseByTable known.now }
+    ensures { result ≡ first_for i known.now }
+{
+    let at = count_before(known, i);
+    if at >= known.len() {
+        return None;
+    }
+    let numbers = known[at];
+    if numbers.table != i {
+        return None;
+    }
+    Some(numbers.section)
+}
+
+impl<'a> NumbersIndex<'a> {
+    /// The sections of this file with numbers of sections.
+    pub fn of(alloc: Global, file: &ElfFile<'a>) -> Result<NumbersIndex<'a>, NoMemory>
+        ensures { IfOk result (λ n. n ≡ file.now) }
+    {
+        let known = numbers_by_table(alloc, file)?;
+        Ok(NumbersIndex {
+            file: file.bytes(),
+            known,
+        })
+    }
+
+    /// The first section with the numbers of sections of the table in section `i`.
+    #[tactic(auto, using(crate::proofs::NumbersLemmas::numbers_within))]
+    pub fn first(&self, i: u32) -> Option<u32>
+        ensures value { result ≡ numbers_index self.now i }
+        ensures below { IfSome result (λ j. j < section_count self.now) }
+    {
+        first_for(self.known.as_slice(), i)
+    }
+}
