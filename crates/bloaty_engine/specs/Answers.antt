@@ -24,7 +24,9 @@ IsAsked limits given contents P = (r : Request) × (asked limits given contents 
 abbrev pub IsReached : Limits → Result Options UsageKind → Contents → ℕ → Type 0
 IsReached limits given contents zero = (o : Options) × (given ≡ Ok o) × ((name : List ℕ) × (o.config ≡ Some name))
 IsReached limits given contents (suc k) =
-    IsAsked limits given contents (λ r. IsUnmade r.options.synth k × (k < length (all_names r.options)) × IsReadAt limits r.sources contents.files r.options k)
+    IsAsked limits given contents
+    (λ r. IsUnmade r.options.synth k × (k < length (all_names r.options))
+    × IsReadAt limits r.sources contents.files r.options k)
 
 -- An answer is the verdict, or it interrupts the run at a place that no fault of the verdict stands before. `last` is
 -- the last pattern that was refused for its size.
@@ -34,8 +36,10 @@ IsAnswer limits given contents last WriteFailed = IsOk (verdict limits given con
 IsAnswer limits given contents last (Usage usage.Words) = Unit {0}
 IsAnswer limits given contents last NoMemory = Unit {0}
 IsAnswer limits given contents last (ReadFailed i) = IsReached limits given contents i
-IsAnswer limits given contents last (PatternSyntax i) = IsAsked limits given contents (λ r. StopsAt r.options.filter r.customs i IsNoPattern)
-IsAnswer limits given contents last (PatternTooBig i) = IsAsked limits given contents (λ r. StopsAt r.options.filter r.customs i (λ pattern. last ≡ pattern))
+IsAnswer limits given contents last (PatternSyntax i) =
+    IsAsked limits given contents (λ r. StopsAt r.options.filter r.customs i IsNoPattern)
+IsAnswer limits given contents last (PatternTooBig i) =
+    IsAsked limits given contents (λ r. StopsAt r.options.filter r.customs i (λ pattern. last ≡ pattern))
 IsAnswer limits given contents last answer = verdict limits given contents ≡ Err answer
 
 -- the patterns stand before the files: an answer that comes after them
@@ -100,7 +104,8 @@ ends_without test (Err end) = not (test end)
 
 -- what was written: the report whole, or a proper prefix of it, or nothing
 abbrev pub HasReport : Limits → Result Options UsageKind → Contents → (List ℕ → Type 0) → Type 0
-HasReport limits given contents P = (f : Found) × (text : List ℕ) × (verdict limits given contents ≡ Ok f) × IsReport f.request.options f.finding text × P text
+HasReport limits given contents P = (f : Found) × (text : List ℕ) × (verdict limits given contents ≡ Ok f)
+    × IsReport f.request.options f.finding text × P text
 
 abbrev pub Writes : Limits → Result Options UsageKind → Contents → Option (List ℕ) → Option (List ℕ) → Outcome → Type 0
 Writes limits given contents old new Done = HasReport limits given contents (Grew old new)
@@ -108,7 +113,8 @@ Writes limits given contents old new WriteFailed = HasReport limits given conten
 Writes limits given contents old new answer = new ≡ old
 
 -- A run over files of these bytes: those that the files hold, where they tell.
-pub record IsRun (held : Option Pairs) (limits : Limits) (given : Result Options UsageKind) (last : List ℕ) (old new : Option (List ℕ)) (answer : Outcome) (contents : Contents) : Type 0 where
+pub record IsRun (held : Option Pairs) (limits : Limits) (given : Result Options UsageKind) (last : List ℕ)
+    (old new : Option (List ℕ)) (answer : Outcome) (contents : Contents) : Type 0 where
   pub bytes : (o : Options) → given ≡ Ok o → AreContents held o contents
   pub is : IsAnswer limits given contents last answer
   pub patterns : is_past_patterns answer ≡ true → IsAsked limits given contents (λ r. ArePatterns r.options.filter r.customs)
@@ -143,4 +149,6 @@ abbrev pub EndsReport : Limits → Options → List ℕ → Contents → Result 
 EndsReport limits o last contents (Ok text) =
     HasReport limits (Ok o) contents (λ t. t ≡ text.items) × IsAsked limits (Ok o) contents (λ r. ArePatterns r.options.filter r.customs)
 EndsReport limits o last contents (Err end) =
-    IsAnswer limits (Ok o) contents last end × (is_past_patterns end ≡ true → IsAsked limits (Ok o) contents (λ r. ArePatterns r.options.filter r.customs)) × (is_end end ≡ true)
+    IsAnswer limits (Ok o) contents last end
+    × (is_past_patterns end ≡ true → IsAsked limits (Ok o) contents (λ r. ArePatterns r.options.filter r.customs))
+    × (is_end end ≡ true)

@@ -34,10 +34,14 @@ begins_with prefix path = starts_with bytes_eq path prefix
 -- of bytes, and of mapped addresses, whose path is in the set.
 pub record AreGrowths (filter : Option (List ℕ → Bool)) (depth : ℕ) (files bases : List FileView) (paths : List GrowthPath) : Type 0 where
   pub is : IsGrowth depth paths
-  pub new_file : (test : List (List ℕ) → Bool) → size_where (λ (s : GrowthSizes). s.new_file) test paths ≡ sum_by (file_size_where filter test) files
-  pub new_vm : (test : List (List ℕ) → Bool) → size_where (λ (s : GrowthSizes). s.new_vm) test paths ≡ sum_by (vm_size_where filter test) files
-  pub base_file : (test : List (List ℕ) → Bool) → size_where (λ (s : GrowthSizes). s.base_file) test paths ≡ sum_by (file_size_where filter test) bases
-  pub base_vm : (test : List (List ℕ) → Bool) → size_where (λ (s : GrowthSizes). s.base_vm) test paths ≡ sum_by (vm_size_where filter test) bases
+  pub new_file : (test : List (List ℕ) → Bool)
+      → size_where (λ (s : GrowthSizes). s.new_file) test paths ≡ sum_by (file_size_where filter test) files
+  pub new_vm : (test : List (List ℕ) → Bool)
+      → size_where (λ (s : GrowthSizes). s.new_vm) test paths ≡ sum_by (vm_size_where filter test) files
+  pub base_file : (test : List (List ℕ) → Bool)
+      → size_where (λ (s : GrowthSizes). s.base_file) test paths ≡ sum_by (file_size_where filter test) bases
+  pub base_vm : (test : List (List ℕ) → Bool)
+      → size_where (λ (s : GrowthSizes). s.base_vm) test paths ≡ sum_by (vm_size_where filter test) bases
 
 abbrev pub growth_printed_as : Format → Options → GrowthTree → List ℕ
 growth_printed_as Text o tree = growth_report_text tree o.domain o.wide
@@ -56,7 +60,8 @@ pub record PrintsGrowth (o : Options) (new base : List RollupRow) (text : List �
   pub is : text ≡ growth_printed o (growth_tree (row_options o) (depth_of o) paths)
 
 -- base files were counted, and this is the text of the growth from them; or the run ended at one of them
-abbrev pub EndsGrowth : Limits → List Chosen → Option (List ℕ → Bool) → Batch → (ℕ → List ℕ) → Options → List RollupRow → Result (Vec ℕ Global) Outcome → Type 0
+abbrev pub EndsGrowth : Limits → List Chosen → Option (List ℕ → Bool) → Batch → (ℕ → List ℕ) → Options
+    → List RollupRow → Result (Vec ℕ Global) Outcome → Type 0
 EndsGrowth limits sources filter b files o new (Ok text) =
     (t : Totals) × EndsFiles limits sources filter b files (Ok t) × PrintsGrowth o new t.rows text.items
 EndsGrowth limits sources filter b files o new (Err end) = EndsFiles limits sources filter b files (Err end)
@@ -69,7 +74,8 @@ pub record IsGrowthReport (o : Options) (files bases : List FileView) (text : Li
 
 -- the sizes of the paths that begin with a path are the numbers of bytes and of mapped addresses whose paths do, over the
 -- files and over the base files
-pub record CountsGrowth (filter : Option (List ℕ → Bool)) (files bases : List FileView) (paths : List GrowthPath) (path : List (List ℕ)) : Type 0 where
+pub record CountsGrowth (filter : Option (List ℕ → Bool)) (files bases : List FileView)
+    (paths : List GrowthPath) (path : List (List ℕ)) : Type 0 where
   pub new_file : size_where (λ (s : GrowthSizes). s.new_file) (begins_with path) paths ≡ file_size filter files path
   pub new_vm : size_where (λ (s : GrowthSizes). s.new_vm) (begins_with path) paths ≡ vm_size filter files path
   pub base_file : size_where (λ (s : GrowthSizes). s.base_file) (begins_with path) paths ≡ file_size filter bases path
@@ -82,4 +88,5 @@ GrowthsCountPaths = (filter : Option (List ℕ → Bool)) (depth : ℕ) (files b
 -- in a report of growth the growths of each shown size add up
 abbrev pub GrowthsAddUp : Type 0
 GrowthsAddUp = (o : Options) (files bases : List FileView) (paths : List GrowthPath)
-    → AreGrowths (filter_test o.filter) (depth_of o) files bases paths → GrowsAlike o.domain (growth_tree (row_options o) (depth_of o) paths)
+    → AreGrowths (filter_test o.filter) (depth_of o) files bases paths
+    → GrowsAlike o.domain (growth_tree (row_options o) (depth_of o) paths)

@@ -52,7 +52,8 @@ line_of asked (Usage kind) = codes "bloaty: usage: " ++ usage_text kind ++ codes
 line_of asked (ReadFailed i) = file_line asked i (codes "cannot be read")
 line_of asked (TooLong i) = file_line asked i (codes "too long")
 line_of asked (Config kind offset) =
-    codes "bloaty: " ++ file_name asked 0 ++ codes ": offset " ++ decimal offset ++ codes ": config fault " ++ decimal (config_number kind) ++ codes "\n"
+    codes "bloaty: " ++ file_name asked 0 ++ codes ": offset " ++ decimal offset
+    ++ codes ": config fault " ++ decimal (config_number kind) ++ codes "\n"
 line_of asked (UnknownSource i) = codes "bloaty: unknown source: " ++ source_name asked i ++ codes "\n"
 line_of asked (PatternSyntax i) = pattern_line i (codes "bad syntax")
 line_of asked (PatternTooBig i) = pattern_line i (codes "too big")

@@ -13,7 +13,8 @@ use Rattle.bloaty_engine.specs.Verdict.{first_name, if_explained}
 
 -- what data sources say of the place of a file with these bytes, which is within the limits
 abbrev pub explained_within : Limits → List Chosen → Options → Place → List ℕ → Result (List PlaceSource) Outcome
-explained_within limits sources o place file = if_explained (explained_place limits.claims o.limit place (first_name o) file (named_sources o.sources sources))
+explained_within limits sources o place file =
+    if_explained (explained_place limits.claims o.limit place (first_name o) file (named_sources o.sources sources))
 
 -- the place was explained so, or the run ended there
 abbrev pub EndsExplained : Result (List PlaceSource) Outcome → Result (Vec PlaceSource Global) Outcome → Type 0

@@ -46,7 +46,8 @@ made_len (Some n) = length (made n)
 abbrev pub IsOverLimit : Limits → Option ℕ → ℕ → Option Pairs → ℕ → ℕ → Type 0
 IsOverLimit limits synth zero held before now = IsTaken held (config_limit limits + 1) before now
 IsOverLimit limits (Some n) (suc zero) held before now = ⊤
-IsOverLimit limits synth (suc k) held before now = IsTaken held (min (file_limit limits) (total_limit limits - made_len synth) + 1) before now
+IsOverLimit limits synth (suc k) held before now =
+    IsTaken held (min (file_limit limits) (total_limit limits - made_len synth) + 1) before now
 
 -- the same of words that come to this; words that are misused read no file
 abbrev pub IsOverLimitBy : Limits → Result Options UsageKind → ℕ → Option Pairs → ℕ → ℕ → Type 0

@@ -15,6 +15,7 @@ use Rattle.report_rows.specs.declared.row.RowTree.{RowTree}
 use Rattle.report_rows.specs.Paths.{ShowsPaths}
 use Rattle.report_rows.specs.Rows.{row_tree}
 use Rattle.report_rows.specs.Tables.{file_sum, under_path, vm_sum}
+use Rattle.report_rows.specs.Trees.{AddsUp}
 use Rattle.report_text.specs.Lines.{report_text}
 use Rattle.report_text.specs.Records.{csv_text, tsv_text}
 use Rattle.size_options.specs.declared.chosen.Options.{Options}
@@ -31,7 +32,8 @@ pub record AreSizes (filter : Option (List ℕ → Bool)) (depth : ℕ) (files :
   pub vm : (test : List (List ℕ) → Bool) → vm_where test rows ≡ sum_by (vm_size_where filter test) files
 
 -- the sizes of what stands under a path are those of the path over all files
-pub record CountsPath (filter : Option (List ℕ → Bool)) (files : List FileView) (rows : List RollupRow) (path : List (List ℕ)) : Type 0 where
+pub record CountsPath (filter : Option (List ℕ → Bool)) (files : List FileView) (rows : List RollupRow)
+    (path : List (List ℕ)) : Type 0 where
   pub file : file_sum (under_path path rows) ≡ file_size filter files path
   pub vm : vm_sum (under_path path rows) ≡ vm_size filter files path
 
@@ -63,7 +65,13 @@ TotalsAreWhole = (o : Options) (files : List FileView) (rows : List RollupRow)
 -- one of those.
 abbrev pub RowsShowFiles : Type 0
 RowsShowFiles = (o : Options) (files : List FileView) (rows : List RollupRow) → AreSizes (filter_test o.filter) (depth_of o) files rows
-    → ShowsPaths (row_options o) (vm_size (filter_test o.filter) files) (file_size (filter_test o.filter) files) (depth_of o) (report_tree o rows).rows
+    → ShowsPaths (row_options o) (vm_size (filter_test o.filter) files) (file_size (filter_test o.filter) files)
+    (depth_of o) (report_tree o rows).rows
+
+-- in a report of sizes each shown size adds up
+abbrev pub SizesAddUp : Type 0
+SizesAddUp = (o : Options) (files : List FileView) (rows : List RollupRow)
+    → AreSizes (filter_test o.filter) (depth_of o) files rows → AddsUp o.domain (report_tree o rows)
 
 abbrev pub printed_as : Format → Options → RowTree → List ℕ
 printed_as Text o tree = report_text tree o.domain o.wide

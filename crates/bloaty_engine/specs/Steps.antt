@@ -62,7 +62,8 @@ counted_batch limits sources files b = counted_from limits sources files b.first
 -- the files with these bytes were counted, or the run ended at one of them, or at a read that failed where the files before
 -- it were counted
 abbrev pub EndsFiles : Limits → List Chosen → Option (List ℕ → Bool) → Batch → (ℕ → List ℕ) → Result Totals Outcome → Type 0
-EndsFiles limits sources filter b files (Ok t) = (fs : List FileView) × (counted_batch limits sources files b ≡ Ok fs) × HasCounted filter (length sources) fs t
+EndsFiles limits sources filter b files (Ok t) =
+    (fs : List FileView) × (counted_batch limits sources files b ≡ Ok fs) × HasCounted filter (length sources) fs t
 EndsFiles limits sources filter b files (Err (ReadFailed i)) =
     (k : ℕ) × (i ≡ b.first + k) × (k < length b.names) × IsOk (counted_batch limits sources files (record b { names = take k b.names }))
 EndsFiles limits sources filter b files (Err NoMemory) = ⊤
@@ -72,6 +73,7 @@ EndsFiles limits sources filter b files (Err end) = counted_batch limits sources
 abbrev pub EndsPlan : List (List ℕ) → Option (List ℕ) → List CustomSource → List ℕ → Outcome → Type 0
 EndsPlan names filter customs last (UnknownSource i) = chosen_sources customs names ≡ Err i
 EndsPlan names filter customs last (PatternSyntax i) = IsOk (chosen_sources customs names) × StopsAt filter customs i IsNoPattern
-EndsPlan names filter customs last (PatternTooBig i) = IsOk (chosen_sources customs names) × StopsAt filter customs i (λ pattern. last ≡ pattern)
+EndsPlan names filter customs last (PatternTooBig i) =
+    IsOk (chosen_sources customs names) × StopsAt filter customs i (λ pattern. last ≡ pattern)
 EndsPlan names filter customs last NoMemory = Unit {0}
 EndsPlan names filter customs last end = ⊥

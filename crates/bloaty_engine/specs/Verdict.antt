@@ -89,11 +89,13 @@ if_viewed i (Err answer) = Err (end_at i answer)
 -- file i is within the limits, where the files before it have these lengths together
 abbrev pub if_short : {X : Type 0} → Limits → ℕ → ℕ → List ℕ → Result X Outcome → Result X Outcome
 if_short limits i lengths file next =
-    if nat_lt (file_limit limits) (length file) || nat_lt (total_limit limits) (lengths + length file) then Err (outcome.TooLong i) else next
+    if nat_lt (file_limit limits) (length file) || nat_lt (total_limit limits) (lengths + length file)
+    then Err (outcome.TooLong i) else next
 
 -- file i, where the files before it have these lengths and mapped sizes together
 unfoldable pub counted_file : Limits → List Chosen → ℕ → ℕ → ℕ → List ℕ → List ℕ → Result FileView Outcome
-counted_file limits sources i lengths mapped name file = if_short limits i lengths file (if_viewed i (viewed mapped limits.claims name file sources))
+counted_file limits sources i lengths mapped name file =
+    if_short limits i lengths file (if_viewed i (viewed mapped limits.claims name file sources))
 
 -- the files of these names, the first of which is file i, one after the other
 abbrev pub counted_from : Limits → List Chosen → (ℕ → List ℕ) → ℕ → ℕ → ℕ → List (List ℕ) → Result (List FileView) Outcome
@@ -170,7 +172,8 @@ explained_file limits sources o place name file =
 
 -- the first n of the files asked, and behind the last of them the first of the base files
 abbrev pub counted_files : Limits → List Chosen → (ℕ → List ℕ) → Options → ℕ → Result Sides Outcome
-counted_files limits sources files o n = counted_sides limits sources files (take n (file_names o)) (take (n - length (file_names o)) o.bases)
+counted_files limits sources files o n =
+    counted_sides limits sources files (take n (file_names o)) (take (n - length (file_names o)) o.bases)
 
 -- the name of the first file
 abbrev pub first_name : Options → List ℕ

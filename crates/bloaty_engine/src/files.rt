@@ -46,10 +46,13 @@ pub fn read_file<F: Files>(
     limit: u64,
 ) -> Result<Vec<u8>, Outcome>
     ensures found { (bytes : List ℕ) × IsHeld (F.held files.old) name.now bytes × Finds number limit bytes result }
-    ensures failed { IsErrOf result (Outcome.ReadFailed number) → Rose (F.faults files.old) (F.faults files.new) × IfSome (F.last_failed files.new) (λ n. n ≡ name.now) }
+    ensures failed { IsErrOf result (Outcome.ReadFailed number)
+        → Rose (F.faults files.old) (F.faults files.new) × IfSome (F.last_failed files.new) (λ n. n ≡ name.now) }
     ensures asked { F.asked files.new ≡ F.asked files.old ++ name.now ∷ [] }
-    ensures taken { IfOk result (λ v. IsTaken (F.held files.old) (length v.items) (F.taken files.old) (F.taken files.new)) }
-    ensures long { (i : ℕ) → IsErrOf result (Outcome.TooLong i) → (i ≡ number) × IsLonger (F.held files.old) name.now limit (F.taken files.old) (F.taken files.new) }
+    ensures taken { IfOk result
+        (λ v. IsTaken (F.held files.old) (length v.items) (F.taken files.old) (F.taken files.new)) }
+    ensures long { (i : ℕ) → IsErrOf result (Outcome.TooLong i)
+        → (i ≡ number) × IsLonger (F.held files.old) name.now limit (F.taken files.old) (F.taken files.new) }
     ensures more { F.taken files.old ≤ F.taken files.new }
     ensures held { F.held files.new ≡ F.held files.old }
     ensures later { F.faults files.old ≤ F.faults files.new }
@@ -139,14 +142,20 @@ pub fn count_files<F: Files>(
     requires numbers { before + length names.now < 2 ^ 64 }
     requires room { lengths.old ≤ total_limit limits.now }
     ensures counted { let batch = batch_of before lengths.old names.now in
-        (bytes : ℕ → List ℕ) × AreHeld (F.held files.old) batch.first batch.names bytes × EndsFiles limits.now plan.now.sources (filter_test plan.now.filter) batch bytes result }
+        (bytes : ℕ → List ℕ) × AreHeld (F.held files.old) batch.first batch.names bytes
+        × EndsFiles limits.now plan.now.sources (filter_test plan.now.filter) batch bytes result }
     ensures lengths { IfOk result (λ t. lengths.new ≡ lengths.old + t.lengths) }
     ensures room { lengths.new ≤ total_limit limits.now }
-    ensures failed { (k : ℕ) → IsErrOf result (Outcome.ReadFailed (before + 1 + k)) → Rose (F.faults files.old) (F.faults files.new) × IfSome (F.last_failed files.new) (λ n. slice_get names.now k ≡ Some n) }
+    ensures failed { (k : ℕ) → IsErrOf result (Outcome.ReadFailed (before + 1 + k))
+        → Rose (F.faults files.old) (F.faults files.new)
+        × IfSome (F.last_failed files.new) (λ n. slice_get names.now k ≡ Some n) }
     ensures asked { ReadsFirst (F.asked files.old) (F.asked files.new) names.now }
     ensures all { OnOk result (F.asked files.new ≡ F.asked files.old ++ names.now) }
     ensures taken { IfOk result (λ t. IsTaken (F.held files.old) t.lengths (F.taken files.old) (F.taken files.new)) }
-    ensures long { (i : ℕ) → IsErrOf result (Outcome.TooLong i) → (before < i) × IsTaken (F.held files.old) (min (file_limit limits.now) (total_limit limits.now - lengths.old) + 1) (F.taken files.old) (F.taken files.new) }
+    ensures long { (i : ℕ) → IsErrOf result (Outcome.TooLong i)
+        → (before < i)
+        × IsTaken (F.held files.old) (min (file_limit limits.now) (total_limit limits.now - lengths.old) + 1)
+        (F.taken files.old) (F.taken files.new) }
     ensures held { F.held files.new ≡ F.held files.old }
     ensures later { F.faults files.old ≤ F.faults files.new }
     ensures uncounted { ends_without is_failed_read result ≡ true → F.faults files.new ≡ F.faults files.old }
@@ -175,7 +184,8 @@ pub fn count_made(
     requires number { n ≤ 1_000_000 }
     requires few { length plan.now.sources ≤ 8 }
     requires none { lengths.old ≡ 0 }
-    ensures counted { EndsFiles limits.now plan.now.sources (filter_test plan.now.filter) (batch_of 0 0 (codes "synth" ∷ [])) (λ i. made n) result }
+    ensures counted { EndsFiles limits.now plan.now.sources (filter_test plan.now.filter)
+        (batch_of 0 0 (codes "synth" ∷ [])) (λ i. made n) result }
     ensures lengths { IfOk result (λ t. lengths.new ≡ t.lengths) }
     ensures made { OnOk result (lengths.new ≡ length (made n)) }
     ensures room { lengths.new ≤ total_limit limits.now }

@@ -77,11 +77,17 @@ pub fn growth_report<F: Files>(
     requires room { lengths.old ≤ total_limit limits.now }
     ensures counted { let batch = batch_of (length (file_names options.now)) lengths.old options.now.bases in
         (bytes : ℕ → List ℕ) × AreHeld (F.held files.old) batch.first batch.names bytes
-        × EndsGrowth limits.now plan.now.sources (filter_test plan.now.filter) batch bytes options.now total.now.rows result }
-    ensures failed { (k : ℕ) → IsErrOf result (Outcome.ReadFailed (length (file_names options.now) + 1 + k)) → Rose (F.faults files.old) (F.faults files.new) × IfSome (F.last_failed files.new) (λ n. slice_get options.now.bases k ≡ Some n) }
+        × EndsGrowth limits.now plan.now.sources (filter_test plan.now.filter)
+        batch bytes options.now total.now.rows result }
+    ensures failed { (k : ℕ) → IsErrOf result (Outcome.ReadFailed (length (file_names options.now) + 1 + k))
+        → Rose (F.faults files.old) (F.faults files.new)
+        × IfSome (F.last_failed files.new) (λ n. slice_get options.now.bases k ≡ Some n) }
     ensures asked { ReadsFirst (F.asked files.old) (F.asked files.new) options.now.bases }
     ensures all { OnOk result (F.asked files.new ≡ F.asked files.old ++ options.now.bases) }
-    ensures long { (i : ℕ) → IsErrOf result (Outcome.TooLong i) → (length (file_names options.now) < i) × IsTaken (F.held files.old) (min (file_limit limits.now) (total_limit limits.now - lengths.old) + 1) (F.taken files.old) (F.taken files.new) }
+    ensures long { (i : ℕ) → IsErrOf result (Outcome.TooLong i)
+        → (length (file_names options.now) < i)
+        × IsTaken (F.held files.old) (min (file_limit limits.now) (total_limit limits.now - lengths.old) + 1)
+        (F.taken files.old) (F.taken files.new) }
     ensures held { F.held files.new ≡ F.held files.old }
     ensures later { F.faults files.old ≤ F.faults files.new }
     ensures uncounted { ends_without is_failed_read result ≡ true → F.faults files.new ≡ F.faults files.old }

@@ -1,7 +1,7 @@
 //! What follows for the rows of a report, of sizes and of growth, and its totals.
 
 ghost use Rattle.bloaty_engine.specs.GrowthReport.{GrowthsAddUp, GrowthsCountPaths};
-ghost use Rattle.bloaty_engine.specs.Report.{RowsCountPaths, RowsShowFiles, TotalsAreWhole};
+ghost use Rattle.bloaty_engine.specs.Report.{RowsCountPaths, RowsShowFiles, SizesAddUp, TotalsAreWhole};
 
 /// A law: the sizes of the row of a path are the numbers of bytes and of mapped addresses whose paths begin with it.
 pub fn rows_count_paths()
@@ -18,6 +18,14 @@ pub fn rows_show_files()
 {
     rows_count_paths();
     report_rows::rows_show_paths();
+}
+
+/// A law: in a report of sizes the sizes of the first level's rows add up to the total, and those of the children of each
+/// row that has any to that of the row, for each size that is shown.
+pub fn sizes_add_up()
+    ensures { SizesAddUp }
+{
+    report_rows::shown_sizes_add_up();
 }
 
 /// A law: without a filter the totals of a report are the lengths of the files, and the numbers of addresses they map.

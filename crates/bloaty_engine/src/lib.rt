@@ -17,7 +17,8 @@ pub use file_profile::{
     PairAnswer, Plan, PlanAnswer, ProfileAnswer, plan, profile_file, profile_pair,
 };
 pub use laws::{
-    growths_add_up, growths_count_paths, rows_count_paths, rows_show_files, totals_are_whole,
+    growths_add_up, growths_count_paths, rows_count_paths, rows_show_files, sizes_add_up,
+    totals_are_whole,
 };
 pub use outcome::Outcome;
 pub use run::bloaty;

@@ -102,7 +102,8 @@ fn source_name(options: &Options, number: usize) -> &[u8]
 }
 
 fn tell_file<E: Sink>(err: &mut E, name: &[u8], text: &[u8]) -> Result<(), Failed>
-    ensures whole { OnOk result (Grew (E.written err.old) (E.written err.new) (codes "bloaty: " ++ name.now ++ codes ": " ++ text.now ++ codes "\n")) }
+    ensures whole { OnOk result (Grew (E.written err.old) (E.written err.new)
+        (codes "bloaty: " ++ name.now ++ codes ": " ++ text.now ++ codes "\n")) }
     ensures later { E.faults err.old ≤ E.faults err.new }
     ensures failed { OnErr result (Rose (E.faults err.old) (E.faults err.new)) }
 {
@@ -110,7 +111,9 @@ fn tell_file<E: Sink>(err: &mut E, name: &[u8], text: &[u8]) -> Result<(), Faile
 }
 
 fn tell_fault<E: Sink>(err: &mut E, name: &[u8], offset: u64, fault: &[u8]) -> Result<(), Failed>
-    ensures whole { OnOk result (Grew (E.written err.old) (E.written err.new) (codes "bloaty: " ++ name.now ++ codes ": offset " ++ decimal offset ++ codes ": " ++ fault.now ++ codes "\n")) }
+    ensures whole { OnOk result (Grew (E.written err.old) (E.written err.new)
+        (codes "bloaty: " ++ name.now ++ codes ": offset " ++ decimal offset
+        ++ codes ": " ++ fault.now ++ codes "\n")) }
     ensures later { E.faults err.old ≤ E.faults err.new }
     ensures failed { OnErr result (Rose (E.faults err.old) (E.faults err.new)) }
 {
@@ -129,7 +132,8 @@ fn write_config<E: Sink>(
     number: &[u8],
 ) -> Result<(), Failed>
     ensures whole { OnOk result (Grew (E.written err.old) (E.written err.new)
-        (codes "bloaty: " ++ name.now ++ codes ": offset " ++ offset.now ++ codes ": config fault " ++ number.now ++ codes "\n")) }
+        (codes "bloaty: " ++ name.now ++ codes ": offset " ++ offset.now
+        ++ codes ": config fault " ++ number.now ++ codes "\n")) }
     ensures later { E.faults err.old ≤ E.faults err.new }
     ensures failed { OnErr result (Rose (E.faults err.old) (E.faults err.new)) }
 {
@@ -154,7 +158,8 @@ fn tell_config<E: Sink>(
     kind: ConfigKind,
 ) -> Result<(), Failed>
     ensures whole { OnOk result (Grew (E.written err.old) (E.written err.new)
-        (codes "bloaty: " ++ name.now ++ codes ": offset " ++ decimal offset ++ codes ": config fault " ++ decimal (config_number kind) ++ codes "\n")) }
+        (codes "bloaty: " ++ name.now ++ codes ": offset " ++ decimal offset
+        ++ codes ": config fault " ++ decimal (config_number kind) ++ codes "\n")) }
     ensures later { E.faults err.old ≤ E.faults err.new }
     ensures failed { OnErr result (Rose (E.faults err.old) (E.faults err.new)) }
 {
@@ -186,7 +191,8 @@ fn tell_pattern<E: Sink>(err: &mut E, number: usize, text: &[u8]) -> Result<(), 
 
 /// Writes the line for words that are misused.
 pub fn tell_usage<E: Sink>(err: &mut E, kind: UsageKind) -> Result<(), Failed>
-    ensures whole { OnOk result (Grew (E.written err.old) (E.written err.new) (codes "bloaty: usage: " ++ usage_text kind ++ codes "\n")) }
+    ensures whole { OnOk result (Grew (E.written err.old) (E.written err.new)
+        (codes "bloaty: usage: " ++ usage_text kind ++ codes "\n")) }
     ensures later { E.faults err.old ≤ E.faults err.new }
     ensures failed { OnErr result (Rose (E.faults err.old) (E.faults err.new)) }
 {

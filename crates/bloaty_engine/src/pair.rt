@@ -97,10 +97,14 @@ fn read_first<F: Files>(
     limits: &Limits,
 ) -> Result<Vec<u8>, Outcome>
     ensures found { (bytes : List ℕ) × IsHeld (F.held files.old) name.now bytes × EndsFirst limits.now bytes result }
-    ensures failed { (k : ℕ) → IsErrOf result (Outcome.ReadFailed (k + 1)) → (k ≡ 0) × Rose (F.faults files.old) (F.faults files.new) × IfSome (F.last_failed files.new) (λ n. n ≡ name.now) }
+    ensures failed { (k : ℕ) → IsErrOf result (Outcome.ReadFailed (k + 1))
+        → (k ≡ 0) × Rose (F.faults files.old) (F.faults files.new)
+        × IfSome (F.last_failed files.new) (λ n. n ≡ name.now) }
     ensures asked { F.asked files.new ≡ F.asked files.old ++ name.now ∷ [] }
-    ensures taken { IfOk result (λ v. IsTaken (F.held files.old) (length v.items) (F.taken files.old) (F.taken files.new)) }
-    ensures long { (i : ℕ) → IsErrOf result (Outcome.TooLong i) → IsOverLimit limits.now None i (F.held files.old) (F.taken files.old) (F.taken files.new) }
+    ensures taken { IfOk result
+        (λ v. IsTaken (F.held files.old) (length v.items) (F.taken files.old) (F.taken files.new)) }
+    ensures long { (i : ℕ) → IsErrOf result (Outcome.TooLong i)
+        → IsOverLimit limits.now None i (F.held files.old) (F.taken files.old) (F.taken files.new) }
     ensures room { IfOk result (λ v. length v.items ≤ min (file_limit limits.now) (total_limit limits.now)) }
     ensures held { F.held files.new ≡ F.held files.old }
     ensures later { F.faults files.old ≤ F.faults files.new }
@@ -122,12 +126,16 @@ fn count_pair<F: Files>(
     limits: &Limits,
 ) -> Result<Rollup, Outcome>
     requires { length plan.now.sources ≤ 8 }
-    ensures counted { (own : List ℕ) × (other : List ℕ) × IsHeld (F.held files.old) name.now own × IsHeld (F.held files.old) debug.now other
+    ensures counted { (own : List ℕ) × (other : List ℕ) × IsHeld (F.held files.old) name.now own
+        × IsHeld (F.held files.old) debug.now other
         × EndsPair limits.now plan.now.sources (filter_test plan.now.filter) name.now own other result }
-    ensures failed { (k : ℕ) → IsErrOf result (Outcome.ReadFailed (k + 1)) → Rose (F.faults files.old) (F.faults files.new) × IfSome (F.last_failed files.new) (λ n. slice_get (name.now ∷ debug.now ∷ []) k ≡ Some n) }
+    ensures failed { (k : ℕ) → IsErrOf result (Outcome.ReadFailed (k + 1))
+        → Rose (F.faults files.old) (F.faults files.new)
+        × IfSome (F.last_failed files.new) (λ n. slice_get (name.now ∷ debug.now ∷ []) k ≡ Some n) }
     ensures asked { ReadsFirst (F.asked files.old) (F.asked files.new) (name.now ∷ debug.now ∷ []) }
     ensures all { OnOk result (F.asked files.new ≡ F.asked files.old ++ name.now ∷ debug.now ∷ []) }
-    ensures long { (i : ℕ) → IsErrOf result (Outcome.TooLong i) → IsOverLimit limits.now None i (F.held files.old) (F.taken files.old) (F.taken files.new) }
+    ensures long { (i : ℕ) → IsErrOf result (Outcome.TooLong i)
+        → IsOverLimit limits.now None i (F.held files.old) (F.taken files.old) (F.taken files.new) }
     ensures later { F.faults files.old ≤ F.faults files.new }
     ensures uncounted { ends_without is_failed_read result ≡ true → F.faults files.new ≡ F.faults files.old }
 {
@@ -155,10 +163,13 @@ pub fn pair_report<F: Files>(
     ensures found { (bytes : ℕ → List ℕ) × AreFiles (F.held files.old) options.now.synth options.now.files bytes
         × AreHeld (F.held files.old) (length (file_names options.now) + 1) (other_names options.now) bytes
         × EndsFinding limits.now plan.now.sources bytes options.now result }
-    ensures failed { (k : ℕ) → IsErrOf result (Outcome.ReadFailed (k + 1)) → Rose (F.faults files.old) (F.faults files.new) × IfSome (F.last_failed files.new) (λ n. name_at options.now (k + 1) ≡ Some n) }
+    ensures failed { (k : ℕ) → IsErrOf result (Outcome.ReadFailed (k + 1))
+        → Rose (F.faults files.old) (F.faults files.new)
+        × IfSome (F.last_failed files.new) (λ n. name_at options.now (k + 1) ≡ Some n) }
     ensures asked { ReadsFirst (F.asked files.old) (F.asked files.new) (files_to_read options.now) }
     ensures all { OnOk result (F.asked files.new ≡ F.asked files.old ++ files_to_read options.now) }
-    ensures long { (i : ℕ) → IsErrOf result (Outcome.TooLong i) → IsOverLimit limits.now options.now.synth i (F.held files.old) (F.taken files.old) (F.taken files.new) }
+    ensures long { (i : ℕ) → IsErrOf result (Outcome.TooLong i)
+        → IsOverLimit limits.now options.now.synth i (F.held files.old) (F.taken files.old) (F.taken files.new) }
     ensures later { F.faults files.old ≤ F.faults files.new }
     ensures uncounted { ends_without is_failed_read result ≡ true → F.faults files.new ≡ F.faults files.old }
 {

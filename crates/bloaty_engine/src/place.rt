@@ -65,10 +65,13 @@ fn only_file<F: Files>(
     requires one { IsOneInput options.now.synth options.now.files }
     ensures found { (bytes : ℕ → List ℕ) × AreFiles (F.held files.old) options.now.synth options.now.files bytes
         × Finds 1 (min (file_limit limits.now) (total_limit limits.now)) (bytes 1) result }
-    ensures failed { (k : ℕ) → IsErrOf result (Outcome.ReadFailed (k + 1)) → Rose (F.faults files.old) (F.faults files.new) × IfSome (F.last_failed files.new) (λ n. name_at options.now (k + 1) ≡ Some n) }
+    ensures failed { (k : ℕ) → IsErrOf result (Outcome.ReadFailed (k + 1))
+        → Rose (F.faults files.old) (F.faults files.new)
+        × IfSome (F.last_failed files.new) (λ n. name_at options.now (k + 1) ≡ Some n) }
     ensures unmade { (k : ℕ) → IsErrOf result (Outcome.ReadFailed (k + 1)) → IsUnmade options.now.synth k }
     ensures asked { F.asked files.new ≡ F.asked files.old ++ unmade_names options.now.synth options.now.files }
-    ensures long { (i : ℕ) → IsErrOf result (Outcome.TooLong i) → IsOverLimit limits.now options.now.synth i (F.held files.old) (F.taken files.old) (F.taken files.new) }
+    ensures long { (i : ℕ) → IsErrOf result (Outcome.TooLong i)
+        → IsOverLimit limits.now options.now.synth i (F.held files.old) (F.taken files.old) (F.taken files.new) }
     ensures later { F.faults files.old ≤ F.faults files.new }
     ensures uncounted { ends_without is_failed_read result ≡ true → F.faults files.new ≡ F.faults files.old }
 {
@@ -141,10 +144,13 @@ pub fn place_report<F: Files>(
     ensures found { (bytes : ℕ → List ℕ) × AreFiles (F.held files.old) options.now.synth options.now.files bytes
         × AreHeld (F.held files.old) (length (file_names options.now) + 1) (other_names options.now) bytes
         × EndsFinding limits.now plan.now.sources bytes options.now result }
-    ensures failed { (k : ℕ) → IsErrOf result (Outcome.ReadFailed (k + 1)) → Rose (F.faults files.old) (F.faults files.new) × IfSome (F.last_failed files.new) (λ n. name_at options.now (k + 1) ≡ Some n) }
+    ensures failed { (k : ℕ) → IsErrOf result (Outcome.ReadFailed (k + 1))
+        → Rose (F.faults files.old) (F.faults files.new)
+        × IfSome (F.last_failed files.new) (λ n. name_at options.now (k + 1) ≡ Some n) }
     ensures asked { ReadsFirst (F.asked files.old) (F.asked files.new) (files_to_read options.now) }
     ensures all { OnOk result (F.asked files.new ≡ F.asked files.old ++ files_to_read options.now) }
-    ensures long { (i : ℕ) → IsErrOf result (Outcome.TooLong i) → IsOverLimit limits.now options.now.synth i (F.held files.old) (F.taken files.old) (F.taken files.new) }
+    ensures long { (i : ℕ) → IsErrOf result (Outcome.TooLong i)
+        → IsOverLimit limits.now options.now.synth i (F.held files.old) (F.taken files.old) (F.taken files.new) }
     ensures later { F.faults files.old ≤ F.faults files.new }
     ensures uncounted { ends_without is_failed_read result ≡ true → F.faults files.new ≡ F.faults files.old }
 {

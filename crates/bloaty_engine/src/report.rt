@@ -48,15 +48,22 @@ fn total_of<F: Files>(
     requires numbers { length (file_names options.now) < 2 ^ 64 }
     requires none { lengths.old ≡ 0 }
     ensures counted { let batch = batch_of 0 0 (file_names options.now) in
-        (bytes : ℕ → List ℕ) × AreFiles (F.held files.old) options.now.synth options.now.files bytes × EndsFiles limits.now plan.now.sources (filter_test plan.now.filter) batch bytes result }
+        (bytes : ℕ → List ℕ) × AreFiles (F.held files.old) options.now.synth options.now.files bytes
+        × EndsFiles limits.now plan.now.sources (filter_test plan.now.filter) batch bytes result }
     ensures lengths { IfOk result (λ t. lengths.new ≡ t.lengths) }
     ensures room { lengths.new ≤ total_limit limits.now }
-    ensures failed { (k : ℕ) → IsErrOf result (Outcome.ReadFailed (k + 1)) → Rose (F.faults files.old) (F.faults files.new) × IfSome (F.last_failed files.new) (λ n. name_at options.now (k + 1) ≡ Some n) }
+    ensures failed { (k : ℕ) → IsErrOf result (Outcome.ReadFailed (k + 1))
+        → Rose (F.faults files.old) (F.faults files.new)
+        × IfSome (F.last_failed files.new) (λ n. name_at options.now (k + 1) ≡ Some n) }
     ensures unmade { (k : ℕ) → IsErrOf result (Outcome.ReadFailed (k + 1)) → IsUnmade options.now.synth k }
-    ensures asked { ReadsFirst (F.asked files.old) (F.asked files.new) (unmade_names options.now.synth options.now.files) }
-    ensures all { OnOk result (F.asked files.new ≡ F.asked files.old ++ unmade_names options.now.synth options.now.files) }
-    ensures taken { OnOk result (IsTaken (F.held files.old) (lengths.new - made_len options.now.synth) (F.taken files.old) (F.taken files.new)) }
-    ensures long { (i : ℕ) → IsErrOf result (Outcome.TooLong i) → IsOverLimit limits.now options.now.synth i (F.held files.old) (F.taken files.old) (F.taken files.new) }
+    ensures asked { ReadsFirst (F.asked files.old) (F.asked files.new)
+        (unmade_names options.now.synth options.now.files) }
+    ensures all { OnOk result (F.asked files.new
+        ≡ F.asked files.old ++ unmade_names options.now.synth options.now.files) }
+    ensures taken { OnOk result (IsTaken (F.held files.old) (lengths.new - made_len options.now.synth)
+        (F.taken files.old) (F.taken files.new)) }
+    ensures long { (i : ℕ) → IsErrOf result (Outcome.TooLong i)
+        → IsOverLimit limits.now options.now.synth i (F.held files.old) (F.taken files.old) (F.taken files.new) }
     ensures held { F.held files.new ≡ F.held files.old }
     ensures later { F.faults files.old ≤ F.faults files.new }
     ensures uncounted { ends_without is_failed_read result ≡ true → F.faults files.new ≡ F.faults files.old }
@@ -83,10 +90,15 @@ fn report_of_files<F: Files>(
     ensures counted { (bytes : ℕ → List ℕ) × AreFiles (F.held files.old) options.now.synth options.now.files bytes
         × AreHeld (F.held files.old) (length (file_names options.now) + 1) options.now.bases bytes
         × EndsCounting limits.now plan.now.sources bytes options.now result }
-    ensures failed { (k : ℕ) → IsErrOf result (Outcome.ReadFailed (k + 1)) → Rose (F.faults files.old) (F.faults files.new) × IfSome (F.last_failed files.new) (λ n. name_at options.now (k + 1) ≡ Some n) }
-    ensures asked { ReadsFirst (F.asked files.old) (F.asked files.new) (unmade_names options.now.synth options.now.files ++ options.now.bases) }
-    ensures all { OnOk result (F.asked files.new ≡ F.asked files.old ++ (unmade_names options.now.synth options.now.files ++ options.now.bases)) }
-    ensures long { (i : ℕ) → IsErrOf result (Outcome.TooLong i) → IsOverLimit limits.now options.now.synth i (F.held files.old) (F.taken files.old) (F.taken files.new) }
+    ensures failed { (k : ℕ) → IsErrOf result (Outcome.ReadFailed (k + 1))
+        → Rose (F.faults files.old) (F.faults files.new)
+        × IfSome (F.last_failed files.new) (λ n. name_at options.now (k + 1) ≡ Some n) }
+    ensures asked { ReadsFirst (F.asked files.old) (F.asked files.new)
+        (unmade_names options.now.synth options.now.files ++ options.now.bases) }
+    ensures all { OnOk result (F.asked files.new
+        ≡ F.asked files.old ++ (unmade_names options.now.synth options.now.files ++ options.now.bases)) }
+    ensures long { (i : ℕ) → IsErrOf result (Outcome.TooLong i)
+        → IsOverLimit limits.now options.now.synth i (F.held files.old) (F.taken files.old) (F.taken files.new) }
     ensures later { F.faults files.old ≤ F.faults files.new }
     ensures uncounted { ends_without is_failed_read result ≡ true → F.faults files.new ≡ F.faults files.old }
 {
@@ -116,10 +128,13 @@ fn report_over_files<F: Files>(
     ensures found { (bytes : ℕ → List ℕ) × AreFiles (F.held files.old) options.now.synth options.now.files bytes
         × AreHeld (F.held files.old) (length (file_names options.now) + 1) (other_names options.now) bytes
         × EndsFinding limits.now plan.now.sources bytes options.now result }
-    ensures failed { (k : ℕ) → IsErrOf result (Outcome.ReadFailed (k + 1)) → Rose (F.faults files.old) (F.faults files.new) × IfSome (F.last_failed files.new) (λ n. name_at options.now (k + 1) ≡ Some n) }
+    ensures failed { (k : ℕ) → IsErrOf result (Outcome.ReadFailed (k + 1))
+        → Rose (F.faults files.old) (F.faults files.new)
+        × IfSome (F.last_failed files.new) (λ n. name_at options.now (k + 1) ≡ Some n) }
     ensures asked { ReadsFirst (F.asked files.old) (F.asked files.new) (files_to_read options.now) }
     ensures all { OnOk result (F.asked files.new ≡ F.asked files.old ++ files_to_read options.now) }
-    ensures long { (i : ℕ) → IsErrOf result (Outcome.TooLong i) → IsOverLimit limits.now options.now.synth i (F.held files.old) (F.taken files.old) (F.taken files.new) }
+    ensures long { (i : ℕ) → IsErrOf result (Outcome.TooLong i)
+        → IsOverLimit limits.now options.now.synth i (F.held files.old) (F.taken files.old) (F.taken files.new) }
     ensures later { F.faults files.old ≤ F.faults files.new }
     ensures uncounted { ends_without is_failed_read result ≡ true → F.faults files.new ≡ F.faults files.old }
 {
@@ -143,10 +158,13 @@ fn report_of_kind<F: Files>(
     ensures found { (bytes : ℕ → List ℕ) × AreFiles (F.held files.old) options.now.synth options.now.files bytes
         × AreHeld (F.held files.old) (length (file_names options.now) + 1) (other_names options.now) bytes
         × EndsFinding limits.now plan.now.sources bytes options.now result }
-    ensures failed { (k : ℕ) → IsErrOf result (Outcome.ReadFailed (k + 1)) → Rose (F.faults files.old) (F.faults files.new) × IfSome (F.last_failed files.new) (λ n. name_at options.now (k + 1) ≡ Some n) }
+    ensures failed { (k : ℕ) → IsErrOf result (Outcome.ReadFailed (k + 1))
+        → Rose (F.faults files.old) (F.faults files.new)
+        × IfSome (F.last_failed files.new) (λ n. name_at options.now (k + 1) ≡ Some n) }
     ensures asked { ReadsFirst (F.asked files.old) (F.asked files.new) (files_to_read options.now) }
     ensures all { OnOk result (F.asked files.new ≡ F.asked files.old ++ files_to_read options.now) }
-    ensures long { (i : ℕ) → IsErrOf result (Outcome.TooLong i) → IsOverLimit limits.now options.now.synth i (F.held files.old) (F.taken files.old) (F.taken files.new) }
+    ensures long { (i : ℕ) → IsErrOf result (Outcome.TooLong i)
+        → IsOverLimit limits.now options.now.synth i (F.held files.old) (F.taken files.old) (F.taken files.new) }
     ensures later { F.faults files.old ≤ F.faults files.new }
     ensures uncounted { ends_without is_failed_read result ≡ true → F.faults files.new ≡ F.faults files.old }
 {
@@ -165,12 +183,17 @@ pub fn report<F: Files, P: Patterns>(
     limits: &Limits,
 ) -> Result<Vec<u8>, Outcome>
     requires { KeepsLimits options.now }
-    ensures run { (contents : Contents) × AreContents (F.held files.old) options.now contents × EndsReport limits.now options.now (P.last_refused patterns.new) contents result }
-    ensures failed { (i : ℕ) → IsErrOf result (Outcome.ReadFailed i) → Rose (F.faults files.old) (F.faults files.new) × IfSome (F.last_failed files.new) (λ n. name_at options.now i ≡ Some n) }
+    ensures run { (contents : Contents) × AreContents (F.held files.old) options.now contents
+        × EndsReport limits.now options.now (P.last_refused patterns.new) contents result }
+    ensures failed { (i : ℕ) → IsErrOf result (Outcome.ReadFailed i)
+        → Rose (F.faults files.old) (F.faults files.new)
+        × IfSome (F.last_failed files.new) (λ n. name_at options.now i ≡ Some n) }
     ensures asked { ReadsFirst (F.asked files.old) (F.asked files.new) (names_to_read options.now) }
     ensures all { OnOk result (F.asked files.new ≡ F.asked files.old ++ names_to_read options.now) }
-    ensures long { (i : ℕ) → IsErrOf result (Outcome.TooLong i) → IsOverLimit limits.now options.now.synth i (F.held files.old) (F.taken files.old) (F.taken files.new) }
-    ensures refused { (i : ℕ) → IsErrOf result (Outcome.PatternTooBig i) → P.refused patterns.old < P.refused patterns.new }
+    ensures long { (i : ℕ) → IsErrOf result (Outcome.TooLong i)
+        → IsOverLimit limits.now options.now.synth i (F.held files.old) (F.taken files.old) (F.taken files.new) }
+    ensures refused { (i : ℕ) → IsErrOf result (Outcome.PatternTooBig i)
+        → P.refused patterns.old < P.refused patterns.new }
     ensures read { ends_without is_failed_read result ≡ true → F.faults files.new ≡ F.faults files.old }
     ensures made { ends_without is_refused_pattern result ≡ true → P.refused patterns.new ≡ P.refused patterns.old }
 {

@@ -33,10 +33,14 @@ pub fn customs_of<F: Files>(
     files: &mut F,
     limits: &Limits,
 ) -> Result<Vec<CustomSource>, Outcome>
-    ensures read { (text : List ℕ) × IsText (F.held files.old) options.now.config text × EndsConfig limits.now options.now.config text result }
-    ensures failed { IsErrOf result (Outcome.ReadFailed 0) → Rose (F.faults files.old) (F.faults files.new) × IfSome (F.last_failed files.new) (λ n. options.now.config ≡ Some n) }
+    ensures read { (text : List ℕ) × IsText (F.held files.old) options.now.config text
+        × EndsConfig limits.now options.now.config text result }
+    ensures failed { IsErrOf result (Outcome.ReadFailed 0)
+        → Rose (F.faults files.old) (F.faults files.new)
+        × IfSome (F.last_failed files.new) (λ n. options.now.config ≡ Some n) }
     ensures asked { F.asked files.new ≡ F.asked files.old ++ config_names options.now.config }
-    ensures long { (i : ℕ) → IsErrOf result (Outcome.TooLong i) → IsOverLimit limits.now options.now.synth i (F.held files.old) (F.taken files.old) (F.taken files.new) }
+    ensures long { (i : ℕ) → IsErrOf result (Outcome.TooLong i)
+        → IsOverLimit limits.now options.now.synth i (F.held files.old) (F.taken files.old) (F.taken files.new) }
     ensures more { F.taken files.old ≤ F.taken files.new }
     ensures held { F.held files.new ≡ F.held files.old }
     ensures later { F.faults files.old ≤ F.faults files.new }
@@ -61,10 +65,13 @@ pub fn plan_of<P: Patterns>(
     patterns: &mut P,
 ) -> Result<Plan, Outcome>
     ensures plan { IfOk result (IsPlan options.now.sources options.now.filter customs.now) }
-    ensures ends { IfErr result (EndsPlan options.now.sources options.now.filter customs.now (P.last_refused patterns.new)) }
-    ensures refused { (i : ℕ) → IsErrOf result (Outcome.PatternTooBig i) → P.refused patterns.old < P.refused patterns.new }
+    ensures ends { IfErr result
+        (EndsPlan options.now.sources options.now.filter customs.now (P.last_refused patterns.new)) }
+    ensures refused { (i : ℕ) → IsErrOf result (Outcome.PatternTooBig i)
+        → P.refused patterns.old < P.refused patterns.new }
     ensures rises { P.refused patterns.old ≤ P.refused patterns.new }
-    ensures uncounted { ends_without is_refused_pattern result ≡ true → P.refused patterns.new ≡ P.refused patterns.old }
+    ensures uncounted { ends_without is_refused_pattern result ≡ true
+        → P.refused patterns.new ≡ P.refused patterns.old }
 {
     match plan(alloc, options, customs, patterns) {
         Ok(plan) => Ok(plan),

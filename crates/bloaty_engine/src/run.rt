@@ -46,11 +46,15 @@ fn answer<F: Files, P: Patterns, O: Sink>(
     limits: &Limits,
 ) -> Outcome
     requires { KeepsLimits options.now }
-    ensures run { (contents : Contents) × IsRun (F.held files.old) limits.now (Ok options.now) (P.last_refused patterns.new) (O.written out.old) (O.written out.new) result contents }
-    ensures failed { (i : ℕ) → (result ≡ Outcome.ReadFailed i) → Rose (F.faults files.old) (F.faults files.new) × IfSome (F.last_failed files.new) (λ n. name_at options.now i ≡ Some n) }
+    ensures run { (contents : Contents) × IsRun (F.held files.old) limits.now (Ok options.now)
+        (P.last_refused patterns.new) (O.written out.old) (O.written out.new) result contents }
+    ensures failed { (i : ℕ) → (result ≡ Outcome.ReadFailed i)
+        → Rose (F.faults files.old) (F.faults files.new)
+        × IfSome (F.last_failed files.new) (λ n. name_at options.now i ≡ Some n) }
     ensures asked { ReadsFirst (F.asked files.old) (F.asked files.new) (names_to_read options.now) }
     ensures all { (result ≡ Outcome.Done) → F.asked files.new ≡ F.asked files.old ++ names_to_read options.now }
-    ensures long { (i : ℕ) → (result ≡ Outcome.TooLong i) → IsOverLimit limits.now options.now.synth i (F.held files.old) (F.taken files.old) (F.taken files.new) }
+    ensures long { (i : ℕ) → (result ≡ Outcome.TooLong i)
+        → IsOverLimit limits.now options.now.synth i (F.held files.old) (F.taken files.old) (F.taken files.new) }
     ensures refused { (i : ℕ) → (result ≡ Outcome.PatternTooBig i) → P.refused patterns.old < P.refused patterns.new }
     ensures write_failed { (result ≡ Outcome.WriteFailed) → Rose (O.faults out.old) (O.faults out.new) }
     ensures read { is_failed_read result ≡ false → F.faults files.new ≡ F.faults files.old }
@@ -67,7 +71,8 @@ fn answer<F: Files, P: Patterns, O: Sink>(
 // Tells that the words are misused.
 fn misused<E: Sink>(err: &mut E, kind: UsageKind) -> Outcome
     ensures is { result ≡ Outcome.Usage kind }
-    ensures told { ¬ Rose (E.faults err.old) (E.faults err.new) → Grew (E.written err.old) (E.written err.new) (codes "bloaty: usage: " ++ usage_text kind ++ codes "\n") }
+    ensures told { ¬ Rose (E.faults err.old) (E.faults err.new)
+        → Grew (E.written err.old) (E.written err.new) (codes "bloaty: usage: " ++ usage_text kind ++ codes "\n") }
 {
     let _ = tell_usage(err, kind);
     Outcome::Usage(kind)
@@ -86,22 +91,30 @@ pub fn bloaty<F: Files, P: Patterns, O: Sink, E: Sink>(
 ) -> Outcome
     // The words, and the bytes that the files hold, decide the answer and what is written, but for the interruptions;
     // where they decide on a report and nothing interrupts the run, it is done.
-    ensures run { (contents : Contents) × IsRun (F.held files.old) limits.now (options_of (seen_words words.now)) (P.last_refused patterns.new) (O.written out.old) (O.written out.new) result contents
-        × (IsOk (verdict limits.now (options_of (seen_words words.now)) contents) → are_taken (seen_words words.now) ≡ true → ¬ Rose (F.faults files.old) (F.faults files.new)
-        → ¬ (P.refused patterns.old < P.refused patterns.new) → ¬ Rose (O.faults out.old) (O.faults out.new) → IsFinished result) }
+    ensures run { (contents : Contents) × IsRun (F.held files.old) limits.now (options_of (seen_words words.now))
+        (P.last_refused patterns.new) (O.written out.old) (O.written out.new) result contents
+        × (IsOk (verdict limits.now (options_of (seen_words words.now)) contents)
+        → are_taken (seen_words words.now) ≡ true → ¬ Rose (F.faults files.old) (F.faults files.new)
+        → ¬ (P.refused patterns.old < P.refused patterns.new) → ¬ Rose (O.faults out.old) (O.faults out.new)
+        → IsFinished result) }
 
     // No name is read but that of the configuration, if the words name one, and then those of the files, each once and
     // in order, as far as the run comes; a run that is done has read them all. A made file isn't read.
     ensures asked { ReadsFirst (F.asked files.old) (F.asked files.new) (names_by (options_of (seen_words words.now))) }
-    ensures all { (result ≡ Outcome.Done) → F.asked files.new ≡ F.asked files.old ++ names_by (options_of (seen_words words.now)) }
+    ensures all { (result ≡ Outcome.Done)
+        → F.asked files.new ≡ F.asked files.old ++ names_by (options_of (seen_words words.now)) }
 
     // A file is called too long only where more bytes were taken than it may have, also where the files don't tell what
     // they hold.
-    ensures long { (i : ℕ) → (result ≡ Outcome.TooLong i) → IsOverLimitBy limits.now (options_of (seen_words words.now)) i (F.held files.old) (F.taken files.old) (F.taken files.new) }
+    ensures long { (i : ℕ) → (result ≡ Outcome.TooLong i)
+        → IsOverLimitBy limits.now (options_of (seen_words words.now)) i
+        (F.held files.old) (F.taken files.old) (F.taken files.new) }
 
     // Each interruption has its cause.
     ensures words { (result ≡ Outcome.Usage UsageKind.Words) → are_taken (seen_words words.now) ≡ false }
-    ensures failed { (i : ℕ) → (result ≡ Outcome.ReadFailed i) → Rose (F.faults files.old) (F.faults files.new) × IfSome (F.last_failed files.new) (λ n. n ≡ file_name (options_of (seen_words words.now)) i) }
+    ensures failed { (i : ℕ) → (result ≡ Outcome.ReadFailed i)
+        → Rose (F.faults files.old) (F.faults files.new)
+        × IfSome (F.last_failed files.new) (λ n. n ≡ file_name (options_of (seen_words words.now)) i) }
     ensures refused { (i : ℕ) → (result ≡ Outcome.PatternTooBig i) → P.refused patterns.old < P.refused patterns.new }
     ensures write_failed { (result ≡ Outcome.WriteFailed) → Rose (O.faults out.old) (O.faults out.new) }
 
@@ -111,7 +124,8 @@ pub fn bloaty<F: Files, P: Patterns, O: Sink, E: Sink>(
     ensures wrote { (result ≢ Outcome.WriteFailed) → O.faults out.new ≡ O.faults out.old }
 
     // The line of the outcome.
-    ensures told { ¬ Rose (E.faults err.old) (E.faults err.new) → Grew (E.written err.old) (E.written err.new) (line_of (options_of (seen_words words.now)) result) }
+    ensures told { ¬ Rose (E.faults err.old) (E.faults err.new)
+        → Grew (E.written err.old) (E.written err.new) (line_of (options_of (seen_words words.now)) result) }
     ensures silent { (result ≡ Outcome.Done) → E.written err.new ≡ E.written err.old }
 {
     match options(alloc, words) {

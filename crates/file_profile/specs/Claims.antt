@@ -27,7 +27,9 @@ of_file i (Ok x) = Ok x
 of_file i (Err bad) = Err (Bad i bad)
 
 -- claims, and others behind them, or the first fault
-abbrev pub followed_by : Result (List LabelledClaim) OpenedAnswer → Result (List LabelledClaim) OpenedAnswer → Result (List LabelledClaim) OpenedAnswer
+abbrev pub followed_by : Result (List LabelledClaim) OpenedAnswer
+    → Result (List LabelledClaim) OpenedAnswer
+    → Result (List LabelledClaim) OpenedAnswer
 followed_by (Ok first) (Ok others) = Ok (first ++ others)
 followed_by (Ok first) (Err answer) = Err answer
 followed_by (Err answer) others = Err answer
@@ -50,7 +52,8 @@ before_said x (Err answer) = Err answer
 
 -- a data source's fault, or that it has more claims than the limit, or what is said of them and then of others within the
 -- rest of the limit
-abbrev pub said_after : {X : Type 0} → ℕ → (List LabelledClaim → X) → (ℕ → Result (List X) OpenedAnswer) → Result (List LabelledClaim) OpenedAnswer → Result (List X) OpenedAnswer
+abbrev pub said_after : {X : Type 0} → ℕ → (List LabelledClaim → X) → (ℕ → Result (List X) OpenedAnswer)
+    → Result (List LabelledClaim) OpenedAnswer → Result (List X) OpenedAnswer
 said_after limit say others (Err answer) = Err answer
 said_after limit say others (Ok claims) =
     if nat_lt limit (length claims) then Err TooManyClaims else before_said (say claims) (others (limit - length claims))

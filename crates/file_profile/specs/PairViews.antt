@@ -32,17 +32,20 @@ if_pair binary debug said = if is_pair binary debug then said else Err NoMatch
 
 -- what is said of a file and its debug file, or the first fault of each, or that they don't belong together
 abbrev pub if_matched : List ℕ → List ℕ → (Binary → Binary → Result FileView PairAnswer) → Result FileView PairAnswer
-if_matched file debug say = if_opened_as 1 (opened file) (λ binary. if_opened_as 2 (opened debug) (λ other. if_pair binary other (say binary other)))
+if_matched file debug say = if_opened_as 1 (opened file)
+    (λ binary. if_opened_as 2 (opened debug) (λ other. if_pair binary other (say binary other)))
 
 -- the file of this name as its data sources show it with its debug file, or the first fault of the two files, that they
 -- don't belong together, the first fault of a data source, or the claims over the limit
 abbrev pub pair_view : ℕ → List ℕ → List ℕ → List ℕ → List Chosen → Result FileView PairAnswer
-pair_view limit name file debug sources = if_matched file debug (λ binary other. refused_as of_file_pair (opened_view limit (paired name binary other) sources))
+pair_view limit name file debug sources = if_matched file debug
+    (λ binary other. refused_as of_file_pair (opened_view limit (paired name binary other) sources))
 
 -- the file of this name as its sizes are counted with its debug file, where the files before it have this mapped size, or
 -- why it isn't
 unfoldable pub pair_viewed : ℕ → ℕ → List ℕ → List ℕ → List ℕ → List Chosen → Result FileView PairAnswer
-pair_viewed mapped limit name file debug sources = if_matched file debug (λ binary other. refused_as of_file_pair (opened_viewed mapped limit (paired name binary other) sources))
+pair_viewed mapped limit name file debug sources = if_matched file debug
+    (λ binary other. refused_as of_file_pair (opened_viewed mapped limit (paired name binary other) sources))
 
 -- a call that went well or failed answers so; want of memory is free
 abbrev pub PairAnswers : {X : Type 0} → Result (Unit {0}) PairAnswer → Result X PairAnswer → Type 0

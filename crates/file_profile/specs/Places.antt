@@ -44,14 +44,17 @@ pub record IsSaid (limit : ℕ) (place : Place) (shown : ℕ) (base : Source) (f
   pub are : claims_on f base ≡ Ok made
   pub few : length made ≤ limit
   pub count : s.claims ≡ length made
-  pub said : s.explained ≡ explained (length (bytes_of f.binary)) (loads_of f.binary) place shown (record { claims = made; unmapped = unmapped })
+  pub said : s.explained
+      ≡ explained (length (bytes_of f.binary)) (loads_of f.binary) place shown (record { claims = made; unmapped = unmapped })
 
 -- what data sources say of a place of an opened file, one after the other; all their claims are at most the limit
 abbrev pub places_said : ℕ → Place → ℕ → OpenedFile → List (List ℕ × Chosen) → Result (List PlaceSource) OpenedAnswer
-places_said limit place shown f asked = said_of (λ (a : List ℕ × Chosen). a.1.base) (place_said (view_of f.binary []) place shown) limit f asked
+places_said limit place shown f asked =
+    said_of (λ (a : List ℕ × Chosen). a.1.base) (place_said (view_of f.binary []) place shown) limit f asked
 
 -- a file's first fault comes before what is said of the opened one
-abbrev pub if_opened_for_place : Result Binary BadFile → (Binary → Result (List PlaceSource) PlaceAnswer) → Result (List PlaceSource) PlaceAnswer
+abbrev pub if_opened_for_place : Result Binary BadFile → (Binary → Result (List PlaceSource) PlaceAnswer)
+    → Result (List PlaceSource) PlaceAnswer
 if_opened_for_place (Ok binary) say = say binary
 if_opened_for_place (Err bad) say = Err (Bad bad)
 
@@ -71,12 +74,14 @@ if_countable binary (Ok said) = if nat_lt (2 ^ 63 - 1) (mapped_count (loads_of b
 -- what data sources say of a place of an opened file, or why they don't: the place is outside it, or the first fault of a
 -- data source, or the claims over the limit, or the mapped size
 unfoldable pub opened_explained : ℕ → ℕ → Place → OpenedFile → List (List ℕ × Chosen) → Result (List PlaceSource) PlaceAnswer
-opened_explained limit shown place f asked = if_inside f.binary place (if_countable f.binary (refused_as of_file_place (places_said limit place shown f asked)))
+opened_explained limit shown place f asked =
+    if_inside f.binary place (if_countable f.binary (refused_as of_file_place (places_said limit place shown f asked)))
 
 -- What data sources say of a place of the file of this name, one after the other, each with the first `shown` claims behind
 -- the one that gives the label, or all where that is 0; or why they don't. All their claims are at most the limit.
 unfoldable pub explained_place : ℕ → ℕ → Place → List ℕ → List ℕ → List (List ℕ × Chosen) → Result (List PlaceSource) PlaceAnswer
-explained_place limit shown place name file asked = if_opened_for_place (opened file) (λ binary. opened_explained limit shown place (alone name binary) asked)
+explained_place limit shown place name file asked = if_opened_for_place (opened file)
+    (λ binary. opened_explained limit shown place (alone name binary) asked)
 
 -- a call that went well says so, and one that failed answers so; want of memory is free
 abbrev pub Explains : Result (Vec PlaceSource Global) PlaceAnswer → Result (List PlaceSource) PlaceAnswer → Type 0

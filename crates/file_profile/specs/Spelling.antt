@@ -25,7 +25,8 @@ HasText pool label text = (n : ℕ) × (label ≡ Some n) × (slice_get pool n �
 -- each byte has the label in the maps that a data source gives it
 pub record Spells (layout : Layout) (pool : List (List ℕ)) (m : Maps) (s : SourceView) : Type 0 where
   pub file : (o : ℕ) → o < layout.len → HasText pool (label_in m.file o) (label_of_offset (file_at layout []) o s)
-  pub vm : (p : ℕ) → is_mapped layout.loads p ≡ true → HasText pool (label_in m.vm p) (label_of_address (file_at layout []) (space_of p) (address_of p) s)
+  pub vm : (p : ℕ) → is_mapped layout.loads p ≡ true
+      → HasText pool (label_in m.vm p) (label_of_address (file_at layout []) (space_of p) (address_of p) s)
 
 -- the same of each pair of maps and its data source
 abbrev pub AllSpell : Layout → List (List ℕ) → List Maps → List SourceView → Type 0
@@ -46,7 +47,8 @@ pub record IsMapped (limit : ℕ) (layout : Layout) (chosen : Chosen) (f : Opene
   pub pieces : length m.maps.file + length m.maps.vm ≤ piece_bound (length layout.loads) (length made)
 
 -- these are the maps of what data sources say of it
-pub record AreMapped (limit : ℕ) (layout : Layout) (sources : List Chosen) (f : OpenedFile) (pool : List (List ℕ)) (maps : List Maps) : Type 0 where
+pub record AreMapped (limit : ℕ) (layout : Layout) (sources : List Chosen) (f : OpenedFile)
+    (pool : List (List ℕ)) (maps : List Maps) : Type 0 where
   pub views : List SourceView
   pub are : views_of limit f sources ≡ Ok views
   pub spell : AllSpell layout pool maps views

@@ -55,11 +55,13 @@ if_opened (Err bad) say = Err (Bad bad)
 
 -- the file of this name as its data sources show it, or the first fault, or the claims over the limit
 abbrev pub file_view : ℕ → List ℕ → List ℕ → List Chosen → Result FileView ProfileAnswer
-file_view limit name file sources = if_opened (opened file) (λ binary. refused_as of_file_alone (opened_view limit (alone name binary) sources))
+file_view limit name file sources = if_opened (opened file)
+    (λ binary. refused_as of_file_alone (opened_view limit (alone name binary) sources))
 
 -- the file of this name as its sizes are counted, where the files before it have this mapped size, or why it isn't
 unfoldable pub viewed : ℕ → ℕ → List ℕ → List ℕ → List Chosen → Result FileView ProfileAnswer
-viewed mapped limit name file sources = if_opened (opened file) (λ binary. refused_as of_file_alone (opened_viewed mapped limit (alone name binary) sources))
+viewed mapped limit name file sources = if_opened (opened file)
+    (λ binary. refused_as of_file_alone (opened_viewed mapped limit (alone name binary) sources))
 
 -- a call that went well or failed answers so; want of memory is free
 abbrev pub Answers : {X : Type 0} → Result (Unit {0}) ProfileAnswer → Result X ProfileAnswer → Type 0

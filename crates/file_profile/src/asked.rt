@@ -60,7 +60,11 @@ impl Model for Plan {
 
     ghost Value = { Plans };
 
-    ghost view = { λ p. record { sources = map (chosen_in p.rewrites.items) p.choices.items; customs = p.rewrites.items; filter = p.filter } };
+    ghost view = { λ p. record {
+      sources = map (chosen_in p.rewrites.items) p.choices.items;
+      customs = p.rewrites.items;
+      filter = p.filter;
+    } };
 
     ghost invariant = { λ p. All (IsChoice (length p.rewrites.items)) p.choices.items };
 }
@@ -73,7 +77,11 @@ impl Plan {
         filter: Option<LabelPattern>,
     ) -> Plan
         requires { All (IsChoice (length rewrites.items)) choices.items }
-        ensures { result ≡ record { sources = map (chosen_in rewrites.items) choices.items; customs = rewrites.items; filter = filter } }
+        ensures { result ≡ record {
+          sources = map (chosen_in rewrites.items) choices.items;
+          customs = rewrites.items;
+          filter = filter;
+        } }
     {
         Plan {
             choices,

@@ -47,7 +47,8 @@ fn rewritten_numbers(
     labels: &LabelPool,
     pool: &mut LabelPool,
 ) -> Result<Vec<usize>, NoMemory>
-    ensures numbers { IfOk result (λ v. IsRenumbering (λ label. rewritten label rewrites.now) labels.now pool.new v.items) }
+    ensures numbers { IfOk result
+        (λ v. IsRenumbering (λ label. rewritten label rewrites.now) labels.now pool.new v.items) }
     ensures kept { KeepsLabels pool.old pool.new }
 {
     let mut rewriter = rewrites.rewriter()?;
@@ -77,11 +78,14 @@ fn own_claims(
     pool: &mut LabelPool,
     limit: u64,
 ) -> Result<Vec<Claim>, OpenedAnswer>
-    ensures claims { IfOk result (λ v. claims_of source subject.now.name subject.now.binary ≡ Ok (texts pool.new v.items)) }
+    ensures claims { IfOk result (λ v. claims_of source subject.now.name subject.now.binary
+        ≡ Ok (texts pool.new v.items)) }
     ensures numbered { IfOk result (λ v. AreNumbered pool.new v.items) }
     ensures few { IfOk result (λ v. length v.items ≤ limit) }
-    ensures many { IsErrOf result OpenedAnswer.TooManyClaims → IsOkAnd (claims_of source subject.now.name subject.now.binary) (λ made. limit < length made) }
-    ensures bad { (i : ℕ) (bad : BadFileSpec) → IsErrOf result (OpenedAnswer.Bad i bad) → (i ≡ 1) × (claims_of source subject.now.name subject.now.binary ≡ Err bad) }
+    ensures many { IsErrOf result OpenedAnswer.TooManyClaims
+        → IsOkAnd (claims_of source subject.now.name subject.now.binary) (λ made. limit < length made) }
+    ensures bad { (i : ℕ) (bad : BadFileSpec) → IsErrOf result (OpenedAnswer.Bad i bad)
+        → (i ≡ 1) × (claims_of source subject.now.name subject.now.binary ≡ Err bad) }
     ensures large { IsErrOf result OpenedAnswer.MappedTooLarge → ⊥ }
     ensures kept { KeepsLabels pool.old pool.new }
 {
@@ -99,7 +103,8 @@ fn past_limit(
     pool: &mut LabelPool,
 ) -> OpenedAnswer
     ensures many { result ≡ OpenedAnswer.TooManyClaims → IsOk (claims_of source subject.now.name subject.now.binary) }
-    ensures bad { (i : ℕ) (bad : BadFileSpec) → result ≡ OpenedAnswer.Bad i bad → (i ≡ 1) × (claims_of source subject.now.name subject.now.binary ≡ Err bad) }
+    ensures bad { (i : ℕ) (bad : BadFileSpec) → result ≡ OpenedAnswer.Bad i bad
+        → (i ≡ 1) × (claims_of source subject.now.name subject.now.binary ≡ Err bad) }
     ensures large { result ≡ OpenedAnswer.MappedTooLarge → ⊥ }
     ensures kept { KeepsLabels pool.old pool.new }
 {
@@ -121,8 +126,10 @@ fn shown_claims(
     ensures claims { IfOk result (λ v. debug_claims_of source debug.now ≡ Ok (texts pool.new v.items)) }
     ensures numbered { IfOk result (λ v. AreNumbered pool.new v.items) }
     ensures few { IfOk result (λ v. length v.items ≤ limit) }
-    ensures many { IsErrOf result OpenedAnswer.TooManyClaims → IsOkAnd (claims_beside source subject.now.name subject.now.binary debug.now) (λ made. limit < length made) }
-    ensures bad { (i : ℕ) (bad : BadFileSpec) → IsErrOf result (OpenedAnswer.Bad i bad) → claims_beside source subject.now.name subject.now.binary debug.now ≡ Err (Bad i bad) }
+    ensures many { IsErrOf result OpenedAnswer.TooManyClaims
+        → IsOkAnd (claims_beside source subject.now.name subject.now.binary debug.now) (λ made. limit < length made) }
+    ensures bad { (i : ℕ) (bad : BadFileSpec) → IsErrOf result (OpenedAnswer.Bad i bad)
+        → claims_beside source subject.now.name subject.now.binary debug.now ≡ Err (Bad i bad) }
     ensures large { IsErrOf result OpenedAnswer.MappedTooLarge → ⊥ }
     ensures kept { KeepsLabels pool.old pool.new }
 {
@@ -153,11 +160,14 @@ fn claims_beside(
     pool: &mut LabelPool,
     limit: u64,
 ) -> Result<Vec<Claim>, OpenedAnswer>
-    ensures claims { IfOk result (λ v. claims_beside source subject.now.name subject.now.binary debug.now ≡ Ok (texts pool.new v.items)) }
+    ensures claims { IfOk result (λ v. claims_beside source subject.now.name subject.now.binary debug.now
+        ≡ Ok (texts pool.new v.items)) }
     ensures numbered { IfOk result (λ v. AreNumbered pool.new v.items) }
     ensures few { IfOk result (λ v. length v.items ≤ limit) }
-    ensures many { IsErrOf result OpenedAnswer.TooManyClaims → IsOkAnd (claims_beside source subject.now.name subject.now.binary debug.now) (λ made. limit < length made) }
-    ensures bad { (i : ℕ) (bad : BadFileSpec) → IsErrOf result (OpenedAnswer.Bad i bad) → claims_beside source subject.now.name subject.now.binary debug.now ≡ Err (Bad i bad) }
+    ensures many { IsErrOf result OpenedAnswer.TooManyClaims
+        → IsOkAnd (claims_beside source subject.now.name subject.now.binary debug.now) (λ made. limit < length made) }
+    ensures bad { (i : ℕ) (bad : BadFileSpec) → IsErrOf result (OpenedAnswer.Bad i bad)
+        → claims_beside source subject.now.name subject.now.binary debug.now ≡ Err (Bad i bad) }
     ensures large { IsErrOf result OpenedAnswer.MappedTooLarge → ⊥ }
     ensures kept { KeepsLabels pool.old pool.new }
 {
@@ -177,8 +187,10 @@ fn all_claims(
     ensures claims { IfOk result (λ v. claims_on subject.now source ≡ Ok (texts pool.new v.items)) }
     ensures numbered { IfOk result (λ v. AreNumbered pool.new v.items) }
     ensures few { IfOk result (λ v. length v.items ≤ limit) }
-    ensures many { IsErrOf result OpenedAnswer.TooManyClaims → IsOkAnd (claims_on subject.now source) (λ made. limit < length made) }
-    ensures bad { (i : ℕ) (bad : BadFileSpec) → IsErrOf result (OpenedAnswer.Bad i bad) → claims_on subject.now source ≡ Err (Bad i bad) }
+    ensures many { IsErrOf result OpenedAnswer.TooManyClaims
+        → IsOkAnd (claims_on subject.now source) (λ made. limit < length made) }
+    ensures bad { (i : ℕ) (bad : BadFileSpec) → IsErrOf result (OpenedAnswer.Bad i bad)
+        → claims_on subject.now source ≡ Err (Bad i bad) }
     ensures large { IsErrOf result OpenedAnswer.MappedTooLarge → ⊥ }
     ensures kept { KeepsLabels pool.old pool.new }
 {
@@ -197,8 +209,10 @@ pub(crate) fn built_in(
     limit: u64,
 ) -> Result<Numbered, OpenedAnswer>
     ensures says { IfOk result (Says limit (record { base = source; rewrites = [] }) subject.now pool.new) }
-    ensures many { IsErrOf result OpenedAnswer.TooManyClaims → IsOkAnd (claims_on subject.now source) (λ made. limit < length made) }
-    ensures bad { (i : ℕ) (bad : BadFileSpec) → IsErrOf result (OpenedAnswer.Bad i bad) → claims_on subject.now source ≡ Err (Bad i bad) }
+    ensures many { IsErrOf result OpenedAnswer.TooManyClaims
+        → IsOkAnd (claims_on subject.now source) (λ made. limit < length made) }
+    ensures bad { (i : ℕ) (bad : BadFileSpec) → IsErrOf result (OpenedAnswer.Bad i bad)
+        → claims_on subject.now source ≡ Err (Bad i bad) }
     ensures large { IsErrOf result OpenedAnswer.MappedTooLarge → ⊥ }
     ensures kept { KeepsLabels pool.old pool.new }
 {
@@ -217,8 +231,10 @@ fn custom(
     limit: u64,
 ) -> Result<Numbered, OpenedAnswer>
     ensures says { IfOk result (Says limit (record { base = base; rewrites = rewrites.now }) subject.now pool.new) }
-    ensures many { IsErrOf result OpenedAnswer.TooManyClaims → IsOkAnd (claims_on subject.now base) (λ made. limit < length made) }
-    ensures bad { (i : ℕ) (bad : BadFileSpec) → IsErrOf result (OpenedAnswer.Bad i bad) → claims_on subject.now base ≡ Err (Bad i bad) }
+    ensures many { IsErrOf result OpenedAnswer.TooManyClaims
+        → IsOkAnd (claims_on subject.now base) (λ made. limit < length made) }
+    ensures bad { (i : ℕ) (bad : BadFileSpec) → IsErrOf result (OpenedAnswer.Bad i bad)
+        → claims_on subject.now base ≡ Err (Bad i bad) }
     ensures large { IsErrOf result OpenedAnswer.MappedTooLarge → ⊥ }
     ensures kept { KeepsLabels pool.old pool.new }
 {
@@ -240,9 +256,13 @@ pub fn claims_by_number(
     limit: u64,
 ) -> Result<Numbered, OpenedAnswer>
     requires { i < length plan.now.sources }
-    ensures says { IfOk result (λ n. IfSome (slice_get plan.now.sources i) (λ chosen. Says limit chosen subject.now pool.new n)) }
-    ensures many { IsErrOf result OpenedAnswer.TooManyClaims → IfSome (slice_get plan.now.sources i) (λ chosen. IsOkAnd (claims_on subject.now chosen.base) (λ made. limit < length made)) }
-    ensures bad { (k : ℕ) (bad : BadFileSpec) → IsErrOf result (OpenedAnswer.Bad k bad) → IfSome (slice_get plan.now.sources i) (λ chosen. claims_on subject.now chosen.base ≡ Err (Bad k bad)) }
+    ensures says { IfOk result (λ n. IfSome (slice_get plan.now.sources i)
+        (λ chosen. Says limit chosen subject.now pool.new n)) }
+    ensures many { IsErrOf result OpenedAnswer.TooManyClaims
+        → IfSome (slice_get plan.now.sources i)
+        (λ chosen. IsOkAnd (claims_on subject.now chosen.base) (λ made. limit < length made)) }
+    ensures bad { (k : ℕ) (bad : BadFileSpec) → IsErrOf result (OpenedAnswer.Bad k bad)
+        → IfSome (slice_get plan.now.sources i) (λ chosen. claims_on subject.now chosen.base ≡ Err (Bad k bad)) }
     ensures large { IsErrOf result OpenedAnswer.MappedTooLarge → ⊥ }
     ensures kept { KeepsLabels pool.old pool.new }
 {

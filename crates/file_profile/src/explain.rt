@@ -36,8 +36,10 @@ fn said_in(
 ) -> Result<Said, OpenedAnswer>
     requires inside { IsTrue (is_in subject.now.binary place.now) }
     ensures said { IfOk result (IsSaid limit place.now shown base subject.now) }
-    ensures many { IsErrOf result OpenedAnswer.TooManyClaims → IsOkAnd (claims_on subject.now base) (λ made. limit < length made) }
-    ensures bad { (k : ℕ) (bad : BadFileSpec) → IsErrOf result (OpenedAnswer.Bad k bad) → claims_on subject.now base ≡ Err (Bad k bad) }
+    ensures many { IsErrOf result OpenedAnswer.TooManyClaims
+        → IsOkAnd (claims_on subject.now base) (λ made. limit < length made) }
+    ensures bad { (k : ℕ) (bad : BadFileSpec) → IsErrOf result (OpenedAnswer.Bad k bad)
+        → claims_on subject.now base ≡ Err (Bad k bad) }
     ensures large { IsErrOf result OpenedAnswer.MappedTooLarge → ⊥ }
 {
     let made = built_in(alloc, subject, base, pool, limit)?;
@@ -66,8 +68,10 @@ fn said_by(
 ) -> Result<Said, OpenedAnswer>
     requires inside { IsTrue (is_in subject.now.binary place.now) }
     ensures said { IfOk result (IsSaid limit place.now shown base subject.now) }
-    ensures many { IsErrOf result OpenedAnswer.TooManyClaims → IsOkAnd (claims_on subject.now base) (λ made. limit < length made) }
-    ensures bad { (k : ℕ) (bad : BadFileSpec) → IsErrOf result (OpenedAnswer.Bad k bad) → claims_on subject.now base ≡ Err (Bad k bad) }
+    ensures many { IsErrOf result OpenedAnswer.TooManyClaims
+        → IsOkAnd (claims_on subject.now base) (λ made. limit < length made) }
+    ensures bad { (k : ℕ) (bad : BadFileSpec) → IsErrOf result (OpenedAnswer.Bad k bad)
+        → claims_on subject.now base ≡ Err (Bad k bad) }
     ensures large { IsErrOf result OpenedAnswer.MappedTooLarge → ⊥ }
 {
     let mut pool = LabelPool::new(alloc);
@@ -77,7 +81,8 @@ fn said_by(
 // A label, rewritten by data source `i` of the plan.
 fn rewritten_label(alloc: Global, plan: &Plan, i: usize, label: Bytes) -> Result<Bytes, NoMemory>
     requires { i < length plan.now.sources }
-    ensures { IfOk result (λ text. IfSome (slice_get plan.now.sources i) (λ chosen. text ≡ rewritten label chosen.rewrites)) }
+    ensures { IfOk result (λ text. IfSome (slice_get plan.now.sources i)
+        (λ chosen. text ≡ rewritten label chosen.rewrites)) }
 {
     match plan.rewrites(i) {
         None => Ok(label),
@@ -98,7 +103,8 @@ fn named(
     explained: Explained,
 ) -> Result<PlaceSource, NoMemory>
     requires { i < length plan.now.sources }
-    ensures { IfOk result (λ s. IfSome (slice_get plan.now.sources i) (λ chosen. s ≡ under_name name.now (λ label. rewritten label chosen.rewrites) explained)) }
+    ensures { IfOk result (λ s. IfSome (slice_get plan.now.sources i)
+        (λ chosen. s ≡ under_name name.now (λ label. rewritten label chosen.rewrites) explained)) }
 {
     let label = rewritten_label(alloc, plan, i, explained.label)?;
     let name = name.copy()?;
@@ -130,7 +136,8 @@ fn explain_all(
 ) -> Result<Vec<PlaceSource>, OpenedAnswer>
     requires names { length names.now ≡ length plan.now.sources }
     requires inside { IsTrue (is_in subject.now.binary place.now) }
-    ensures { ExplainsOpened result (places_said limit place.now shown subject.now (named_sources names.now plan.now.sources)) }
+    ensures { ExplainsOpened result
+        (places_said limit place.now shown subject.now (named_sources names.now plan.now.sources)) }
 {
     // What is said before labels are rewritten is what is asked, but for the label.
     rewrites_the_label_alone();
@@ -156,7 +163,8 @@ fn explain_opened(
     limits: &Limits,
 ) -> Result<Vec<PlaceSource>, PlaceAnswer>
     requires { length names.now ≡ length plan.now.sources }
-    ensures { Explains result (opened_explained limits.now.claims shown place.now subject.now (named_sources names.now plan.now.sources)) }
+    ensures { Explains result
+        (opened_explained limits.now.claims shown place.now subject.now (named_sources names.now plan.now.sources)) }
 {
     if !is_inside(subject.base(), subject.len(), place) {
         return Err(PlaceAnswer::PlaceOutside);
@@ -189,7 +197,9 @@ pub fn explain_place(
 ) -> Result<Vec<PlaceSource>, PlaceAnswer>
     requires short { length file.now < 2 ^ 32 }
     requires names { length names.now ≡ length plan.now.sources }
-    ensures { Explains result (explained_place limits.now.claims shown place.now name.now file.now (named_sources names.now plan.now.sources)) }
+    ensures { Explains result
+        (explained_place limits.now.claims shown place.now name.now file.now
+        (named_sources names.now plan.now.sources)) }
 {
     let binary = open_binary(file)?;
     let subject = Subject::new(alloc, name.as_bytes(), binary, None)?;

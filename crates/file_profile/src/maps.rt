@@ -33,9 +33,13 @@ fn map_source(
     limit: u64,
 ) -> Result<Mapped, OpenedAnswer>
     requires { i < length plan.now.sources }
-    ensures mapped { IfOk result (λ m. IfSome (slice_get plan.now.sources i) (λ chosen. IsMapped limit (layout_of subject.now.binary) chosen subject.now pool.new m)) }
-    ensures many { IsErrOf result OpenedAnswer.TooManyClaims → IfSome (slice_get plan.now.sources i) (λ chosen. IsOkAnd (claims_on subject.now chosen.base) (λ made. limit < length made)) }
-    ensures bad { (k : ℕ) (bad : BadFileSpec) → IsErrOf result (OpenedAnswer.Bad k bad) → IfSome (slice_get plan.now.sources i) (λ chosen. claims_on subject.now chosen.base ≡ Err (Bad k bad)) }
+    ensures mapped { IfOk result (λ m. IfSome (slice_get plan.now.sources i)
+        (λ chosen. IsMapped limit (layout_of subject.now.binary) chosen subject.now pool.new m)) }
+    ensures many { IsErrOf result OpenedAnswer.TooManyClaims
+        → IfSome (slice_get plan.now.sources i)
+        (λ chosen. IsOkAnd (claims_on subject.now chosen.base) (λ made. limit < length made)) }
+    ensures bad { (k : ℕ) (bad : BadFileSpec) → IsErrOf result (OpenedAnswer.Bad k bad)
+        → IfSome (slice_get plan.now.sources i) (λ chosen. claims_on subject.now chosen.base ≡ Err (Bad k bad)) }
     ensures large { IsErrOf result OpenedAnswer.MappedTooLarge → ⊥ }
     ensures kept { KeepsLabels pool.old pool.new }
 {
@@ -62,9 +66,12 @@ pub fn maps_of(
     pool: &mut LabelPool,
     limit: u64,
 ) -> Result<Vec<DualMap>, OpenedAnswer>
-    ensures mapped { IfOk result (λ maps. AreMapped limit (layout_of subject.now.binary) plan.now.sources subject.now pool.new maps.items) }
-    ensures many { IsErrOf result OpenedAnswer.TooManyClaims → views_of limit subject.now plan.now.sources ≡ Err TooManyClaims }
-    ensures bad { (k : ℕ) (bad : BadFileSpec) → IsErrOf result (OpenedAnswer.Bad k bad) → views_of limit subject.now plan.now.sources ≡ Err (Bad k bad) }
+    ensures mapped { IfOk result
+        (λ maps. AreMapped limit (layout_of subject.now.binary) plan.now.sources subject.now pool.new maps.items) }
+    ensures many { IsErrOf result OpenedAnswer.TooManyClaims
+        → views_of limit subject.now plan.now.sources ≡ Err TooManyClaims }
+    ensures bad { (k : ℕ) (bad : BadFileSpec) → IsErrOf result (OpenedAnswer.Bad k bad)
+        → views_of limit subject.now plan.now.sources ≡ Err (Bad k bad) }
     ensures large { IsErrOf result OpenedAnswer.MappedTooLarge → ⊥ }
 {
     let mut maps = Vec::new(alloc);

@@ -84,16 +84,19 @@ pub fn profile_pair<L: Ledger>(
     requires lengths { total.old.lengths + length file.now ≤ 2 ^ 62 }
 
     // The first of the two files' faults and limits decides, want of memory aside.
-    ensures answer { PairAnswers result (pair_viewed total.old.mapped limits.now.claims name.now file.now debug.now plan.now.sources) }
+    ensures answer { PairAnswers result
+        (pair_viewed total.old.mapped limits.now.claims name.now file.now debug.now plan.now.sources) }
     ensures unchanged { OnErr result (total.new ≡ total.old) }
 
     // The paths of which a test holds, as that a path is this one or begins so, grow by the file's bytes that have one.
     ensures file { OnOk result ((f : FileViewSpec) (test : List (List ℕ) → Bool)
         → pair_viewed total.old.mapped limits.now.claims name.now file.now debug.now plan.now.sources ≡ Ok f
-        → file_where test total.new.rows ≡ file_where test total.old.rows + file_size_where (filter_test plan.now.filter) test f) }
+        → file_where test total.new.rows
+        ≡ file_where test total.old.rows + file_size_where (filter_test plan.now.filter) test f) }
     ensures vm { OnOk result ((f : FileViewSpec) (test : List (List ℕ) → Bool)
         → pair_viewed total.old.mapped limits.now.claims name.now file.now debug.now plan.now.sources ≡ Ok f
-        → vm_where test total.new.rows ≡ vm_where test total.old.rows + vm_size_where (filter_test plan.now.filter) test f) }
+        → vm_where test total.new.rows
+        ≡ vm_where test total.old.rows + vm_size_where (filter_test plan.now.filter) test f) }
 
     // What was added, filtered or not: the debug file's length and addresses are no part of it.
     ensures depth { total.new.depth ≡ total.old.depth }
@@ -106,7 +109,9 @@ pub fn profile_pair<L: Ledger>(
     ensures cost { (f : FileViewSpec)
         → pair_view limits.now.claims name.now file.now debug.now plan.now.sources ≡ Ok f
         → steps.new ≤ steps.old + step_bound f }
-    ensures free { (fault : PairAnswer) → pair_view limits.now.claims name.now file.now debug.now plan.now.sources ≡ Err fault → steps.new ≡ steps.old }
+    ensures free { (fault : PairAnswer)
+        → pair_view limits.now.claims name.now file.now debug.now plan.now.sources ≡ Err fault
+        → steps.new ≡ steps.old }
 {
     let binary = open_as(1, file)?;
     let other = open_as(2, debug)?;

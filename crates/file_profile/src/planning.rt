@@ -18,7 +18,8 @@ use std::alloc::Global;
 // The place of the first custom data source of a name.
 fn custom_place(custom: &[CustomSource], name: &[u8]) -> Option<usize>
     ensures none { result ≡ None → custom_named custom.now name.now ≡ None }
-    ensures some { IfSome result (λ place. IfSome (slice_get custom.now place) (λ c. custom_named custom.now name.now ≡ Some (as_chosen c))) }
+    ensures some { IfSome result
+        (λ place. IfSome (slice_get custom.now place) (λ c. custom_named custom.now name.now ≡ Some (as_chosen c))) }
     ensures within { IfSome result (λ place. place < length custom.now) }
 {
     for i in 0..custom.len() {
@@ -53,7 +54,8 @@ fn choices_of(
     names: &Names,
     custom: &[CustomSource],
 ) -> Result<Vec<Choice>, PlanAnswer>
-    ensures chosen { IfOk result (λ choices. chosen_sources custom.now names.now ≡ Ok (map (chosen_in (rewrite_lists custom.now)) choices.items)) }
+    ensures chosen { IfOk result (λ choices. chosen_sources custom.now names.now
+        ≡ Ok (map (chosen_in (rewrite_lists custom.now)) choices.items)) }
     ensures places { IfOk result (λ choices. All (IsChoice (length custom.now)) choices.items) }
     ensures cause { IfErr result (HasNameCause custom.now names.now) }
 {
@@ -75,7 +77,8 @@ fn filter_of<P: Patterns>(
 ) -> Result<Option<LabelPattern>, PlanAnswer>
     ensures same { IfOk result (λ made. made ≡ option_copied filter.entry) }
     ensures read { IfOk result (λ _. IfSome (option_copied filter.entry) IsPattern) }
-    ensures cause { IfErr result (HasFilterCause (option_copied filter.entry) (P.refused patterns.old) (P.refused patterns.new) (P.last_refused patterns.new)) }
+    ensures cause { IfErr result (HasFilterCause (option_copied filter.entry) (P.refused patterns.old)
+        (P.refused patterns.new) (P.last_refused patterns.new)) }
     ensures kept { KeepsLast (P.last_refused patterns.old) (P.last_refused patterns.new) result }
     ensures rises { P.refused patterns.old ≤ P.refused patterns.new }
     ensures uncounted { answers_without_refusal result ≡ true → P.refused patterns.new ≡ P.refused patterns.old }
@@ -101,7 +104,8 @@ fn rewrites_from<P: Patterns>(
     requires { first + length source.now.rewrites < 2 ^ 64 }
     ensures same { IfOk result (λ made. made ≡ source.now.rewrites) }
     ensures read { IfOk result (λ _. AreRead source.now.rewrites) }
-    ensures cause { IfErr result (HasRewriteCause first source.now.rewrites (P.refused patterns.old) (P.refused patterns.new) (P.last_refused patterns.new)) }
+    ensures cause { IfErr result (HasRewriteCause first source.now.rewrites (P.refused patterns.old)
+        (P.refused patterns.new) (P.last_refused patterns.new)) }
     ensures kept { KeepsLast (P.last_refused patterns.old) (P.last_refused patterns.new) result }
     ensures rises { P.refused patterns.old ≤ P.refused patterns.new }
     ensures uncounted { answers_without_refusal result ≡ true → P.refused patterns.new ≡ P.refused patterns.old }
@@ -122,7 +126,8 @@ fn rewrites_of<P: Patterns>(
 ) -> Result<Vec<Rewrites>, PlanAnswer>
     ensures same { IfOk result (λ made. made.items ≡ rewrite_lists custom.now) }
     ensures read { IfOk result (λ _. AreRead (rewrites_of custom.now)) }
-    ensures cause { IfErr result (HasRewriteCause 1 (rewrites_of custom.now) (P.refused patterns.old) (P.refused patterns.new) (P.last_refused patterns.new)) }
+    ensures cause { IfErr result (HasRewriteCause 1 (rewrites_of custom.now) (P.refused patterns.old)
+        (P.refused patterns.new) (P.last_refused patterns.new)) }
     ensures kept { KeepsLast (P.last_refused patterns.old) (P.last_refused patterns.new) result }
     ensures rises { P.refused patterns.old ≤ P.refused patterns.new }
     ensures uncounted { answers_without_refusal result ≡ true → P.refused patterns.new ≡ P.refused patterns.old }
@@ -154,7 +159,8 @@ pub fn plan<P: Patterns>(
     patterns: &mut P,
 ) -> Result<Plan, PlanAnswer>
     ensures plan { IfOk result (IsPlan options.now.sources options.now.filter custom.now) }
-    ensures cause { IfErr result (HasCause options.now.sources options.now.filter custom.now (P.refused patterns.old) (P.refused patterns.new) (P.last_refused patterns.new)) }
+    ensures cause { IfErr result (HasCause options.now.sources options.now.filter custom.now (P.refused patterns.old)
+        (P.refused patterns.new) (P.last_refused patterns.new)) }
     ensures kept { KeepsLast (P.last_refused patterns.old) (P.last_refused patterns.new) result }
     ensures rises { P.refused patterns.old ≤ P.refused patterns.new }
     ensures uncounted { answers_without_refusal result ≡ true → P.refused patterns.new ≡ P.refused patterns.old }

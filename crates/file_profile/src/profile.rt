@@ -50,13 +50,20 @@ fn add_maps<L: Ledger>(
     requires over { All (IsOver base.now) maps.now }
     requires labels { All (LabelsBelow (length pool.now)) maps.now }
     requires lengths { total.old.lengths + file_len ≤ 2 ^ 63 - 1 }
-    ensures file { OnOk result ((test : List (List ℕ) → Bool) → file_where test total.new.rows ≡ file_where test total.old.rows + file_count test pool.now (marks_by plan.now.filter pool.now) maps.now file_len) }
-    ensures vm { OnOk result ((test : List (List ℕ) → Bool) → vm_where test total.new.rows ≡ vm_where test total.old.rows + vm_count test pool.now (marks_by plan.now.filter pool.now) maps.now base.now.loads) }
+    ensures file { OnOk result ((test : List (List ℕ) → Bool)
+        → file_where test total.new.rows
+        ≡ file_where test total.old.rows
+        + file_count test pool.now (marks_by plan.now.filter pool.now) maps.now file_len) }
+    ensures vm { OnOk result ((test : List (List ℕ) → Bool)
+        → vm_where test total.new.rows
+        ≡ vm_where test total.old.rows
+        + vm_count test pool.now (marks_by plan.now.filter pool.now) maps.now base.now.loads) }
     ensures depth { total.new.depth ≡ total.old.depth }
     ensures lengths { OnOk result (total.new.lengths ≡ total.old.lengths + file_len) }
     ensures mapped { OnOk result (total.new.mapped ≡ total.old.mapped + mapped_count base.now.loads) }
     ensures fits { OnOk result (total.old.mapped + mapped_count base.now.loads ≤ 2 ^ 63 - 1) }
-    ensures too_large { IsErrOf result OpenedAnswer.MappedTooLarge → 2 ^ 63 - 1 < total.old.mapped + mapped_count base.now.loads }
+    ensures too_large { IsErrOf result OpenedAnswer.MappedTooLarge
+        → 2 ^ 63 - 1 < total.old.mapped + mapped_count base.now.loads }
     ensures other { OnErr result ((result ≡ Err OpenedAnswer.MappedTooLarge) ⊎ (result ≡ Err OpenedAnswer.NoMemory)) }
     ensures unchanged { OnErr result (total.new ≡ total.old) }
     ensures cost { steps.new ≤ steps.old + piece_count maps.now }
@@ -84,14 +91,17 @@ pub fn profile_opened<L: Ledger>(
     requires short { length (bytes_of subject.now.binary) < 2 ^ 32 }
     requires depth { total.old.depth ≡ length plan.now.sources }
     requires lengths { total.old.lengths + length (bytes_of subject.now.binary) ≤ 2 ^ 62 }
-    ensures answer { OpenedAnswers result (opened_viewed total.old.mapped limits.now.claims subject.now plan.now.sources) }
+    ensures answer { OpenedAnswers result
+        (opened_viewed total.old.mapped limits.now.claims subject.now plan.now.sources) }
     ensures unchanged { OnErr result (total.new ≡ total.old) }
     ensures file { OnOk result ((f : FileViewSpec) (test : List (List ℕ) → Bool)
         → opened_viewed total.old.mapped limits.now.claims subject.now plan.now.sources ≡ Ok f
-        → file_where test total.new.rows ≡ file_where test total.old.rows + file_size_where (filter_test plan.now.filter) test f) }
+        → file_where test total.new.rows
+        ≡ file_where test total.old.rows + file_size_where (filter_test plan.now.filter) test f) }
     ensures vm { OnOk result ((f : FileViewSpec) (test : List (List ℕ) → Bool)
         → opened_viewed total.old.mapped limits.now.claims subject.now plan.now.sources ≡ Ok f
-        → vm_where test total.new.rows ≡ vm_where test total.old.rows + vm_size_where (filter_test plan.now.filter) test f) }
+        → vm_where test total.new.rows
+        ≡ vm_where test total.old.rows + vm_size_where (filter_test plan.now.filter) test f) }
     ensures depth { total.new.depth ≡ total.old.depth }
     ensures lengths { OnOk result (total.new.lengths ≡ total.old.lengths + length (bytes_of subject.now.binary)) }
     ensures mapped { OnOk result ((f : FileViewSpec)
@@ -100,7 +110,9 @@ pub fn profile_opened<L: Ledger>(
     ensures cost { (f : FileViewSpec)
         → opened_view limits.now.claims subject.now plan.now.sources ≡ Ok f
         → steps.new ≤ steps.old + step_bound f }
-    ensures free { (fault : OpenedAnswer) → opened_view limits.now.claims subject.now plan.now.sources ≡ Err fault → steps.new ≡ steps.old }
+    ensures free { (fault : OpenedAnswer)
+        → opened_view limits.now.claims subject.now plan.now.sources ≡ Err fault
+        → steps.new ≡ steps.old }
 {
     let mut pool = LabelPool::new(alloc);
     let maps = maps_of(alloc, plan, subject, &mut pool, limits.claims)?;
@@ -136,10 +148,12 @@ pub fn profile_file<L: Ledger>(
     // The paths of which a test holds, as that a path is this one or begins so, grow by the bytes that have one.
     ensures file { OnOk result ((f : FileViewSpec) (test : List (List ℕ) → Bool)
         → viewed total.old.mapped limits.now.claims name.now file.now plan.now.sources ≡ Ok f
-        → file_where test total.new.rows ≡ file_where test total.old.rows + file_size_where (filter_test plan.now.filter) test f) }
+        → file_where test total.new.rows
+        ≡ file_where test total.old.rows + file_size_where (filter_test plan.now.filter) test f) }
     ensures vm { OnOk result ((f : FileViewSpec) (test : List (List ℕ) → Bool)
         → viewed total.old.mapped limits.now.claims name.now file.now plan.now.sources ≡ Ok f
-        → vm_where test total.new.rows ≡ vm_where test total.old.rows + vm_size_where (filter_test plan.now.filter) test f) }
+        → vm_where test total.new.rows
+        ≡ vm_where test total.old.rows + vm_size_where (filter_test plan.now.filter) test f) }
 
     // What was added, filtered or not.
     ensures depth { total.new.depth ≡ total.old.depth }
@@ -152,7 +166,9 @@ pub fn profile_file<L: Ledger>(
     ensures cost { (f : FileViewSpec)
         → file_view limits.now.claims name.now file.now plan.now.sources ≡ Ok f
         → steps.new ≤ steps.old + step_bound f }
-    ensures free { (fault : ProfileAnswer) → file_view limits.now.claims name.now file.now plan.now.sources ≡ Err fault → steps.new ≡ steps.old }
+    ensures free { (fault : ProfileAnswer)
+        → file_view limits.now.claims name.now file.now plan.now.sources ≡ Err fault
+        → steps.new ≡ steps.old }
 {
     let binary = open_binary(file)?;
     let subject = Subject::new(alloc, name.as_bytes(), binary, None)?;

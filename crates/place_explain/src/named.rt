@@ -130,7 +130,8 @@ pub fn explain_source(
     requires inside { IsTrue (is_inside file_len base.now.loads place.now) }
     requires numbered { All (λ (c : ClaimSpec). c.label < length pool.now) claims.now }
     requires unmapped { unmapped < length pool.now }
-    ensures { IfOk result (λ e. e ≡ explained file_len base.now.loads place.now limit (numbered_view pool.now claims.now unmapped)) }
+    ensures { IfOk result
+        (λ e. e ≡ explained file_len base.now.loads place.now limit (numbered_view pool.now claims.now unmapped)) }
 {
     let numbers = explain(alloc, base, file_len, claims, place)?;
     let claims = named_claims(alloc, &numbers, claims, pool, limit)?;

@@ -63,7 +63,8 @@ impl Spot {
 
     /// Whether a claim covers the place.
     pub fn is_covered_by(&self, claim: &Claim) -> bool
-        ensures { (len : ℕ) (loads : List Load) (place : PlaceSpec) → IsSpot len loads place self.now → result ≡ claim_covers len loads place claim.now }
+        ensures { (len : ℕ) (loads : List Load) (place : PlaceSpec) → IsSpot len loads place self.now
+            → result ≡ claim_covers len loads place claim.now }
     {
         match claim.side {
             Side::File => offset_in(&claim.file, self.offset),

@@ -30,7 +30,12 @@ group_label level rows g = get_or (labels_at level rows) g.from []
 
 abbrev pub group_entry : ℕ → List RollupRow → Group → Entry
 group_entry level rows g =
-    record { kind = kind_of (group_label level rows g) g.kind; vm = g.vm; file = g.file; below = table_at (level + 1) (take (g.to - g.from) (drop g.from rows)) }
+    record {
+      kind = kind_of (group_label level rows g) g.kind;
+      vm = g.vm;
+      file = g.file;
+      below = table_at (level + 1) (take (g.to - g.from) (drop g.from rows));
+    }
 
 -- rows of paths of this depth, in order from a level on, whose sizes a 63-bit number holds
 pub record IsPart (depth level : ℕ) (rows : List RollupRow) : Type 0 where

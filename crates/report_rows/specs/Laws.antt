@@ -1,9 +1,13 @@
 -- What follows of tables and their rows.
-use Rattle.std.specs.Prelude.{◌≡◌, ℕ, List, if◌then◌else◌}
+use Rattle.std.specs.Prelude.{◌≡◌, ℕ, List, All, length, if◌then◌else◌}
 use Rattle.std.specs.List.{starts_with, sum_by}
 use Rattle.std.specs.Str.{bytes_eq}
 use Rattle.rollup.specs.declared.table.RollupRow.{RollupRow}
+use Rattle.rollup.specs.Totals.{Totals}
+use Rattle.report_rows.specs.declared.row.RowOptions.{RowOptions}
+use Rattle.report_rows.specs.Rows.{row_tree}
 use Rattle.report_rows.specs.Tables.{Table, vm_sum, file_sum, under_path}
+use Rattle.report_rows.specs.Trees.{AddsUp}
 
 -- the size of a path: the sum over the rows whose paths begin with it
 abbrev pub size_of : (RollupRow → ℕ) → Table → List (List ℕ) → ℕ
@@ -16,3 +20,8 @@ pub record AreSizesOf (t : Table) (path : List (List ℕ)) : Type 0 where
 
 abbrev pub SizesByPrefix : Type 0
 SizesByPrefix = (t : Table) (path : List (List ℕ)) → AreSizesOf t path
+
+-- in the rows of every report each shown size adds up
+abbrev pub AddsUpInAllTrees : Type 0
+AddsUpInAllTrees = (options : RowOptions) (totals : Totals)
+    → All (λ (r : RollupRow). length r.path ≡ totals.depth) totals.rows → AddsUp options.domain (row_tree options totals)

@@ -5,7 +5,8 @@ use Rattle.std.specs.List.{flat_map}
 -- the rows of so many levels over something, the first of them at this level; what stands below an entry follows its row
 unfoldable pub rows_over : {T E R : Type 0} → (T → List E) → (E → T) → (ℕ → E → R) → ℕ → ℕ → T → List R
 rows_over entries below row zero level t = []
-rows_over {T} {E} {R} entries below row (suc levels) level t = flat_map (λ (e : E). row level e ∷ rows_over entries below row levels (level + 1) (below e)) (entries t)
+rows_over {T} {E} {R} entries below row (suc levels) level t = flat_map
+    (λ (e : E). row level e ∷ rows_over entries below row levels (level + 1) (below e)) (entries t)
 
 -- a property of each row and the rows behind it
 abbrev pub EachRow : {R : Type 0} → (R → List R → Type 0) → List R → Type 0

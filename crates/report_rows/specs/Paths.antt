@@ -85,4 +85,5 @@ pub record AreSizesBelow (vm file : Path → ℕ) (t : Table) : Type 0 where
   pub file_is : (path : Path) → file_sum (under_path path t) ≡ file path
 
 abbrev pub RowsShowPaths : Type 0
-RowsShowPaths = (o : RowOptions) (depth : ℕ) (t : Table) (vm file : Path → ℕ) → AreSizesBelow vm file t → ShowsPaths o vm file depth (listing o depth 0 t)
+RowsShowPaths = (o : RowOptions) (depth : ℕ) (t : Table) (vm file : Path → ℕ) → AreSizesBelow vm file t
+    → ShowsPaths o vm file depth (listing o depth 0 t)

@@ -28,7 +28,8 @@ label_entry t label = record { kind = Label label; vm = vm_sum (under label t); 
 
 -- labels that are left over, taken together; no row stands under them
 abbrev pub others_entry : List Entry → Entry
-others_entry left = record { kind = Others (length left); vm = sum_by (λ (e : Entry). e.vm) left; file = sum_by (λ (e : Entry). e.file) left; below = [] }
+others_entry left =
+    record { kind = Others (length left); vm = sum_by (λ (e : Entry). e.vm) left; file = sum_by (λ (e : Entry). e.file) left; below = [] }
 
 -- the larger key first
 abbrev pub by_key : RowOptions → Entry → Entry → Ordering
@@ -63,4 +64,5 @@ listing o levels level t = rows_over (entries_of o) (λ (e : Entry). e.below) ro
 
 -- the rows of a report
 abbrev pub row_tree : RowOptions → Totals → RowTree
-row_tree o totals = record { depth = totals.depth; vm = vm_sum totals.rows; file = file_sum totals.rows; rows = listing o totals.depth 0 totals.rows }
+row_tree o totals =
+    record { depth = totals.depth; vm = vm_sum totals.rows; file = file_sum totals.rows; rows = listing o totals.depth 0 totals.rows }

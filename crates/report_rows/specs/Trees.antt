@@ -22,7 +22,9 @@ is_others (Label label) = false
 abbrev pub AreLevels : ℕ → ℕ → List Row → Type 0
 AreLevels depth highest [] = ⊤
 AreLevels depth highest (r ∷ rows) =
-    (r.level ≤ highest) × (r.level < depth) × (has_children r rows ≡ not (is_others r.kind || (r.level + 1 == depth))) × AreLevels depth (r.level + 1) rows
+    (r.level ≤ highest) × (r.level < depth)
+    × (has_children r rows ≡ not (is_others r.kind || (r.level + 1 == depth)))
+    × AreLevels depth (r.level + 1) rows
 
 -- the levels of these rows form a tree of a depth
 abbrev pub IsTree : ℕ → List Row → Type 0

@@ -45,14 +45,19 @@ all_five =
     ∷ label_row 0 (codes "d") 4 2 ∷ []
 
 pub record WorkedTables : Type 0 where
-  pub before_its_equal : listing (asked 2 sorts.Both domains.File) 1 0 five ≡ label_row 0 (codes "[3 Others]") 0 9 ∷ others_row 0 3 9 8 ∷ label_row 0 (codes "a") 1 8 ∷ []
+  pub before_its_equal : listing (asked 2 sorts.Both domains.File) 1 0 five
+      ≡ label_row 0 (codes "[3 Others]") 0 9 ∷ others_row 0 3 9 8 ∷ label_row 0 (codes "a") 1 8 ∷ []
   pub no_limit : listing (asked 0 sorts.Both domains.File) 1 0 five ≡ all_five
   pub limit_that_fits : listing (asked 5 sorts.File domains.Both) 1 0 five ≡ all_five
   pub others_first : listing (asked 1 sorts.File domains.File) 1 0 five ≡ others_row 0 4 10 16 ∷ label_row 0 (codes "[3 Others]") 0 9 ∷ []
-  pub by_vm : listing (asked 0 sorts.Vm domains.Both) 1 0 five ≡ label_row 0 (codes "d") 4 2 ∷ label_row 0 (codes "c") 3 2 ∷ label_row 0 (codes "b") 2 4 ∷ label_row 0 (codes "a") 1 8 ∷ label_row 0 (codes "[3 Others]") 0 9 ∷ []
+  pub by_vm : listing (asked 0 sorts.Vm domains.Both) 1 0 five
+      ≡ label_row 0 (codes "d") 4 2 ∷ label_row 0 (codes "c") 3 2 ∷ label_row 0 (codes "b") 2 4
+      ∷ label_row 0 (codes "a") 1 8 ∷ label_row 0 (codes "[3 Others]") 0 9 ∷ []
   pub vm_not_shown : listing (asked 0 sorts.Vm domains.File) 1 0 five ≡ all_five
-  pub file_not_shown : listing (asked 2 sorts.Both domains.Vm) 1 0 five ≡ label_row 0 (codes "d") 4 2 ∷ others_row 0 2 3 12 ∷ label_row 0 (codes "c") 3 2 ∷ []
+  pub file_not_shown : listing (asked 2 sorts.Both domains.Vm) 1 0 five
+      ≡ label_row 0 (codes "d") 4 2 ∷ others_row 0 2 3 12 ∷ label_row 0 (codes "c") 3 2 ∷ []
   pub others_below : listing (asked 2 sorts.Both domains.File) 2 0 pairs
-      ≡ label_row 0 (codes "a") 6 8 ∷ label_row 1 (codes "x") 1 4 ∷ label_row 1 (codes "y") 2 3 ∷ others_row 1 1 3 1 ∷ label_row 0 (codes "c") 0 5 ∷ label_row 1 (codes "x") 0 5 ∷ []
+      ≡ label_row 0 (codes "a") 6 8 ∷ label_row 1 (codes "x") 1 4 ∷ label_row 1 (codes "y") 2 3 ∷ others_row 1 1 3 1
+      ∷ label_row 0 (codes "c") 0 5 ∷ label_row 1 (codes "x") 0 5 ∷ []
   pub three_levels : listing (asked 0 sorts.Both domains.Both) 3 0 triples
       ≡ label_row 0 (codes "a") 1 3 ∷ label_row 1 (codes "x") 1 3 ∷ label_row 2 (codes "q") 0 2 ∷ label_row 2 (codes "p") 1 1 ∷ []

@@ -93,7 +93,8 @@ fn make_group(
 
 // Adds a group that has a shown size above 0.
 fn keep(options: &RowOptions, groups: &mut Vec<Group>, group: Group) -> Result<(), NoMemory>
-    ensures { OnOk result (groups.new.items ≡ groups.old.items ++ (if is_shown options.now group.vm group.file then group ∷ [] else [])) }
+    ensures { OnOk result (groups.new.items
+        ≡ groups.old.items ++ (if is_shown options.now group.vm group.file then group ∷ [] else [])) }
 {
     if is_shown(options, group.vm, group.file) {
         groups.push(group)?;
@@ -112,7 +113,8 @@ fn groups_of(
     requires part { IsPart depth level (map (λ r. r.now) rows.now) }
     requires below { level < depth }
     ensures labels { let all = map (λ r. r.now) rows.now in let table = table_at level all in
-        IfOk result (λ groups. map (group_label level all) groups.items ≡ filter (has_shown options.now table) (first_labels table)) }
+        IfOk result (λ groups. map (group_label level all) groups.items
+        ≡ filter (has_shown options.now table) (first_labels table)) }
     ensures groups { IfOk result (λ groups. All (IsGroup options.now level (map (λ r. r.now) rows.now)) groups.items) }
 {
     let mut groups = Vec::new(alloc);

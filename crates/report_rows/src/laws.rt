@@ -1,6 +1,6 @@
 //! Laws of tables: each is the contract of a function that does nothing.
 
-ghost use Rattle.report_rows.specs.Laws.{SizesByPrefix};
+ghost use Rattle.report_rows.specs.Laws.{AddsUpInAllTrees, SizesByPrefix};
 ghost use Rattle.report_rows.specs.Paths.{RowsShowPaths};
 
 /// The sizes of the table under a path are the sums over the rows whose paths begin with it.
@@ -13,4 +13,10 @@ pub fn sizes_by_prefix()
 /// its row or is one of those.
 pub fn rows_show_paths()
     ensures { RowsShowPaths }
+{}
+
+/// In every report, whatever its options, the sizes of the first level's rows add up to the total, and those of the
+/// children of each row that has any to that of the row, for each size that is shown.
+pub fn shown_sizes_add_up()
+    ensures { AddsUpInAllTrees }
 {}

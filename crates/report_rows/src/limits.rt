@@ -42,7 +42,8 @@ fn place<G: Grouped>(groups: &[G], others: &G) -> usize
 /// Leaves the groups within the limit, and one of the others where there are more. A limit of 0 is none.
 pub fn limit<G: Grouped>(options: &RowOptions, groups: &mut Vec<G>) -> Result<(), NoMemory>
     requires { G.fits (drop options.now.limit groups.old.items) }
-    ensures { OnOk result (groups.new.items ≡ within options.now.limit (λ a b. nat_cmp (G.key b) (G.key a)) (G.together options.now) groups.old.items) }
+    ensures { OnOk result (groups.new.items
+        ≡ within options.now.limit (λ a b. nat_cmp (G.key b) (G.key a)) (G.together options.now) groups.old.items) }
 {
     let kept = options.limit as usize;
     if kept == 0 || groups.len() <= kept {

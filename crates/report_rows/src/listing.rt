@@ -42,7 +42,8 @@ fn list(
 ) -> Result<(), NoMemory>
     requires part { IsPart depth level (map (λ r. r.now) rows.now) }
     requires within { level ≤ depth }
-    ensures { OnOk result (out.new ≡ out.old ++ listing options.now (depth - level) level (table_at level (map (λ r. r.now) rows.now))) }
+    ensures { OnOk result (out.new
+        ≡ out.old ++ listing options.now (depth - level) level (table_at level (map (λ r. r.now) rows.now))) }
 {
     if level == depth {
         return Ok(());
@@ -65,7 +66,8 @@ fn tree(
 ) -> Result<RowTree, NoMemory>
     requires { IsPart depth 0 (map (λ r. r.now) rows.now) }
     ensures { let all = map (λ r. r.now) rows.now in
-        IfOk result (λ t. t ≡ record { depth = depth; vm = vm_sum all; file = file_sum all; rows = listing options.now depth 0 all }) }
+        IfOk result (λ t. t
+        ≡ record { depth = depth; vm = vm_sum all; file = file_sum all; rows = listing options.now depth 0 all }) }
 {
     let mut out = Rows::new(alloc);
     list(alloc, options, depth, rows, 0, &mut out)?;

@@ -19,8 +19,10 @@ pub fn run_len<T: HasPath>(items: &[T], level: usize) -> usize
     requires deep { All (λ x. level < length (T.path x)) items.now }
     ensures some { 0 < result }
     ensures within { result ≤ length items.now }
-    ensures same { let labels = level_labels T.path level items.now in (k : ℕ) → k < result → get_or labels k [] ≡ get_or labels 0 [] }
-    ensures next { let labels = level_labels T.path level items.now in result < length items.now → get_or labels result [] ≢ get_or labels 0 [] }
+    ensures same { let labels = level_labels T.path level items.now in
+        (k : ℕ) → k < result → get_or labels k [] ≡ get_or labels 0 [] }
+    ensures next { let labels = level_labels T.path level items.now in
+        result < length items.now → get_or labels result [] ≢ get_or labels 0 [] }
 {
     let label = items[0].path().get(level).as_slice();
     for (i, item) in items.iter().enumerate() {

@@ -24,7 +24,8 @@ pub record IsPath (highest : ℕ) (path : Fields) (before : List Row) : Type 0 w
   pub labels : (level : ℕ) → level ≤ highest → take level path ≡ labels_above level before
 
 -- so many rows are behind; what is written, with the records of the others, is the whole
-pub record HasCome {W : Type 0} {X : Type 0} (contents : W → Option (List ℕ)) (delimiter : ℕ) (as_row : X → Row) (sizes : X → Fields) (depth : ℕ) (rows : List X) (whole : List ℕ) (i : ℕ) (path : Fields) (w : Writer W) : Type 0 where
+pub record HasCome {W : Type 0} {X : Type 0} (contents : W → Option (List ℕ)) (delimiter : ℕ) (as_row : X → Row)
+    (sizes : X → Fields) (depth : ℕ) (rows : List X) (whole : List ℕ) (i : ℕ) (path : Fields) (w : Writer W) : Type 0 where
   pub before : List Row
   pub highest : ℕ
   pub text : List ℕ

@@ -38,7 +38,8 @@ growth_columns domain s = file_first domain (growth_column s.new_file s.base_fil
 
 -- the lines of a tree
 unfoldable pub growth_report_text : GrowthTree → Domain → Bool → List ℕ
-growth_report_text t domain wide = lines 19 domain new_row (λ (r : GrowthRow). growth_columns domain r.sizes) wide t.rows (growth_columns domain t.sizes)
+growth_report_text t domain wide =
+    lines 19 domain new_row (λ (r : GrowthRow). growth_columns domain r.sizes) wide t.rows (growth_columns domain t.sizes)
 
 -- a new size less a base size
 abbrev pub growth : ℕ → ℕ → ℤ
@@ -46,7 +47,8 @@ growth new base = pos new -ℤ pos base
 
 -- the shown growths of a row, in decimal
 abbrev pub growth_fields : Domain → GrowthRow → Fields
-growth_fields domain r = vm_first domain (signed_decimal (growth r.sizes.new_vm r.sizes.base_vm)) (signed_decimal (growth r.sizes.new_file r.sizes.base_file))
+growth_fields domain r = vm_first domain (signed_decimal (growth r.sizes.new_vm r.sizes.base_vm))
+    (signed_decimal (growth r.sizes.new_file r.sizes.base_file))
 
 -- the records of a tree, with commas, and with tabs
 unfoldable pub growth_csv_text : GrowthTree → Domain → List (List ℕ) → List ℕ

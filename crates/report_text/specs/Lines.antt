@@ -38,7 +38,8 @@ total_line total = total ++ codes "TOTAL\n"
 
 -- the lines of rows: titles over columns of so many places, a line for each row, and the total
 unfoldable pub lines : {X : Type 0} → ℕ → Domain → (X → Row) → (X → List ℕ) → Bool → List X → List ℕ → List ℕ
-lines places domain as_row columns wide xs total = (title_line places domain ++ flat_map (row_line as_row columns wide) xs) ++ total_line total
+lines places domain as_row columns wide xs total =
+    (title_line places domain ++ flat_map (row_line as_row columns wide) xs) ++ total_line total
 
 -- the column of a size: its percentage and the size
 unfoldable pub size_column : ℕ → ℕ → List ℕ
@@ -50,4 +51,5 @@ columns domain t file vm = file_first domain (size_column file t.file) (size_col
 
 -- the lines of a tree
 unfoldable pub report_text : RowTree → Domain → Bool → List ℕ
-report_text t domain wide = lines 15 domain (λ (r : Row). r) (λ (r : Row). columns domain t r.file r.vm) wide t.rows (columns domain t t.file t.vm)
+report_text t domain wide =
+    lines 15 domain (λ (r : Row). r) (λ (r : Row). columns domain t r.file r.vm) wide t.rows (columns domain t t.file t.vm)

@@ -51,7 +51,8 @@ more_line more = if more == 0 then [] else number_line (codes "  more ") more
 
 -- the lines of a data source
 unfoldable pub source_lines : Bool → PlaceSource → List ℕ
-source_lines wide s = name_line wide (codes "source ") s.name ++ (name_line wide (codes "  label ") s.label ++ (claim_lines wide s.claims ++ more_line s.more))
+source_lines wide s = name_line wide (codes "source ") s.name
+    ++ (name_line wide (codes "  label ") s.label ++ (claim_lines wide s.claims ++ more_line s.more))
 
 -- the lines of a place, and of what each data source says of it
 unfoldable pub place_report_text : Place → List PlaceSource → Bool → List ℕ

@@ -26,7 +26,8 @@ header_fields sources domain = sources ++ vm_first domain (codes "vmsize") (code
 -- nearest row of a lesser level, after those that this one stands under.
 unfoldable pub labels_above : ℕ → List Row → Fields
 labels_above level [] = []
-labels_above level (r ∷ before) = if nat_lt r.level level then labels_above r.level before ++ (kind_text r.kind ∷ []) else labels_above level before
+labels_above level (r ∷ before) =
+    if nat_lt r.level level then labels_above r.level before ++ (kind_text r.kind ∷ []) else labels_above level before
 
 -- a row's path: the labels that it stands under, its text, and an empty field for each further data source
 unfoldable pub path_fields : ℕ → Fields → Row → Fields
@@ -44,7 +45,8 @@ leaf_record depth above r sizes rows = if has_children r rows then [] else row_f
 unfoldable pub leaf_records : {X : Type 0} → (X → Row) → (X → Fields) → ℕ → List Row → List X → List Fields
 leaf_records as_row sizes depth before [] = []
 leaf_records as_row sizes depth before (x ∷ xs) =
-    leaf_record depth (labels_above (as_row x).level before) (as_row x) (sizes x) (map as_row xs) ++ leaf_records as_row sizes depth (as_row x ∷ before) xs
+    leaf_record depth (labels_above (as_row x).level before) (as_row x) (sizes x) (map as_row xs)
+    ++ leaf_records as_row sizes depth (as_row x ∷ before) xs
 
 -- How records are written: this byte between fields, a line feed after each record, and quotes only round a field that
 -- needs them.
@@ -53,7 +55,8 @@ delimited delimiter = with_delimiter default_writer delimiter
 
 -- the records of rows: a header, and one for each row without children
 unfoldable pub table_text : {X : Type 0} → ℕ → (X → Row) → (X → Fields) → ℕ → Domain → List (List ℕ) → List X → List ℕ
-table_text delimiter as_row sizes depth domain sources xs = flat_map (row_text (delimited delimiter)) (header_fields sources domain ∷ leaf_records as_row sizes depth [] xs)
+table_text delimiter as_row sizes depth domain sources xs = flat_map (row_text (delimited delimiter))
+    (header_fields sources domain ∷ leaf_records as_row sizes depth [] xs)
 
 -- the shown sizes of a row, in decimal
 abbrev pub size_fields : Domain → Row → Fields

@@ -41,4 +41,7 @@ pub record WorkedGrowths : Type 0 where
   pub both_fields : growth_fields Both unmapped ≡ codes "0" ∷ codes "-5" ∷ []
   pub file_field : growth_fields File headers ≡ codes "64" ∷ []
   pub report : growth_report_text enlarged File false
-      ≡ codes "          FILE SIZE  LABEL\n" ++ (codes "   +33.3%       +64  [ELF Section Headers]\n" ++ (codes "    [ = ]         0  [2 Others]\n" ++ codes "   +18.1%       +64  TOTAL\n"))
+      ≡ codes "          FILE SIZE  LABEL\n"
+      ++ (codes "   +33.3%       +64  [ELF Section Headers]\n"
+      ++ (codes "    [ = ]         0  [2 Others]\n"
+      ++ codes "   +18.1%       +64  TOTAL\n"))

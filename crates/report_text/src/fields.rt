@@ -25,7 +25,8 @@ pub fn push_shown<'a>(
     vm: &'a [u8],
     file: &'a [u8],
 ) -> Result<(), NoMemory>
-    ensures { OnOk result (map (λ f. f.now) fields.new.items ≡ map (λ f. f.now) fields.old.items ++ vm_first domain vm.now file.now) }
+    ensures { OnOk result (map (λ f. f.now) fields.new.items
+        ≡ map (λ f. f.now) fields.old.items ++ vm_first domain vm.now file.now) }
 {
     match domain {
         Domain::Vm => push(fields, vm),
@@ -86,7 +87,8 @@ fn kind_text<'a>(name: Name<'a>, others: &'a [u8]) -> &'a [u8]
 
 // Adds so many empty fields.
 fn push_empty<'a>(fields: &mut Vec<&'a [u8]>, count: usize) -> Result<(), NoMemory>
-    ensures { OnOk result (map (λ f. f.now) fields.new.items ≡ map (λ f. f.now) fields.old.items ++ replicate count []) }
+    ensures { OnOk result (map (λ f. f.now) fields.new.items
+        ≡ map (λ f. f.now) fields.old.items ++ replicate count []) }
 {
     for _field in 0..count {
         push(fields, b"")?;
@@ -117,7 +119,8 @@ pub fn path_fields<'a, 'p: 'a, R: ReportRow>(
 ) -> Result<Vec<&'a [u8]>, NoMemory>
     requires below { (R.as_row row.now).level < depth }
     requires text { HasText (R.as_row row.now).kind others.now }
-    ensures { IfOk result (λ v. map (λ f. f.now) v.items ≡ path_fields depth (map (λ f. f.now) above.now) (R.as_row row.now)) }
+    ensures { IfOk result (λ v. map (λ f. f.now) v.items
+        ≡ path_fields depth (map (λ f. f.now) above.now) (R.as_row row.now)) }
 {
     let mut fields = labels(alloc, above)?;
     push(&mut fields, kind_text(row.name(), others))?;

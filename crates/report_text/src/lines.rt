@@ -68,7 +68,8 @@ fn push_row<T: ReportTree>(
     tree: &T,
     row: &T::Entry,
 ) -> Result<(), NoMemory>
-    ensures { OnOk result (out.new.items ≡ out.old.items ++ row_line T.Entry.as_row (T.columns domain tree.now) wide row.now) }
+    ensures { OnOk result (out.new.items
+        ≡ out.old.items ++ row_line T.Entry.as_row (T.columns domain tree.now) wide row.now) }
 {
     tree.push_columns(alloc, out, domain, row)?;
     push_spaces(out, 2 * row.level() as usize)?;
@@ -98,7 +99,8 @@ pub fn lines<T: ReportTree>(
     domain: Domain,
     wide: bool,
 ) -> Result<Vec<u8>, NoMemory>
-    ensures { IfOk result (λ v. v.items ≡ lines T.PLACES domain T.Entry.as_row (T.columns domain tree.now) wide (T.rows tree.now) (T.total domain tree.now)) }
+    ensures { IfOk result (λ v. v.items ≡ lines T.PLACES domain T.Entry.as_row (T.columns domain tree.now) wide
+        (T.rows tree.now) (T.total domain tree.now)) }
 {
     let mut text = Vec::new(alloc);
     push_title_line(&mut text, T::PLACES, domain)?;

@@ -45,7 +45,8 @@ fn push_space(out: &mut Vec<u8>, space: u32) -> Result<(), NoMemory>
 // Adds the line of an address.
 #[tactic(auto, unfolding(crate::specs::Places::number_line))]
 fn push_address(out: &mut Vec<u8>, space: u32, address: u64) -> Result<(), NoMemory>
-    ensures { OnOk result (out.new.items ≡ out.old.items ++ number_line (codes "address " ++ space_text space) address) }
+    ensures { OnOk result (out.new.items
+        ≡ out.old.items ++ number_line (codes "address " ++ space_text space) address) }
 {
     push(out, b"address ")?;
     push_space(out, space)?;

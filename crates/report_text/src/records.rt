@@ -45,7 +45,8 @@ fn put_row<'a, W: Write + Drop, R: ReportRow>(
     requires { (R.as_row row.now).level < depth }
     ensures { OnOk result ((text : List ℕ) → IsReady W.contents delimiter writer.old text
         → IsReady W.contents delimiter writer.new
-        (text ++ row_text (delimited delimiter) (row_fields depth (map (λ f. f.now) above.now) (R.as_row row.now) (R.sizes domain row.now)))) }
+        (text ++ row_text (delimited delimiter)
+        (row_fields depth (map (λ f. f.now) above.now) (R.as_row row.now) (R.sizes domain row.now)))) }
 {
     let mut vm = Buffer::new();
     let mut file = Buffer::new();
@@ -59,7 +60,8 @@ fn put_row<'a, W: Write + Drop, R: ReportRow>(
 /// Whether the row after a row has a greater level.
 pub fn has_children<R: ReportRow>(rows: &List<R>, i: usize) -> bool
     requires { i < length rows.now }
-    ensures { (row : R) → slice_get rows.now i ≡ Some row → result ≡ has_children (R.as_row row) (map R.as_row (drop (i + 1) rows.now)) }
+    ensures { (row : R) → slice_get rows.now i ≡ Some row
+        → result ≡ has_children (R.as_row row) (map R.as_row (drop (i + 1) rows.now)) }
 {
     if i == rows.len() - 1 {
         return false;
@@ -78,10 +80,14 @@ fn put_leaf<'a, W: Write + Drop, T: ReportTree>(
     i: usize,
 ) -> Result<(), NoMemory>
     requires inside { i < length (T.rows tree.now) }
-    requires below { (row : T.Entry) → slice_get (T.rows tree.now) i ≡ Some row → (T.Entry.as_row row).level < T.depth tree.now }
-    ensures { OnOk result ((text : List ℕ) (row : T.Entry) → slice_get (T.rows tree.now) i ≡ Some row → IsReady W.contents delimiter writer.old text
+    requires below { (row : T.Entry) → slice_get (T.rows tree.now) i ≡ Some row
+        → (T.Entry.as_row row).level < T.depth tree.now }
+    ensures { OnOk result ((text : List ℕ) (row : T.Entry) → slice_get (T.rows tree.now) i ≡ Some row
+        → IsReady W.contents delimiter writer.old text
         → IsReady W.contents delimiter writer.new
-        (text ++ flat_map (row_text (delimited delimiter)) (leaf_record (T.depth tree.now) (map (λ f. f.now) above.now) (T.Entry.as_row row) (T.Entry.sizes domain row) (map T.Entry.as_row (drop (i + 1) (T.rows tree.now)))))) }
+        (text ++ flat_map (row_text (delimited delimiter))
+        (leaf_record (T.depth tree.now) (map (λ f. f.now) above.now) (T.Entry.as_row row) (T.Entry.sizes domain row)
+        (map T.Entry.as_row (drop (i + 1) (T.rows tree.now)))))) }
 {
     let rows = tree.rows();
     if has_children(rows, i) {
@@ -94,7 +100,8 @@ fn put_leaf<'a, W: Write + Drop, T: ReportTree>(
 
 // Adds the label of a row. An Others row has none, and no row stands under it.
 fn enter<'a>(path: &mut Vec<&'a [u8]>, name: Name<'a>) -> Result<(), NoMemory>
-    ensures { OnOk result (map (λ f. f.now) path.new.items ≡ entered (map (λ f. f.now) path.old.items) (kind_of name.entry)) }
+    ensures { OnOk result (map (λ f. f.now) path.new.items
+        ≡ entered (map (λ f. f.now) path.old.items) (kind_of name.entry)) }
 {
     match name {
         Name::Label(label) => push(path, label),
@@ -113,9 +120,13 @@ fn step<'a, W: Write + Drop, T: ReportTree>(
     i: usize,
 ) -> Result<(), NoMemory>
     requires inside { i < length (T.rows tree.now) }
-    requires below { (row : T.Entry) → slice_get (T.rows tree.now) i ≡ Some row → (T.Entry.as_row row).level < T.depth tree.now }
-    ensures { OnOk result ((whole : List ℕ) → HasCome W.contents delimiter T.Entry.as_row (T.Entry.sizes domain) (T.depth tree.now) (T.rows tree.now) whole i (map (λ f. f.now) path.old.items) writer.old
-        → HasCome W.contents delimiter T.Entry.as_row (T.Entry.sizes domain) (T.depth tree.now) (T.rows tree.now) whole (i + 1) (map (λ f. f.now) path.new.items) writer.new) }
+    requires below { (row : T.Entry) → slice_get (T.rows tree.now) i ≡ Some row
+        → (T.Entry.as_row row).level < T.depth tree.now }
+    ensures { OnOk result ((whole : List ℕ)
+        → HasCome W.contents delimiter T.Entry.as_row (T.Entry.sizes domain) (T.depth tree.now) (T.rows tree.now)
+        whole i (map (λ f. f.now) path.old.items) writer.old
+        → HasCome W.contents delimiter T.Entry.as_row (T.Entry.sizes domain) (T.depth tree.now) (T.rows tree.now)
+        whole (i + 1) (map (λ f. f.now) path.new.items) writer.new) }
 {
     let row = tree.rows().get(i);
     path.truncate(row.level() as usize);
@@ -133,7 +144,8 @@ pub fn table<T: ReportTree>(
     sources: &Names,
 ) -> Result<Vec<u8>, NoMemory>
     requires { IsTree (T.depth tree.now) (map T.Entry.as_row (T.rows tree.now)) }
-    ensures { IfOk result (λ v. v.items ≡ table_text delimiter T.Entry.as_row (T.Entry.sizes domain) (T.depth tree.now) domain sources.now (T.rows tree.now)) }
+    ensures { IfOk result (λ v. v.items ≡ table_text delimiter T.Entry.as_row (T.Entry.sizes domain)
+        (T.depth tree.now) domain sources.now (T.rows tree.now)) }
 {
     let mut writer = WriterBuilder::new()
         .delimiter(delimiter)

@@ -43,7 +43,8 @@ pub trait ReportRow: Drop {
         vm: &'b mut Buffer,
         file: &'b mut Buffer,
     ) -> Result<(), NoMemory>
-        ensures { OnOk result (map (λ f. f.now) fields.new.items ≡ map (λ f. f.now) fields.old.items ++ sizes domain self.now) };
+        ensures { OnOk result (map (λ f. f.now) fields.new.items
+            ≡ map (λ f. f.now) fields.old.items ++ sizes domain self.now) };
 }
 
 /// A tree of rows that reports print.

@@ -29,7 +29,11 @@ mid from to paths = take (to - from) (drop from paths)
 
 -- what a group stands for
 abbrev pub group_entry : ℕ → List GrowthPath → Group → Entry
-group_entry level paths g = record { kind = Label (get_or (labels_at level paths) g.from []); sizes = g.sizes; below = table_at (level + 1) (mid g.from g.to paths) }
+group_entry level paths g = record {
+  kind = Label (get_or (labels_at level paths) g.from []);
+  sizes = g.sizes;
+  below = table_at (level + 1) (mid g.from g.to paths);
+}
 
 -- paths from one place up to another that share their label of a level, which no path behind them has next
 pub record IsRun (level : ℕ) (paths : List GrowthPath) (from to : ℕ) : Type 0 where
@@ -50,7 +54,11 @@ Rise (g ∷ gs) = AllByRecursion (λ (h : Group). g.from < h.from) gs × Rise gs
 
 -- what an item stands for
 abbrev pub item_entry : ℕ → List GrowthPath → Item → Entry
-item_entry level paths i = record { kind = kind_of (get_or (labels_at level paths) i.from []) i.kind; sizes = i.sizes; below = table_at (level + 1) (mid i.from i.to paths) }
+item_entry level paths i = record {
+  kind = kind_of (get_or (labels_at level paths) i.from []) i.kind;
+  sizes = i.sizes;
+  below = table_at (level + 1) (mid i.from i.to paths);
+}
 
 abbrev pub item_of : Group → Item
 item_of g = record { key = g.key.0; kind = kinds.Label; from = g.from; to = g.to; sizes = g.sizes }

@@ -19,7 +19,8 @@ size_from size label paths = sum_by (λ (p : GrowthPath). if bytes_eq (first_lab
 
 -- and of those that stand under it
 abbrev pub size_under : (GrowthSizes → ℕ) → List ℕ → List Under → ℕ
-size_under size label us = sum_by (λ (u : Under). if bytes_eq u.label label then sum_by (λ (p : GrowthPath). size p.sizes) u.below else 0) us
+size_under size label us =
+    sum_by (λ (u : Under). if bytes_eq u.label label then sum_by (λ (p : GrowthPath). size p.sizes) u.below else 0) us
 
 abbrev pub labels_of : List Under → List (List ℕ)
 labels_of us = map (λ (u : Under). u.label) us
@@ -32,8 +33,10 @@ pub record AreLabels (paths : List GrowthPath) : Type 0 where
   pub below : All (λ (u : Under). IsStrictlySortedBy growth_cmp u.below) (runs paths)
 
 abbrev pub LabelsStandOnce : Type 0
-LabelsStandOnce = (paths : List GrowthPath) → IsStrictlySortedBy growth_cmp paths → All (λ (p : GrowthPath). 0 < length p.path) paths → AreLabels paths
+LabelsStandOnce = (paths : List GrowthPath) → IsStrictlySortedBy growth_cmp paths
+    → All (λ (p : GrowthPath). 0 < length p.path) paths → AreLabels paths
 
 -- in the rows of every growth the growths of each shown size add up
 abbrev pub GrowsInAllTrees : Type 0
-GrowsInAllTrees = (options : RowOptions) (depth : ℕ) (paths : List GrowthPath) → IsGrowth depth paths → GrowsAlike options.domain (growth_tree options depth paths)
+GrowsInAllTrees = (options : RowOptions) (depth : ℕ) (paths : List GrowthPath) → IsGrowth depth paths
+    → GrowsAlike options.domain (growth_tree options depth paths)

@@ -8,7 +8,12 @@ no_sizes = record { new_vm = 0; new_file = 0; base_vm = 0; base_file = 0 }
 
 -- each size added to its like
 abbrev pub plus : GrowthSizes → GrowthSizes → GrowthSizes
-plus a b = record { new_vm = a.new_vm + b.new_vm; new_file = a.new_file + b.new_file; base_vm = a.base_vm + b.base_vm; base_file = a.base_file + b.base_file }
+plus a b = record {
+  new_vm = a.new_vm + b.new_vm;
+  new_file = a.new_file + b.new_file;
+  base_vm = a.base_vm + b.base_vm;
+  base_file = a.base_file + b.base_file;
+}
 
 -- the sizes of all elements of a list
 abbrev pub sums_by : {X : Type 0} → (X → GrowthSizes) → List X → GrowthSizes

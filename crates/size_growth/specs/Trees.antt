@@ -32,7 +32,8 @@ IsGrowthTree depth rows = IsTree depth (map new_row rows)
 abbrev pub GrowthsAddUp : (Row → ℕ) → List GrowthRow → Type 0
 GrowthsAddUp size rows =
     EachRow (λ (r : GrowthRow) (later : List GrowthRow). has_children (new_row r) (map new_row later) ≡ true
-    → level_sum size (r.level + 1) (map new_row later) + size (base_row r) ≡ level_sum size (r.level + 1) (map base_row later) + size (new_row r)) rows
+    → level_sum size (r.level + 1) (map new_row later) + size (base_row r)
+    ≡ level_sum size (r.level + 1) (map base_row later) + size (new_row r)) rows
 
 -- a growth adds up: that of the first level to the whole, and that of each row's children to the row's
 pub record HasGrowths (size : Row → ℕ) (new base depth : ℕ) (rows : List GrowthRow) : Type 0 where

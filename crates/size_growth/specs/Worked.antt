@@ -41,37 +41,48 @@ small =
 abbrev pub large : List RollupRow
 large =
     rollup_row (codes ".bss" ∷ []) (2 ^ 40) 0 ∷ rollup_row (codes ".shstrtab" ∷ []) 0 22 ∷ rollup_row (codes ".text" ∷ []) 16 16
-    ∷ rollup_row (codes "[ELF Header]" ∷ []) 0 64 ∷ rollup_row (codes "[ELF Section Headers]" ∷ []) 0 256 ∷ rollup_row (codes "[Unmapped]" ∷ []) 120 2 ∷ []
+    ∷ rollup_row (codes "[ELF Header]" ∷ []) 0 64 ∷ rollup_row (codes "[ELF Section Headers]" ∷ []) 0 256
+    ∷ rollup_row (codes "[Unmapped]" ∷ []) 120 2 ∷ []
 
 abbrev pub enlarged : List GrowthPath
 enlarged =
-    path_with (codes ".bss" ∷ []) (sizes (2 ^ 40) 0 0 0) ∷ path_with (codes ".shstrtab" ∷ []) (sizes 0 22 0 17) ∷ path_with (codes ".text" ∷ []) (sizes 16 16 16 16)
+    path_with (codes ".bss" ∷ []) (sizes (2 ^ 40) 0 0 0) ∷ path_with (codes ".shstrtab" ∷ []) (sizes 0 22 0 17)
+    ∷ path_with (codes ".text" ∷ []) (sizes 16 16 16 16)
     ∷ path_with (codes "[ELF Header]" ∷ []) (sizes 0 64 0 64) ∷ path_with (codes "[ELF Section Headers]" ∷ []) (sizes 0 256 0 192)
     ∷ path_with (codes "[Unmapped]" ∷ []) (sizes 120 2 120 7) ∷ []
 
 -- a label that is gone, one that is new, and two that changed
 abbrev pub four : List GrowthPath
 four =
-    path_with (codes "a" ∷ []) (sizes 0 0 1 9) ∷ path_with (codes "b" ∷ []) (sizes 2 8 0 0) ∷ path_with (codes "c" ∷ []) (sizes 3 4 3 12) ∷ path_with (codes "d" ∷ []) (sizes 9 1 4 1) ∷ []
+    path_with (codes "a" ∷ []) (sizes 0 0 1 9) ∷ path_with (codes "b" ∷ []) (sizes 2 8 0 0)
+    ∷ path_with (codes "c" ∷ []) (sizes 3 4 3 12) ∷ path_with (codes "d" ∷ []) (sizes 9 1 4 1) ∷ []
 
 -- paths of two labels: what stands under the first of them grew and shrank alike
 abbrev pub pairs : List GrowthPath
 pairs =
-    path_with (codes "a" ∷ codes "x" ∷ []) (sizes 0 5 0 2) ∷ path_with (codes "a" ∷ codes "y" ∷ []) (sizes 0 2 0 5) ∷ path_with (codes "b" ∷ codes "x" ∷ []) (sizes 0 9 0 2)
+    path_with (codes "a" ∷ codes "x" ∷ []) (sizes 0 5 0 2) ∷ path_with (codes "a" ∷ codes "y" ∷ []) (sizes 0 2 0 5)
+    ∷ path_with (codes "b" ∷ codes "x" ∷ []) (sizes 0 9 0 2)
     ∷ path_with (codes "b" ∷ codes "y" ∷ []) (sizes 0 1 0 4) ∷ path_with (codes "b" ∷ codes "z" ∷ []) (sizes 0 6 0 6) ∷ []
 
 pub record WorkedGrowths : Type 0 where
   pub side_by_side : merged large small ≡ enlarged
-  pub one_side : merged [] small ≡ path_with (codes ".shstrtab" ∷ []) (sizes 0 0 0 17) ∷ path_with (codes ".text" ∷ []) (sizes 0 0 16 16) ∷ path_with (codes "[ELF Header]" ∷ []) (sizes 0 0 0 64)
+  pub one_side : merged [] small
+      ≡ path_with (codes ".shstrtab" ∷ []) (sizes 0 0 0 17) ∷ path_with (codes ".text" ∷ []) (sizes 0 0 16 16)
+      ∷ path_with (codes "[ELF Header]" ∷ []) (sizes 0 0 0 64)
       ∷ path_with (codes "[ELF Section Headers]" ∷ []) (sizes 0 0 0 192) ∷ path_with (codes "[Unmapped]" ∷ []) (sizes 0 0 120 7) ∷ []
   pub all_changes : listing (asked 0 sorts.Both domains.Both) 1 0 enlarged
-      ≡ label_row 0 (codes ".bss") (sizes (2 ^ 40) 0 0 0) ∷ label_row 0 (codes "[ELF Section Headers]") (sizes 0 256 0 192) ∷ label_row 0 (codes ".shstrtab") (sizes 0 22 0 17)
+      ≡ label_row 0 (codes ".bss") (sizes (2 ^ 40) 0 0 0) ∷ label_row 0 (codes "[ELF Section Headers]") (sizes 0 256 0 192)
+      ∷ label_row 0 (codes ".shstrtab") (sizes 0 22 0 17)
       ∷ label_row 0 (codes "[Unmapped]") (sizes 120 2 120 7) ∷ []
-  pub others_of_no_growth : listing (asked 1 sorts.Both domains.File) 1 0 enlarged ≡ label_row 0 (codes "[ELF Section Headers]") (sizes 0 256 0 192) ∷ others_row 0 2 (sizes 120 24 120 24) ∷ []
+  pub others_of_no_growth : listing (asked 1 sorts.Both domains.File) 1 0 enlarged
+      ≡ label_row 0 (codes "[ELF Section Headers]") (sizes 0 256 0 192) ∷ others_row 0 2 (sizes 120 24 120 24) ∷ []
   pub without_sign : listing (asked 0 sorts.File domains.Both) 1 0 four
-      ≡ label_row 0 (codes "a") (sizes 0 0 1 9) ∷ label_row 0 (codes "b") (sizes 2 8 0 0) ∷ label_row 0 (codes "c") (sizes 3 4 3 12) ∷ label_row 0 (codes "d") (sizes 9 1 4 1) ∷ []
-  pub file_hidden : listing (asked 0 sorts.Both domains.Vm) 1 0 four ≡ label_row 0 (codes "d") (sizes 9 1 4 1) ∷ label_row 0 (codes "b") (sizes 2 8 0 0) ∷ label_row 0 (codes "a") (sizes 0 0 1 9) ∷ []
-  pub others_before_its_equal : listing (asked 2 sorts.File domains.File) 1 0 four ≡ label_row 0 (codes "a") (sizes 0 0 1 9) ∷ others_row 0 1 (sizes 3 4 3 12) ∷ label_row 0 (codes "b") (sizes 2 8 0 0) ∷ []
+      ≡ label_row 0 (codes "a") (sizes 0 0 1 9) ∷ label_row 0 (codes "b") (sizes 2 8 0 0)
+      ∷ label_row 0 (codes "c") (sizes 3 4 3 12) ∷ label_row 0 (codes "d") (sizes 9 1 4 1) ∷ []
+  pub file_hidden : listing (asked 0 sorts.Both domains.Vm) 1 0 four
+      ≡ label_row 0 (codes "d") (sizes 9 1 4 1) ∷ label_row 0 (codes "b") (sizes 2 8 0 0) ∷ label_row 0 (codes "a") (sizes 0 0 1 9) ∷ []
+  pub others_before_its_equal : listing (asked 2 sorts.File domains.File) 1 0 four
+      ≡ label_row 0 (codes "a") (sizes 0 0 1 9) ∷ others_row 0 1 (sizes 3 4 3 12) ∷ label_row 0 (codes "b") (sizes 2 8 0 0) ∷ []
   pub alike_in_all : listing (asked 0 sorts.Both domains.Both) 2 0 pairs
       ≡ label_row 0 (codes "b") (sizes 0 16 0 12) ∷ label_row 1 (codes "x") (sizes 0 9 0 2) ∷ label_row 1 (codes "y") (sizes 0 1 0 4) ∷ []
   pub nothing : listing (asked 20 sorts.Both domains.Both) 1 0 (path_with (codes "a" ∷ []) (sizes 1 1 1 1) ∷ []) ≡ []

@@ -85,7 +85,8 @@ fn pass_lesser(
     requires base { at.base < length base.now.rows }
     requires new_fits { length new.now.rows < 2 ^ 64 }
     requires base_fits { length base.now.rows < 2 ^ 64 }
-    ensures left { IfOk result (λ to. paths.new.items ++ left new.now.rows base.now.rows to ≡ paths.old.items ++ left new.now.rows base.now.rows at) }
+    ensures left { IfOk result (λ to. paths.new.items ++ left new.now.rows base.now.rows to
+        ≡ paths.old.items ++ left new.now.rows base.now.rows at) }
     ensures stands { IfOk result (Stands new.now.rows base.now.rows) }
     ensures further { IfOk result (λ to. at.new + at.base < to.new + to.base) }
 {
@@ -128,7 +129,8 @@ fn pass(
     requires base { at.base ≤ length base.now.rows }
     requires new_fits { length new.now.rows < 2 ^ 64 }
     requires base_fits { length base.now.rows < 2 ^ 64 }
-    ensures left { IfOk result (λ to. paths.new.items ++ left new.now.rows base.now.rows to ≡ paths.old.items ++ left new.now.rows base.now.rows at) }
+    ensures left { IfOk result (λ to. paths.new.items ++ left new.now.rows base.now.rows to
+        ≡ paths.old.items ++ left new.now.rows base.now.rows at) }
     ensures stands { IfOk result (Stands new.now.rows base.now.rows) }
     ensures further { IfOk result (λ to. at.new + at.base < to.new + to.base) }
 {

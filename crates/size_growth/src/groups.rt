@@ -105,7 +105,8 @@ fn make_group(
 
 // Adds a group of which a shown size has changed.
 fn keep(options: &RowOptions, groups: &mut Vec<Group>, group: Group) -> Result<(), NoMemory>
-    ensures { OnOk result (groups.new.items ≡ groups.old.items ++ (if has_changed options.now group.sizes then group ∷ [] else [])) }
+    ensures { OnOk result (groups.new.items
+        ≡ groups.old.items ++ (if has_changed options.now group.sizes then group ∷ [] else [])) }
 {
     if has_changed(options, &group.sizes) {
         groups.push(group)?;
@@ -123,7 +124,8 @@ fn groups_of(
 ) -> Result<Vec<Group>, NoMemory>
     requires part { IsPart depth paths.now }
     requires below { level < depth }
-    ensures entries { IfOk result (λ groups. map (group_entry level paths.now) groups.items ≡ filter (is_child options.now) (map label_entry (runs (table_at level paths.now)))) }
+    ensures entries { IfOk result (λ groups. map (group_entry level paths.now) groups.items
+        ≡ filter (is_child options.now) (map label_entry (runs (table_at level paths.now)))) }
     ensures groups { IfOk result (λ groups. All (IsGroup options.now paths.now) groups.items) }
     ensures rise { IfOk result (λ groups. Rise groups.items) }
 {
@@ -147,7 +149,8 @@ pub fn children(
 ) -> Result<Vec<Group>, NoMemory>
     requires part { IsPart depth paths.now }
     requires below { level < depth }
-    ensures entries { IfOk result (λ groups. map (group_entry level paths.now) groups.items ≡ children options.now (table_at level paths.now)) }
+    ensures entries { IfOk result (λ groups. map (group_entry level paths.now) groups.items
+        ≡ children options.now (table_at level paths.now)) }
     ensures groups { IfOk result (λ groups. All (IsGroup options.now paths.now) groups.items) }
 {
     let mut groups = groups_of(alloc, options, depth, paths, level)?;

@@ -83,7 +83,8 @@ pub fn items(
 ) -> Result<Vec<Item>, NoMemory>
     requires part { IsPart depth paths.now }
     requires below { level < depth }
-    ensures entries { IfOk result (λ items. map (item_entry level paths.now) items.items ≡ entries_of options.now (table_at level paths.now)) }
+    ensures entries { IfOk result (λ items. map (item_entry level paths.now) items.items
+        ≡ entries_of options.now (table_at level paths.now)) }
     ensures ranges { IfOk result (λ items. All (IsRange paths.now) items.items) }
 {
     let groups = children(alloc, options, depth, paths, level)?;

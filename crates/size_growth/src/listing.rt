@@ -69,7 +69,8 @@ pub fn growth_rows(
     sort: Sort,
     domain: Domain,
 ) -> Result<GrowthTree, NoMemory>
-    ensures rows { IfOk result (λ t. t ≡ growth_tree (record { limit = limit; sort = sort; domain = domain }) growth.now.depth growth.now.paths) }
+    ensures rows { IfOk result (λ t. t
+        ≡ growth_tree (record { limit = limit; sort = sort; domain = domain }) growth.now.depth growth.now.paths) }
     ensures levels { IfOk result (λ t. IsGrowthTree t.depth t.rows) }
     ensures growths { IfOk result (GrowsAlike domain) }
 {
