@@ -9,6 +9,71 @@ use std::test::Fail;
 // A section by its name, and by its type, flags, address, offset, size, link and info.
 type SectionRow<'a> = (&'a [u8], &'a [u64]);
 
+// The number, the name, the address and the size of a symbol.
+type SymbolRow<'a> = (u32, &'a [u8], u64, u64);
+
+// A made file of so many functions: its length, the offset of its section headers, the bytes of its load, its sections
+// after the null section, how many symbols it has, and some of them.
+struct MadeFile<'a> {
+    functions: u32,
+    len: usize,
+    section_headers: u64,
+    load: u64,
+    sections: &'a [SectionRow<'a>],
+    symbols: u32,
+    rows: &'a [SymbolRow<'a>],
+}
+
+const MADE_FILES: [MadeFile<'static>; 3] = [
+    MadeFile {
+        functions: 0,
+        len: 498,
+        section_headers: 178,
+        load: 120,
+        sections: &[
+            (b".text", &[1, 6, 0x400078, 120, 0, 0, 0]),
+            (b".symtab", &[2, 0, 0, 120, 24, 3, 1]),
+            (b".strtab", &[3, 0, 0, 144, 1, 0, 0]),
+            (b".shstrtab", &[3, 0, 0, 145, 33, 0, 0]),
+        ],
+        symbols: 1,
+        rows: &[],
+    },
+    MadeFile {
+        functions: 1,
+        len: 547,
+        section_headers: 227,
+        load: 136,
+        sections: &[
+            (b".text", &[1, 6, 0x400078, 120, 16, 0, 0]),
+            (b".symtab", &[2, 0, 0, 136, 48, 3, 1]),
+            (b".strtab", &[3, 0, 0, 184, 10, 0, 0]),
+            (b".shstrtab", &[3, 0, 0, 194, 33, 0, 0]),
+        ],
+        symbols: 2,
+        rows: &[(1, b"f0000001", 0x400078, 24)],
+    },
+    MadeFile {
+        functions: 1000,
+        len: 49498,
+        section_headers: 49178,
+        load: 16120,
+        sections: &[
+            (b".text", &[1, 6, 0x400078, 120, 16000, 0, 0]),
+            (b".symtab", &[2, 0, 0, 16120, 24024, 3, 1]),
+            (b".strtab", &[3, 0, 0, 40144, 9001, 0, 0]),
+            (b".shstrtab", &[3, 0, 0, 49145, 33, 0, 0]),
+        ],
+        symbols: 1001,
+        rows: &[
+            (1, b"f0001000", 0x403ee8, 24),
+            (2, b"f0000999", 0x403ed8, 16),
+            (999, b"f0000002", 0x400088, 24),
+            (1000, b"f0000001", 0x400078, 16),
+        ],
+    },
+];
+
 fn numbers(s: &Section<'_>) -> [u64; 7] {
     [
         u64::from(s.kind),
@@ -21,23 +86,17 @@ fn numbers(s: &Section<'_>) -> [u64; 7] {
     ]
 }
 
-// A file has this header, one load of so many bytes from its beginning on, and these sections after the null section.
-fn assert_sections(
-    rt: &impl Abort,
-    file: &[u8],
-    section_headers: u64,
-    load: u64,
-    rows: &[SectionRow<'_>],
-) -> Result<(), Fail> {
+// A file has the header, the one load from its beginning on, and the sections of a made file.
+fn assert_sections(rt: &impl Abort, file: &[u8], made: &MadeFile<'_>) -> Result<(), Fail> {
     assert!(rt; file.len() < 1 << 32);
     let elf = ElfFile::parse(file)?;
     let header = elf.header();
     assert_eq!(rt; (header.kind, header.machine), (2, 62));
-    assert_eq!(rt; (header.phoff, header.shoff), (64, section_headers));
+    assert_eq!(rt; (header.phoff, header.shoff), (64, made.section_headers));
     assert_eq!(rt; (header.segments, header.sections), (1, 5));
     for i in 1..header.sections {
         let section = elf.section(i);
-        let Some((name, row)) = rows.get(i as usize - 1) else {
+        let Some((name, row)) = made.sections.get(i as usize - 1) else {
             panic!(rt; "a section after the last one");
         };
         assert!(rt; section.name == *name, "the name of section {i}");
@@ -49,67 +108,24 @@ fn assert_sections(
         flags: 5,
         offset: 0,
         vaddr: 0x400000,
-        filesz: load,
-        memsz: load,
+        filesz: made.load,
+        memsz: made.load,
     };
     assert_eq!(rt; elf.segment(0), want);
     Ok(())
 }
 
-#[test]
-fn a_made_file_of_no_function(rt: HostRuntime) -> Result<(), Fail> {
-    let file = synth(rt.alloc(), 0)?;
-    assert_eq!(rt; file.len(), 498);
-    assert_sections(
-        &rt,
-        &file,
-        178,
-        120,
-        &[
-            (b".text", &[1, 6, 0x400078, 120, 0, 0, 0]),
-            (b".symtab", &[2, 0, 0, 120, 24, 3, 1]),
-            (b".strtab", &[3, 0, 0, 144, 1, 0, 0]),
-            (b".shstrtab", &[3, 0, 0, 145, 33, 0, 0]),
-        ],
-    )?;
-    assert_symbols(&rt, &file, 1, &[])
-}
-
-#[test]
-fn a_made_file_of_one_function(rt: HostRuntime) -> Result<(), Fail> {
-    let file = synth(rt.alloc(), 1)?;
-    assert_eq!(rt; file.len(), 547);
-    assert_sections(
-        &rt,
-        &file,
-        227,
-        136,
-        &[
-            (b".text", &[1, 6, 0x400078, 120, 16, 0, 0]),
-            (b".symtab", &[2, 0, 0, 136, 48, 3, 1]),
-            (b".strtab", &[3, 0, 0, 184, 10, 0, 0]),
-            (b".shstrtab", &[3, 0, 0, 194, 33, 0, 0]),
-        ],
-    )?;
-    assert_symbols(&rt, &file, 2, &[(1, b"f0000001", 0x400078, 24)])
-}
-
-// The symbols of a made file: how many there are, and for some of them the number, the name, the address and the size.
-fn assert_symbols(
-    rt: &impl Abort,
-    file: &[u8],
-    count: u32,
-    rows: &[(u32, &[u8], u64, u64)],
-) -> Result<(), Fail> {
+// A file has as many symbols as a made file, those of its rows among them.
+fn assert_symbols(rt: &impl Abort, file: &[u8], made: &MadeFile<'_>) -> Result<(), Fail> {
     assert!(rt; file.len() < 1 << 32);
     let elf = ElfFile::parse(file)?;
     assert!(rt; elf.header().sections > 2 && elf.section(2).kind == SHT_SYMTAB);
     let table = SymbolTable::at(&elf, 2)?;
-    assert_eq!(rt; table.len(), count);
+    assert_eq!(rt; table.len(), made.symbols);
     for k in 0..table.len() {
         table.symbol(k)?;
     }
-    for (k, name, value, size) in rows {
+    for (k, name, value, size) in made.rows {
         assert!(rt; *k < table.len());
         let symbol = table.symbol(*k)?;
         assert!(rt; symbol.name == *name, "the name of symbol {k}");
@@ -120,30 +136,13 @@ fn assert_symbols(
 }
 
 #[test]
-fn a_made_file_of_a_thousand_functions(rt: HostRuntime) -> Result<(), Fail> {
-    let file = synth(rt.alloc(), 1000)?;
-    assert_eq!(rt; file.len(), 49498);
-    assert_sections(
-        &rt,
-        &file,
-        49178,
-        16120,
-        &[
-            (b".text", &[1, 6, 0x400078, 120, 16000, 0, 0]),
-            (b".symtab", &[2, 0, 0, 16120, 24024, 3, 1]),
-            (b".strtab", &[3, 0, 0, 40144, 9001, 0, 0]),
-            (b".shstrtab", &[3, 0, 0, 49145, 33, 0, 0]),
-        ],
-    )?;
-    assert_symbols(
-        &rt,
-        &file,
-        1001,
-        &[
-            (1, b"f0001000", 0x403ee8, 24),
-            (2, b"f0000999", 0x403ed8, 16),
-            (999, b"f0000002", 0x400088, 24),
-            (1000, b"f0000001", 0x400078, 16),
-        ],
-    )
+fn made_files(rt: HostRuntime) -> Result<(), Fail> {
+    for made in &MADE_FILES {
+        assert!(rt; made.functions <= 1000);
+        let file = synth(rt.alloc(), made.functions)?;
+        assert_eq!(rt; file.len(), made.len);
+        assert_sections(&rt, &file, made)?;
+        assert_symbols(&rt, &file, made)?;
+    }
+    Ok(())
 }

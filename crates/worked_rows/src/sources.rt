@@ -15,6 +15,88 @@ use worked_files::{
 // A label with its file size and its VM size.
 type Row<'a> = (&'a [u8], u64, u64);
 
+// Sections, one of which has a tebibyte of addresses and no byte.
+const LARGE_BSS: [Row<'static>; 7] = [
+    (b".bss", 0, 1 << 40),
+    (b"[ELF Section Headers]", 256, 0),
+    (b"[ELF Header]", 64, 64),
+    (b"[ELF Program Headers]", 56, 56),
+    (b".shstrtab", 22, 0),
+    (b".text", 16, 16),
+    (b"[Unmapped]", 2, 0),
+];
+
+// Sections, one of which is thread-local and has no byte.
+const THREAD_LOCAL: [Row<'static>; 6] = [
+    (b"[ELF Section Headers]", 256, 0),
+    (b"[ELF Header]", 64, 64),
+    (b"[ELF Program Headers]", 56, 56),
+    (b".shstrtab", 29, 0),
+    (b".init_array", 8, 8),
+    (b"[Unmapped]", 3, 0),
+];
+
+// Neither units nor lines, as without debug sections.
+const NO_DEBUG_SECTIONS: [Row<'static>; 8] = [
+    (b"[section .text]", 16, 16),
+    (b"[section .symtab]", 72, 0),
+    (b"[section .strtab]", 5, 0),
+    (b"[section .shstrtab]", 33, 0),
+    (b"[ELF Header]", 64, 64),
+    (b"[ELF Program Headers]", 56, 56),
+    (b"[ELF Section Headers]", 320, 0),
+    (b"[Unmapped]", 2, 0),
+];
+
+// No symbol that claims a byte.
+const NO_SYMBOLS: [Row<'static>; 7] = [
+    (b"[section .text]", 16, 16),
+    (b"[section .symtab]", 48, 0),
+    (b"[section .shstrtab]", 25, 0),
+    (b"[ELF Header]", 64, 64),
+    (b"[ELF Program Headers]", 56, 56),
+    (b"[ELF Section Headers]", 256, 0),
+    (b"[Unmapped]", 7, 0),
+];
+
+// Segments of bytes that are loaded twice.
+const TWICE_SEGMENTS: [Row<'static>; 4] = [
+    (b"LOAD #0 [RX]", 192, 192),
+    (b"LOAD #1 [R]", 0, 192),
+    (b"[ELF Section Headers]", 192, 0),
+    (b"[Unmapped]", 24, 0),
+];
+
+// Sections of the same file.
+const TWICE_SECTIONS: [Row<'static>; 7] = [
+    (b"[ELF Header]", 64, 128),
+    (b"[ELF Program Headers]", 112, 224),
+    (b".text", 16, 16),
+    (b"[LOAD #1 [R]]", 0, 16),
+    (b".shstrtab", 17, 0),
+    (b"[ELF Section Headers]", 192, 0),
+    (b"[Unmapped]", 7, 0),
+];
+
+// Sections of an object.
+const OBJECT_SECTIONS: [Row<'static>; 6] = [
+    (b"[ELF Section Headers]", 320, 0),
+    (b"[ELF Header]", 64, 0),
+    (b".bss", 0, 32),
+    (b".shstrtab", 32, 0),
+    (b".text.a", 16, 16),
+    (b".text.b", 8, 8),
+];
+
+// What segments shows of it.
+const OBJECT_SEGMENTS: [Row<'static>; 5] = [
+    (b"[ELF Section Headers]", 320, 0),
+    (b"[ELF Header]", 64, 0),
+    (b"SECTION [RW]", 0, 32),
+    (b"[Unmapped]", 32, 0),
+    (b"SECTION [RX]", 24, 24),
+];
+
 // The sizes that a data source gives a sound file.
 fn rows_of(rt: &impl Abort, alloc: Global, file: &[u8], source: Source) -> Result<Sizes, Fail> {
     assert!(rt; file.len() < 1 << 32);
@@ -77,21 +159,7 @@ fn sections_of_a_large_bss(rt: HostRuntime) -> Result<(), Fail> {
     let alloc = rt.alloc();
     let file = large_bss(alloc)?;
     assert_eq!(rt; file.len(), 416);
-    assert_rows(
-        &rt,
-        alloc,
-        &file,
-        Source::Sections,
-        &[
-            (b".bss", 0, 1 << 40),
-            (b"[ELF Section Headers]", 256, 0),
-            (b"[ELF Header]", 64, 64),
-            (b"[ELF Program Headers]", 56, 56),
-            (b".shstrtab", 22, 0),
-            (b".text", 16, 16),
-            (b"[Unmapped]", 2, 0),
-        ],
-    )
+    assert_rows(&rt, alloc, &file, Source::Sections, &LARGE_BSS)
 }
 
 #[test]
@@ -102,14 +170,7 @@ fn thread_local_storage_takes_no_address(rt: HostRuntime) -> Result<(), Fail> {
         alloc,
         &thread_local(alloc)?,
         Source::Sections,
-        &[
-            (b"[ELF Section Headers]", 256, 0),
-            (b"[ELF Header]", 64, 64),
-            (b"[ELF Program Headers]", 56, 56),
-            (b".shstrtab", 29, 0),
-            (b".init_array", 8, 8),
-            (b"[Unmapped]", 3, 0),
-        ],
+        &THREAD_LOCAL,
     )
 }
 
@@ -118,23 +179,8 @@ fn bytes_loaded_twice_count_once(rt: HostRuntime) -> Result<(), Fail> {
     let alloc = rt.alloc();
     let file = loaded_twice(alloc)?;
     assert_eq!(rt; file.len(), 408);
-    let rows: [Row<'_>; 4] = [
-        (b"LOAD #0 [RX]", 192, 192),
-        (b"LOAD #1 [R]", 0, 192),
-        (b"[ELF Section Headers]", 192, 0),
-        (b"[Unmapped]", 24, 0),
-    ];
-    assert_rows(&rt, alloc, &file, Source::Segments, &rows)?;
-    let rows: [Row<'_>; 7] = [
-        (b"[ELF Header]", 64, 128),
-        (b"[ELF Program Headers]", 112, 224),
-        (b".text", 16, 16),
-        (b"[LOAD #1 [R]]", 0, 16),
-        (b".shstrtab", 17, 0),
-        (b"[ELF Section Headers]", 192, 0),
-        (b"[Unmapped]", 7, 0),
-    ];
-    assert_rows(&rt, alloc, &file, Source::Sections, &rows)
+    assert_rows(&rt, alloc, &file, Source::Segments, &TWICE_SEGMENTS)?;
+    assert_rows(&rt, alloc, &file, Source::Sections, &TWICE_SECTIONS)
 }
 
 #[test]
@@ -157,22 +203,7 @@ fn the_first_symbol_takes_a_byte(rt: HostRuntime) -> Result<(), Fail> {
     )?;
     // Without debug sections there are no units and no lines.
     for source in [Source::CompileUnits, Source::Inlines] {
-        assert_rows(
-            &rt,
-            alloc,
-            &file,
-            source,
-            &[
-                (b"[section .text]", 16, 16),
-                (b"[section .symtab]", 72, 0),
-                (b"[section .strtab]", 5, 0),
-                (b"[section .shstrtab]", 33, 0),
-                (b"[ELF Header]", 64, 64),
-                (b"[ELF Program Headers]", 56, 56),
-                (b"[ELF Section Headers]", 320, 0),
-                (b"[Unmapped]", 2, 0),
-            ],
-        )?;
+        assert_rows(&rt, alloc, &file, source, &NO_DEBUG_SECTIONS)?;
     }
     Ok(())
 }
@@ -264,21 +295,7 @@ fn a_table_may_name_itself(rt: HostRuntime) -> Result<(), Fail> {
     let alloc = rt.alloc();
     let table = symbol_table(&[0; 48], 2);
     let file = file(alloc, EXECUTABLE, &[LOAD], &[NULL, TEXT, table, NAMES])?;
-    assert_rows(
-        &rt,
-        alloc,
-        &file,
-        Source::Symbols,
-        &[
-            (b"[section .text]", 16, 16),
-            (b"[section .symtab]", 48, 0),
-            (b"[section .shstrtab]", 25, 0),
-            (b"[ELF Header]", 64, 64),
-            (b"[ELF Program Headers]", 56, 56),
-            (b"[ELF Section Headers]", 256, 0),
-            (b"[Unmapped]", 7, 0),
-        ],
-    )
+    assert_rows(&rt, alloc, &file, Source::Symbols, &NO_SYMBOLS)
 }
 
 #[test]
@@ -286,23 +303,8 @@ fn each_section_of_an_object_is_a_space(rt: HostRuntime) -> Result<(), Fail> {
     let alloc = rt.alloc();
     let file = object(alloc)?;
     assert_eq!(rt; file.len(), 440);
-    let rows: [Row<'_>; 6] = [
-        (b"[ELF Section Headers]", 320, 0),
-        (b"[ELF Header]", 64, 0),
-        (b".bss", 0, 32),
-        (b".shstrtab", 32, 0),
-        (b".text.a", 16, 16),
-        (b".text.b", 8, 8),
-    ];
-    assert_rows(&rt, alloc, &file, Source::Sections, &rows)?;
-    let rows: [Row<'_>; 5] = [
-        (b"[ELF Section Headers]", 320, 0),
-        (b"[ELF Header]", 64, 0),
-        (b"SECTION [RW]", 0, 32),
-        (b"[Unmapped]", 32, 0),
-        (b"SECTION [RX]", 24, 24),
-    ];
-    assert_rows(&rt, alloc, &file, Source::Segments, &rows)
+    assert_rows(&rt, alloc, &file, Source::Sections, &OBJECT_SECTIONS)?;
+    assert_rows(&rt, alloc, &file, Source::Segments, &OBJECT_SEGMENTS)
 }
 
 #[test]
