@@ -3,6 +3,7 @@ pub mod HeldLemmas
 pub mod KindLemmas
 pub mod PairLemmas
 pub mod PlaceLemmas
+pub mod PlanLemmas
 pub mod ReadLemmas
 pub mod RunLemmas
 pub mod SidesLemmas

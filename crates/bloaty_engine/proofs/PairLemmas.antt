@@ -20,9 +20,10 @@ use Rattle.size_options.specs.Answers.{IsPair}
 use Rattle.file_profile.specs.Counts.{filter_test}
 use Rattle.file_profile.proofs.MapLemmas.{err-same}
 use Rattle.size_options.specs.declared.chosen.Options.{Options}
-use Rattle.bloaty_engine.specs.declared.outcome.Outcome.{Outcome}
-use Rattle.bloaty_engine.specs.declared.outcome.Outcome.TheVariants.{Done, Usage, ReadFailed, TooLong, Config, UnknownSource, PatternSyntax, PatternTooBig, Bad, TooManyClaims, MappedTooLarge, NoMatch, PlaceOutside, WriteFailed, NoMemory}
-use Rattle.bloaty_engine.specs.Named.{AreFiles, AreHeld, all_names, debug_names, file_names, name_at, names_of, other_names}
+use Rattle.run_outcome.specs.declared.outcome.Outcome.{Outcome}
+use Rattle.run_outcome.specs.declared.outcome.Outcome.TheVariants.{Done, Usage, ReadFailed, TooLong, Config, UnknownSource, PatternSyntax, PatternTooBig, Bad, TooManyClaims, MappedTooLarge, NoMatch, PlaceOutside, WriteFailed, NoMemory}
+use Rattle.bloaty_engine.specs.Named.{AreFiles, AreHeld}
+use Rattle.run_outcome.specs.Names.{all_names, debug_names, file_names, name_at, names_of, other_names}
 use Rattle.bloaty_engine.specs.PairSteps.{EndsFirst, EndsPair, EndsPaired}
 use Rattle.bloaty_engine.specs.Steps.{EndsAs, Finds}
 use Rattle.bloaty_engine.specs.Reading.{files_to_read, unmade_names}

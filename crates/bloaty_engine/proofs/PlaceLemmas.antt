@@ -15,9 +15,10 @@ use Rattle.file_profile.specs.declared.answer.PlaceAnswer.{PlaceAnswer}
 use Rattle.file_profile.specs.declared.answer.PlaceAnswer.TheVariants as explaining
 use Rattle.file_profile.specs.Places.{Explains}
 use Rattle.file_profile.specs.Sources.{Chosen}
-use Rattle.bloaty_engine.specs.declared.outcome.Outcome.{Outcome}
-use Rattle.bloaty_engine.specs.declared.outcome.Outcome.TheVariants.{Done, Usage, ReadFailed, TooLong, Config, UnknownSource, PatternSyntax, PatternTooBig, Bad, TooManyClaims, MappedTooLarge, NoMatch, PlaceOutside, WriteFailed, NoMemory}
-use Rattle.bloaty_engine.specs.Named.{AreHeld, debug_names, file_names, names_of, other_names}
+use Rattle.run_outcome.specs.declared.outcome.Outcome.{Outcome}
+use Rattle.run_outcome.specs.declared.outcome.Outcome.TheVariants.{Done, Usage, ReadFailed, TooLong, Config, UnknownSource, PatternSyntax, PatternTooBig, Bad, TooManyClaims, MappedTooLarge, NoMatch, PlaceOutside, WriteFailed, NoMemory}
+use Rattle.bloaty_engine.specs.Named.{AreHeld}
+use Rattle.run_outcome.specs.Names.{debug_names, file_names, names_of, other_names}
 use Rattle.bloaty_engine.specs.PlaceSteps.{EndsExplained, explained_within}
 use Rattle.bloaty_engine.specs.Reports.{EndsFinding, IsUnmade}
 use Rattle.bloaty_engine.specs.Steps.{Finds}

@@ -4,8 +4,8 @@ use Rattle.std.specs.Prelude.{OnOk, slice_get}
 use Rattle.std.proofs.Math.Seq.{take-append-add}
 use Rattle.std.proofs.lemmas.List.{append-nil, take_all}
 use Rattle.std.proofs.lemmas.Option.{none-some, same_Some}
-use Rattle.bloaty_engine.specs.declared.outcome.Outcome.{Outcome}
-use Rattle.bloaty_engine.specs.declared.outcome.Outcome.TheVariants.{Done}
+use Rattle.run_outcome.specs.declared.outcome.Outcome.{Outcome}
+use Rattle.run_outcome.specs.declared.outcome.Outcome.TheVariants.{Done}
 use Rattle.bloaty_engine.specs.Answers.{is_end}
 use Rattle.bloaty_engine.specs.Reading.{ReadsFirst}
 

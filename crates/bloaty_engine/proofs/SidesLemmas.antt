@@ -12,11 +12,12 @@ use Rattle.rollup.specs.Totals.{IsTotals, Totals}
 use Rattle.report_rows.specs.declared.row.RowOptions.{RowOptions}
 use Rattle.report_rows.specs.Rows.{row_tree}
 use Rattle.size_options.specs.declared.chosen.Options.{Options}
-use Rattle.bloaty_engine.specs.declared.outcome.Outcome.{Outcome}
-use Rattle.bloaty_engine.specs.declared.outcome.Outcome.TheVariants.{Done, Usage, ReadFailed, TooLong, Config, UnknownSource, PatternSyntax, PatternTooBig, Bad, TooManyClaims, MappedTooLarge, NoMatch, PlaceOutside, WriteFailed, NoMemory}
+use Rattle.run_outcome.specs.declared.outcome.Outcome.{Outcome}
+use Rattle.run_outcome.specs.declared.outcome.Outcome.TheVariants.{Done, Usage, ReadFailed, TooLong, Config, UnknownSource, PatternSyntax, PatternTooBig, Bad, TooManyClaims, MappedTooLarge, NoMatch, PlaceOutside, WriteFailed, NoMemory}
 use Rattle.file_profile.specs.Counts.{filter_test}
 use Rattle.bloaty_engine.specs.GrowthReport.{EndsGrowth, IsGrowthReport, PrintsGrowth}
-use Rattle.bloaty_engine.specs.Named.{AreFiles, AreHeld, file_names, names_of}
+use Rattle.bloaty_engine.specs.Named.{AreFiles, AreHeld}
+use Rattle.run_outcome.specs.Names.{file_names, names_of}
 use Rattle.bloaty_engine.specs.Report.{AreSizes, IsSizeReport, depth_of, printed, report_tree, row_options}
 use Rattle.bloaty_engine.specs.Reports.{EndsCounting, IsReportFor, IsUnmade}
 use Rattle.file_profile.specs.Sources.{Chosen}

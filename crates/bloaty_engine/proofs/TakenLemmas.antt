@@ -5,7 +5,7 @@ use Rattle.outside.specs.Causes.{RoseBy}
 use Rattle.outside.specs.Held.{Pairs, IsLonger, IsTaken}
 use Rattle.file_profile.specs.declared.answer.ProfileAnswer.{ProfileAnswer}
 use Rattle.file_profile.specs.declared.answer.ProfileAnswer.TheVariants as profile
-use Rattle.bloaty_engine.specs.declared.outcome.Outcome.TheVariants.{TooLong}
+use Rattle.run_outcome.specs.declared.outcome.Outcome.TheVariants.{TooLong}
 use Rattle.bloaty_engine.specs.Reading.{IsOverLimit, made_len}
 use Rattle.bloaty_engine.specs.Verdict.{config_limit, end_at, file_limit, total_limit}
 

@@ -8,9 +8,10 @@ use Rattle.custom_rewrites.specs.Pattern.{IsNoPattern}
 use Rattle.size_options.specs.declared.chosen.Options.{Options}
 use Rattle.size_options.specs.declared.answer.UsageKind.{UsageKind}
 use Rattle.size_options.specs.declared.answer.UsageKind.TheVariants as usage
-use Rattle.bloaty_engine.specs.declared.outcome.Outcome.{Outcome}
-use Rattle.bloaty_engine.specs.declared.outcome.Outcome.TheVariants.{Done, Usage, ReadFailed, TooLong, Config, UnknownSource, PatternSyntax, PatternTooBig, Bad, TooManyClaims, MappedTooLarge, NoMatch, PlaceOutside, WriteFailed, NoMemory}
-use Rattle.bloaty_engine.specs.Named.{AreContents, Contents, all_names}
+use Rattle.run_outcome.specs.declared.outcome.Outcome.{Outcome}
+use Rattle.run_outcome.specs.declared.outcome.Outcome.TheVariants.{Done, Usage, ReadFailed, TooLong, Config, UnknownSource, PatternSyntax, PatternTooBig, Bad, TooManyClaims, MappedTooLarge, NoMatch, PlaceOutside, WriteFailed, NoMemory}
+use Rattle.bloaty_engine.specs.Named.{AreContents, Contents}
+use Rattle.run_outcome.specs.Names.{all_names}
 use Rattle.file_profile.specs.Patterns.{ArePatterns, StopsAt}
 use Rattle.bloaty_engine.specs.Reports.{IsReport, IsUnmade}
 use Rattle.bloaty_engine.specs.Verdict.{Found, IsReadAt, Request, asked, verdict}

@@ -20,7 +20,7 @@ use Rattle.size_growth.specs.Trees.{GrowsAlike}
 use Rattle.report_text.specs.Growth.{growth_csv_text, growth_report_text, growth_tsv_text}
 use Rattle.size_options.specs.declared.chosen.Options.{Options}
 use Rattle.file_profile.specs.Counts.{file_size_where, filter_test, vm_size_where}
-use Rattle.bloaty_engine.specs.declared.outcome.Outcome.{Outcome}
+use Rattle.run_outcome.specs.declared.outcome.Outcome.{Outcome}
 use Rattle.bloaty_engine.specs.Report.{depth_of, row_options}
 use Rattle.file_profile.specs.Sources.{Chosen}
 use Rattle.bloaty_engine.specs.Steps.{Batch, EndsFiles}

@@ -1,12 +1,10 @@
 pub mod Answers
 pub mod GrowthReport
-pub mod Line
 pub mod Named
 pub mod PairSteps
 pub mod PlaceSteps
 pub mod Reading
 pub mod Report
 pub mod Reports
-pub mod Status
 pub mod Steps
 pub mod Verdict

@@ -6,8 +6,8 @@ use Rattle.size_model.specs.declared.view.FileView.{FileView}
 use Rattle.rollup.specs.Totals.{Totals}
 use Rattle.file_profile.specs.PairViews.{pair_viewed}
 use Rattle.file_profile.specs.Sources.{Chosen}
-use Rattle.bloaty_engine.specs.declared.outcome.Outcome.{Outcome}
-use Rattle.bloaty_engine.specs.declared.outcome.Outcome.TheVariants.{ReadFailed, NoMemory}
+use Rattle.run_outcome.specs.declared.outcome.Outcome.{Outcome}
+use Rattle.run_outcome.specs.declared.outcome.Outcome.TheVariants.{ReadFailed, NoMemory}
 use Rattle.bloaty_engine.specs.Steps.{HasCounted}
 use Rattle.bloaty_engine.specs.Verdict.{IsPairRead, counted_pair, if_paired, one_file, opened_first}
 

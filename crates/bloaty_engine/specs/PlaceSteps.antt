@@ -7,8 +7,8 @@ use Rattle.place_explain.specs.declared.named.PlaceSource.{PlaceSource}
 use Rattle.size_options.specs.declared.chosen.Options.{Options}
 use Rattle.file_profile.specs.Places.{explained_place, named_sources}
 use Rattle.file_profile.specs.Sources.{Chosen}
-use Rattle.bloaty_engine.specs.declared.outcome.Outcome.{Outcome}
-use Rattle.bloaty_engine.specs.declared.outcome.Outcome.TheVariants.{ReadFailed, TooLong, NoMemory}
+use Rattle.run_outcome.specs.declared.outcome.Outcome.{Outcome}
+use Rattle.run_outcome.specs.declared.outcome.Outcome.TheVariants.{ReadFailed, TooLong, NoMemory}
 use Rattle.bloaty_engine.specs.Verdict.{first_name, if_explained}
 
 -- what data sources say of the place of a file with these bytes, which is within the limits

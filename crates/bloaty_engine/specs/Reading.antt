@@ -5,7 +5,7 @@ use Rattle.outside.specs.Held.{Pairs, IsTaken}
 use Rattle.elf_synth.specs.Made.{made}
 use Rattle.size_options.specs.declared.chosen.Options.{Options}
 use Rattle.size_options.specs.declared.answer.UsageKind.{UsageKind}
-use Rattle.bloaty_engine.specs.Named.{other_names}
+use Rattle.run_outcome.specs.Names.{other_names}
 use Rattle.bloaty_engine.specs.Verdict.{config_limit, file_limit, total_limit}
 
 -- the configuration, if there is one

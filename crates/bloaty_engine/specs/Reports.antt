@@ -3,10 +3,10 @@ use Rattle.std.specs.Prelude.{◌≡◌, ℕ, ◌+◌, ◌<◌, ⊤, List, [], �
 use Rattle.std.specs.declared.alloc.Global.{Global}
 use Rattle.size_core.specs.declared.limits.Limits.{Limits}
 use Rattle.size_options.specs.declared.chosen.Options.{Options}
-use Rattle.bloaty_engine.specs.declared.outcome.Outcome.{Outcome}
-use Rattle.bloaty_engine.specs.declared.outcome.Outcome.TheVariants.{ReadFailed, NoMemory}
+use Rattle.run_outcome.specs.declared.outcome.Outcome.{Outcome}
+use Rattle.run_outcome.specs.declared.outcome.Outcome.TheVariants.{ReadFailed, NoMemory}
 use Rattle.bloaty_engine.specs.GrowthReport.{IsGrowthReport}
-use Rattle.bloaty_engine.specs.Named.{all_names, file_names, side_names}
+use Rattle.run_outcome.specs.Names.{all_names, file_names, side_names}
 use Rattle.bloaty_engine.specs.Report.{IsSizeReport}
 use Rattle.file_profile.specs.Sources.{Chosen}
 use Rattle.bloaty_engine.specs.Verdict.{Finding, Counted, Explained, IsReadAt, Sides, counted_files, counted_sides, found}

@@ -8,8 +8,8 @@ use Rattle.size_model.specs.Loads.{mapped_count}
 use Rattle.config_text.specs.declared.config.CustomSource.{CustomSource}
 use Rattle.rollup.specs.Adding.{file_where, vm_where}
 use Rattle.rollup.specs.Totals.{Totals}
-use Rattle.bloaty_engine.specs.declared.outcome.Outcome.{Outcome}
-use Rattle.bloaty_engine.specs.declared.outcome.Outcome.TheVariants.{ReadFailed, TooLong, UnknownSource, PatternSyntax, PatternTooBig, NoMemory}
+use Rattle.run_outcome.specs.declared.outcome.Outcome.{Outcome}
+use Rattle.run_outcome.specs.declared.outcome.Outcome.TheVariants.{ReadFailed, TooLong, UnknownSource, PatternSyntax, PatternTooBig, NoMemory}
 use Rattle.file_profile.specs.Counts.{file_size_where, vm_size_where}
 use Rattle.custom_rewrites.specs.Pattern.{IsNoPattern}
 use Rattle.file_profile.specs.Patterns.{StopsAt}

@@ -7,16 +7,18 @@ ghost use Rattle.size_model.specs.declared.view.FileView.{FileView as FileViewSp
 ghost use Rattle.elf_synth.specs.Made.{made};
 ghost use Rattle.bloaty_engine.specs.Answers.{ends_without, is_failed_read};
 ghost use Rattle.file_profile.specs.Counts.{filter_test};
-ghost use Rattle.bloaty_engine.specs.Named.{AreHeld, file_names};
+ghost use Rattle.bloaty_engine.specs.Named.{AreHeld};
+ghost use Rattle.run_outcome.specs.Names.{file_names};
 ghost use Rattle.bloaty_engine.specs.Reading.{ReadsFirst};
 ghost use Rattle.bloaty_engine.specs.Steps.{EndsAs, EndsFiles, Finds, HasCounted, batch_of};
 ghost use Rattle.bloaty_engine.specs.Verdict.{counted_file, end_at, file_limit, total_limit};
 
-use crate::outcome::Outcome;
+use crate::profile::profile_file;
 use elf_synth::synth;
-use file_profile::{Plan, ProfileAnswer, profile_file};
+use file_profile::{Plan, ProfileAnswer};
 use outside::{FileAnswer, Files};
 use rollup::Rollup;
+use run_outcome::Outcome;
 use size_core::{BadFile, Limits, Names, Steps, Text};
 use size_options::Options;
 use std::alloc::Global;

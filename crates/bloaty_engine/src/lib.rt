@@ -4,22 +4,22 @@
 mod files;
 mod growth;
 mod laws;
-mod line;
-mod outcome;
 mod pair;
 mod place;
+mod planning;
+mod profile;
 mod report;
 mod request;
 mod run;
 mod sizes;
 
-pub use file_profile::{
-    PairAnswer, Plan, PlanAnswer, ProfileAnswer, plan, profile_file, profile_pair,
-};
+pub use file_profile::{PairAnswer, Plan, PlanAnswer, ProfileAnswer, profile_pair};
 pub use laws::{
     growths_add_up, growths_count_paths, rows_count_paths, rows_show_files, sizes_add_up,
     totals_are_whole,
 };
-pub use outcome::Outcome;
+pub use planning::plan;
+pub use profile::profile_file;
 pub use run::bloaty;
+pub use run_outcome::Outcome;
 pub use size_options::UsageKind;

@@ -10,11 +10,12 @@ ghost use Rattle.bloaty_engine.specs.Steps.{EndsConfig, EndsPlan};
 ghost use Rattle.bloaty_engine.specs.Verdict.{config_limit};
 
 use crate::files::read_file;
-use crate::outcome::Outcome;
+use crate::planning::plan;
 use config_text::{ConfigAnswer, CustomSource, parse};
 use custom_rewrites::Patterns;
-use file_profile::{Plan, PlanAnswer, plan};
+use file_profile::{Plan, PlanAnswer};
 use outside::Files;
+use run_outcome::Outcome;
 use size_core::Limits;
 use size_options::Options;
 use std::alloc::Global;

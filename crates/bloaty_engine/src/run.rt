@@ -9,15 +9,15 @@ ghost use Rattle.size_options.specs.declared.answer.UsageKind.{UsageKind as Usag
 ghost use Rattle.size_options.specs.Words.{seen_words};
 ghost use Rattle.bloaty_engine.specs.Answers.{IsFinished, IsRun, is_failed_read, is_refused_pattern};
 ghost use Rattle.bloaty_engine.specs.Verdict.{verdict};
-ghost use Rattle.bloaty_engine.specs.Line.{line_of, usage_text};
-ghost use Rattle.bloaty_engine.specs.Named.{Contents, file_name, name_at};
+ghost use Rattle.run_outcome.specs.Line.{line_of, usage_text};
+ghost use Rattle.bloaty_engine.specs.Named.{Contents};
+ghost use Rattle.run_outcome.specs.Names.{file_name, name_at};
 ghost use Rattle.bloaty_engine.specs.Reading.{IsOverLimit, IsOverLimitBy, ReadsFirst, names_by, names_to_read};
 
-use crate::line::{tell, tell_no_memory, tell_usage};
-use crate::outcome::Outcome;
 use crate::report::report;
 use custom_rewrites::Patterns;
 use outside::{Files, Sink, write_whole};
+use run_outcome::{Outcome, tell, tell_no_memory, tell_usage};
 use size_core::Limits;
 use size_options::{OptionAnswer, Options, UsageKind, options};
 use std::alloc::Global;

@@ -12,7 +12,8 @@ ghost use Rattle.byte_cursor.specs.Spelled.{IsUnsigned, IsSigned};
 /// Where the first byte with a clear top bit is.
 pub fn last_digit(bytes: &[u8]) -> Option<usize>
     ensures { MatchOption result (leb bytes.now ≡ None)
-        (λ i. (i < length bytes.now) × (slice_index bytes.now i < 128) × ((k : ℕ) → k < i → 128 ≤ slice_index bytes.now k)) }
+        (λ i. (i < length bytes.now) × (slice_index bytes.now i < 128)
+        × ((k : ℕ) → k < i → 128 ≤ slice_index bytes.now k)) }
 {
     for (i, byte) in bytes.iter().enumerate() {
         if *byte < 128 {
@@ -24,7 +25,8 @@ pub fn last_digit(bytes: &[u8]) -> Option<usize>
 
 /// The number with the low digit of this byte below the digits above it, where it fits.
 fn with_digit(high: Option<u64>, byte: u8) -> Option<u64>
-    ensures { (x : ℕ) → SomeIff high (x < 2 ^ 64) x → SomeIff result (byte % 128 + 128 * x < 2 ^ 64) (byte % 128 + 128 * x) }
+    ensures { (x : ℕ) → SomeIff high (x < 2 ^ 64) x
+        → SomeIff result (byte % 128 + 128 * x < 2 ^ 64) (byte % 128 + 128 * x) }
 {
     match high {
         Some(high) if high <= u64::MAX / 128 => Some(high * 128 + (byte % 128) as u64),

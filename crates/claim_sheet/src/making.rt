@@ -17,7 +17,8 @@ pub fn push(
     label: &[u8],
 ) -> Result<(), NoMemory>
     requires numbered { AreNumbered pool.old claims.old.items }
-    ensures made { OnOk result (texts pool.new claims.new.items ≡ texts pool.old claims.old.items ++ claim_of reach label.now ∷ []) }
+    ensures made { OnOk result (texts pool.new claims.new.items
+        ≡ texts pool.old claims.old.items ++ claim_of reach label.now ∷ []) }
     ensures few { length claims.new.items ≤ length claims.old.items + 1 }
     ensures numbered { AreNumbered pool.new claims.new.items }
     ensures used { (first : ℕ) → AreUsed first pool.old claims.old.items → AreUsed first pool.new claims.new.items }
@@ -47,7 +48,8 @@ pub fn push_wrapped(
     label: &[u8],
 ) -> Result<(), NoMemory>
     requires numbered { AreNumbered pool.old claims.old.items }
-    ensures made { OnOk result (texts pool.new claims.new.items ≡ texts pool.old claims.old.items ++ claim_of reach (wrapped wrap label.now) ∷ []) }
+    ensures made { OnOk result (texts pool.new claims.new.items
+        ≡ texts pool.old claims.old.items ++ claim_of reach (wrapped wrap label.now) ∷ []) }
     ensures few { length claims.new.items ≤ length claims.old.items + 1 }
     ensures numbered { AreNumbered pool.new claims.new.items }
     ensures used { (first : ℕ) → AreUsed first pool.old claims.old.items → AreUsed first pool.new claims.new.items }

@@ -23,7 +23,8 @@ fn add_debug_records(
     sheet: &mut ClaimSheet,
 ) -> Result<(), Stop>
     ensures made { OnOk result (adding_read sheet.old (debug_records source (groups_of binary.now)) ≡ Ok sheet.new) }
-    ensures bad { (bad : BadFile) → IsErrOf result (Stop.Bad bad) → debug_records source (groups_of binary.now) ≡ Err bad }
+    ensures bad { (bad : BadFile) → IsErrOf result (Stop.Bad bad)
+        → debug_records source (groups_of binary.now) ≡ Err bad }
     ensures kept { sheet.new.pool ≡ sheet.old.pool }
 {
     match source {
@@ -50,7 +51,8 @@ pub fn debug_claims(
     ensures numbered { IfOk result (λ v. AreNumbered pool.new v.items) }
     ensures used { IfOk result (λ v. AreUsed (length pool.old) pool.new v.items) }
     ensures few { IfOk result (λ v. length v.items ≤ limit) }
-    ensures many { IsErrOf result ClaimAnswer.TooManyClaims → IsOkAnd (debug_claims_of source binary.now) (λ made. limit < length made) }
+    ensures many { IsErrOf result ClaimAnswer.TooManyClaims
+        → IsOkAnd (debug_claims_of source binary.now) (λ made. limit < length made) }
     ensures bad { (bad : BadFile) → IsErrOf result (ClaimAnswer.Bad bad) → debug_claims_of source binary.now ≡ Err bad }
     ensures kept { KeepsLabels pool.old pool.new }
 {

@@ -75,8 +75,11 @@ fn add_with_tail(
     source: Source,
     sheet: &mut ClaimSheet,
 ) -> Result<(), Stop>
-    ensures made { OnOk result (adding_read sheet.old (with_tail (records_of source (groups_of binary.now)) (groups_of binary.now)) ≡ Ok sheet.new) }
-    ensures bad { (bad : BadFile) → IsErrOf result (Stop.Bad bad) → with_tail (records_of source (groups_of binary.now)) (groups_of binary.now) ≡ Err bad }
+    ensures made { OnOk result (adding_read sheet.old
+        (with_tail (records_of source (groups_of binary.now)) (groups_of binary.now))
+        ≡ Ok sheet.new) }
+    ensures bad { (bad : BadFile) → IsErrOf result (Stop.Bad bad)
+        → with_tail (records_of source (groups_of binary.now)) (groups_of binary.now) ≡ Err bad }
     ensures kept { sheet.new.pool ≡ sheet.old.pool }
 {
     add_records(alloc, binary, source, sheet)?;
@@ -123,8 +126,10 @@ pub fn claims(
     ensures numbered { IfOk result (λ v. AreNumbered pool.new v.items) }
     ensures used { IfOk result (λ v. AreUsed (length pool.old) pool.new v.items) }
     ensures few { IfOk result (λ v. length v.items ≤ limit) }
-    ensures many { IsErrOf result ClaimAnswer.TooManyClaims → IsOkAnd (claims_of source name.now binary.now) (λ made. limit < length made) }
-    ensures bad { (bad : BadFile) → IsErrOf result (ClaimAnswer.Bad bad) → claims_of source name.now binary.now ≡ Err bad }
+    ensures many { IsErrOf result ClaimAnswer.TooManyClaims
+        → IsOkAnd (claims_of source name.now binary.now) (λ made. limit < length made) }
+    ensures bad { (bad : BadFile) → IsErrOf result (ClaimAnswer.Bad bad)
+        → claims_of source name.now binary.now ≡ Err bad }
     ensures kept { KeepsLabels pool.old pool.new }
 {
     let mut sheet = ClaimSheet::begin(alloc, pool, limit);

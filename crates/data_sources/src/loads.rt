@@ -54,7 +54,8 @@ fn push_load(loads: &mut Vec<Load>, load: Option<Load>) -> Result<(), NoMemory>
 // The loads of an ELF file, in the order of the slots.
 #[tactic(auto, using(size_core::proofs::Gathered::gather_next, size_core::proofs::Gathered::gather_end))]
 fn elf_loads(alloc: Global, file: &ElfFile<'_>) -> Result<Vec<Load>, NoMemory>
-    ensures are { IfOk result (λ v. v.items ≡ gather (λ i. option_to_list (slot_load file.now i)) 0 (slot_count file.now)) }
+    ensures are { IfOk result (λ v. v.items
+        ≡ gather (λ i. option_to_list (slot_load file.now i)) 0 (slot_count file.now)) }
     ensures fit { IfOk result (λ v. All IsLoad v.items) }
 {
     let mut loads = Vec::new(alloc);

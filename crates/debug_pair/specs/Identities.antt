@@ -14,7 +14,8 @@ use Rattle.macho_file.specs.Commands.{commands}
 use Rattle.debug_pair.specs.declared.constants.TheConstants.{NT_GNU_BUILD_ID}
 use Rattle.debug_pair.specs.Notes.{NoteRecord, notes}
 
--- The note has a build ID: its name is 'GNU' with a zero byte, its type NT_GNU_BUILD_ID, and its descriptor isn't empty.
+-- The note has a build ID: its name is 'GNU' with a zero byte, its type NT_GNU_BUILD_ID,
+-- and its descriptor isn't empty.
 unfoldable pub is_build_id : NoteRecord → Bool
 is_build_id n = bytes_eq n.name (0x47 ∷ 0x4e ∷ 0x55 ∷ 0x00 ∷ []) && n.kind == NT_GNU_BUILD_ID && not (length n.content == 0)
 

@@ -180,8 +180,10 @@ impl Base {
         unmapped: usize,
     ) -> Result<RangeMap, NoMemory>
         ensures cut { IfOk result (IsCut (offset_labelling self.now.len self.now.loads unmapped claims.now)) }
-        ensures few { IfOk result (λ map. (b : ℕ) → HasPieces self.now b → length map ≤ 2 * (length claims.now * max 1 b + 1)) }
-        ensures few_by_loads { IfOk result (λ map. length map ≤ 2 * (length claims.now * (2 * length self.now.loads + 1) + 1)) }
+        ensures few { IfOk result (λ map. (b : ℕ) → HasPieces self.now b
+            → length map ≤ 2 * (length claims.now * max 1 b + 1)) }
+        ensures few_by_loads { IfOk result
+            (λ map. length map ≤ 2 * (length claims.now * (2 * length self.now.loads + 1) + 1)) }
     {
         let mut ranges = Vec::new(alloc);
         for claim in claims {
@@ -204,8 +206,10 @@ impl Base {
         unmapped: usize,
     ) -> Result<RangeMap, NoMemory>
         ensures cut { IfOk result (IsCut (address_labelling self.now.len self.now.loads unmapped claims.now)) }
-        ensures few { IfOk result (λ map. (b : ℕ) → HasPieces self.now b → length map ≤ 2 * ((length claims.now + 1) * max 1 b)) }
-        ensures few_by_loads { IfOk result (λ map. length map ≤ 2 * ((length claims.now + 1) * (2 * length self.now.loads + 1))) }
+        ensures few { IfOk result (λ map. (b : ℕ) → HasPieces self.now b
+            → length map ≤ 2 * ((length claims.now + 1) * max 1 b)) }
+        ensures few_by_loads { IfOk result
+            (λ map. length map ≤ 2 * ((length claims.now + 1) * (2 * length self.now.loads + 1))) }
     {
         let mut ranges = Vec::new(alloc);
         for claim in claims {

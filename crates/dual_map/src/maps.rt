@@ -40,15 +40,20 @@ impl DualMap {
         unmapped: usize,
     ) -> Result<DualMap, NoMemory>
         requires { base.now.len ≡ file_len }
-        ensures file { IfOk result (λ m. IsCut (offset_labelling base.now.len base.now.loads unmapped claims.now) m.file) }
+        ensures file { IfOk result
+            (λ m. IsCut (offset_labelling base.now.len base.now.loads unmapped claims.now) m.file) }
         ensures vm { IfOk result (λ m. IsCut (address_labelling base.now.len base.now.loads unmapped claims.now) m.vm) }
         ensures over { IfOk result (IsOver base.now) }
-        ensures labels { IfOk result (λ m. (n : ℕ) → unmapped < n → All (λ c. c.label < n) claims.now → LabelsBelow n m) }
+        ensures labels { IfOk result (λ m. (n : ℕ)
+            → unmapped < n → All (λ c. c.label < n) claims.now → LabelsBelow n m) }
 
         // How many pieces there are, where b is the base's `pieces()`, and by the number of loads.
-        ensures few_file { IfOk result (λ m. (b : ℕ) → HasPieces base.now b → length m.file ≤ 2 * (length claims.now * max 1 b + 1) + 1) }
-        ensures few_vm { IfOk result (λ m. (b : ℕ) → HasPieces base.now b → length m.vm ≤ 2 * (length claims.now + 1) * max 1 b + 1) }
-        ensures few_by_loads { IfOk result (λ m. length m.file + length m.vm ≤ 4 * length claims.now * (2 * length base.now.loads + 1) + 2 * (2 * length base.now.loads + 1) + 4) }
+        ensures few_file { IfOk result (λ m. (b : ℕ) → HasPieces base.now b
+            → length m.file ≤ 2 * (length claims.now * max 1 b + 1) + 1) }
+        ensures few_vm { IfOk result (λ m. (b : ℕ) → HasPieces base.now b
+            → length m.vm ≤ 2 * (length claims.now + 1) * max 1 b + 1) }
+        ensures few_by_loads { IfOk result (λ m. length m.file + length m.vm
+            ≤ 4 * length claims.now * (2 * length base.now.loads + 1) + 2 * (2 * length base.now.loads + 1) + 4) }
     {
         let file = base.file_map(alloc, claims, unmapped)?;
         let vm = base.vm_map(alloc, claims, unmapped)?;

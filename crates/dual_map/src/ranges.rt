@@ -46,7 +46,9 @@ pub fn push_offsets(
     claim: &Claim,
 ) -> Result<(), AllocError>
     requires ranges { All IsRange out.old.items }
-    ensures value { OnOk result (out.new.items ≡ out.old.items ++ offsets_of claim.now.side file_len to_file.now claim.now.vm claim.now.file claim.now.label) }
+    ensures value { OnOk result (out.new.items
+        ≡ out.old.items
+        ++ offsets_of claim.now.side file_len to_file.now claim.now.vm claim.now.file claim.now.label) }
     ensures fits { OnOk result (All IsRange out.new.items) }
 {
     match claim.side {
@@ -63,7 +65,9 @@ pub fn push_positions(
     claim: &Claim,
 ) -> Result<(), AllocError>
     requires ranges { All IsRange out.old.items }
-    ensures value { OnOk result (out.new.items ≡ out.old.items ++ positions_of claim.now.side to_memory.now in_memory.now claim.now.vm claim.now.file claim.now.label) }
+    ensures value { OnOk result (out.new.items
+        ≡ out.old.items
+        ++ positions_of claim.now.side to_memory.now in_memory.now claim.now.vm claim.now.file claim.now.label) }
     ensures fits { OnOk result (All IsRange out.new.items) }
 {
     match claim.side {

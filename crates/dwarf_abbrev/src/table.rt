@@ -75,7 +75,8 @@ impl<'a> Abbrevs<'a> {
         find_entry(&self.cursor, code)
     }
 
-    /// The same, and the table keeps what it found: asked for the same code again it doesn't look for it from its start.
+    /// The same, and the table keeps what it found: asked for the same code again it doesn't look for it from its
+    /// start.
     #[tactic(auto, using(crate::proofs::Tables::is_kept))]
     pub fn entry_kept(&mut self, code: u64) -> Option<Entry<'a>>
         ensures found { result ≡ declared self.old.declarations code }

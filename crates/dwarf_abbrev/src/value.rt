@@ -138,7 +138,8 @@ fn content_by<'a>(
     spec: &Spec,
     shape: &UnitShape,
 ) -> Result<Content<'a>, BadFile>
-    ensures { Reads meaning result cursor.new (content_by shape.now spec.now.constant (layout_of_number shape.now spec.now.form) cursor.old) }
+    ensures { Reads meaning result cursor.new
+        (content_by shape.now spec.now.constant (layout_of_number shape.now spec.now.form) cursor.old) }
 {
     match layout_of_number(shape, spec.form) {
         None => unknown_form(cursor),

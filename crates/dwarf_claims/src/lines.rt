@@ -28,8 +28,10 @@ fn add_program(
     label: &mut RowLabel,
     sheet: &mut ClaimSheet,
 ) -> Result<(), Stop>
-    ensures made { OnOk result (adding_read sheet.old (program_claims sections.now (shown_root root.now) program) ≡ Ok sheet.new) }
-    ensures bad { (bad : BadFileSpec) → IsErrOf result (Stop.Bad bad) → program_claims sections.now (shown_root root.now) program ≡ Err bad }
+    ensures made { OnOk result (adding_read sheet.old (program_claims sections.now (shown_root root.now) program)
+        ≡ Ok sheet.new) }
+    ensures bad { (bad : BadFileSpec) → IsErrOf result (Stop.Bad bad)
+        → program_claims sections.now (shown_root root.now) program ≡ Err bad }
     ensures kept { sheet.new.pool ≡ sheet.old.pool }
 {
     let Some((offset, place)) = program else {

@@ -91,7 +91,9 @@ fn add_row(
     sheet: &mut ClaimSheet,
 ) -> Result<Option<Before>, Stop>
     requires { HasPath program.now label.old }
-    ensures made { IfOk result (λ next. IsOkAnd row (λ r. (sheet.new ≡ adding sheet.old (claim_before program.now before r)) × (next ≡ behind size before r))) }
+    ensures made { IfOk result (λ next. IsOkAnd row (λ r.
+        (sheet.new ≡ adding sheet.old (claim_before program.now before r))
+        × (next ≡ behind size before r))) }
     ensures bad { (bad : BadFileSpec) → IsErrOf result (Stop.Bad bad) → row ≡ Err bad }
     ensures path { OnOk result (HasPath program.now label.new) }
     ensures kept { sheet.new.pool ≡ sheet.old.pool }
@@ -109,8 +111,10 @@ pub fn add_rows(
     label: &mut RowLabel,
     sheet: &mut ClaimSheet,
 ) -> Result<(), Stop>
-    ensures made { OnOk result (adding_read sheet.old (rows_claims program.now size (line_rows program.now)) ≡ Ok sheet.new) }
-    ensures bad { (bad : BadFileSpec) → IsErrOf result (Stop.Bad bad) → rows_claims program.now size (line_rows program.now) ≡ Err bad }
+    ensures made { OnOk result (adding_read sheet.old (rows_claims program.now size (line_rows program.now))
+        ≡ Ok sheet.new) }
+    ensures bad { (bad : BadFileSpec) → IsErrOf result (Stop.Bad bad)
+        → rows_claims program.now size (line_rows program.now) ≡ Err bad }
     ensures kept { sheet.new.pool ≡ sheet.old.pool }
 {
     label.set_file(program, 1)?;

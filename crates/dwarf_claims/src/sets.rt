@@ -79,7 +79,8 @@ fn add_set(
 ) -> Result<(), Stop>
     requires { Ascends 0 (shown_units units.now) }
     ensures made { OnOk result (adding_read sheet.old (set_claims (shown_units units.now) set.entry) ≡ Ok sheet.new) }
-    ensures bad { (bad : BadFileSpec) → IsErrOf result (Stop.Bad bad) → set_claims (shown_units units.now) set.entry ≡ Err bad }
+    ensures bad { (bad : BadFileSpec) → IsErrOf result (Stop.Bad bad)
+        → set_claims (shown_units units.now) set.entry ≡ Err bad }
     ensures kept { sheet.new.pool ≡ sheet.old.pool }
 {
     let set = set?;

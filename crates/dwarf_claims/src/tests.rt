@@ -5,6 +5,8 @@ use byte_cursor::{Cursor, Order};
 use claim_sheet::{ClaimSheet, Stop};
 use dwarf_units::Sections;
 use size_core::{BadFile, Claim, Fault, LabelPool, Side, Span};
+use std::alloc::Global;
+use std::process::Abort;
 use std::test::Fail;
 
 /// A unit of DWARF 4, of 28 bytes: `a.c`, from 0x1000 on, 0x20 bytes, and the line program at 0.
@@ -78,57 +80,83 @@ fn told(claim: &Claim) -> (Side, u64, u64) {
     (claim.side, start, len)
 }
 
+/// Sections of units, of what they declare and of sets; the label of all claims on them, and the claims.
+type Claimed<'a> = (
+    &'a [u8],
+    &'a [u8],
+    &'a [u8],
+    &'a [u8],
+    &'a [(Side, u64, u64)],
+);
+
+const CLAIMED: [Claimed<'static>; 3] = [
+    (
+        UNIT_4,
+        DECLARED_4,
+        SETS,
+        b"a.c",
+        &[
+            (Side::Vm, 0x1000, 0x20),
+            (Side::File, 1000, 28),
+            (Side::File, 2000, 14),
+            (Side::File, 5000, 6),
+            (Side::Vm, 0x1000, 0x20),
+            (Side::File, 4000, 40),
+        ],
+    ),
+    (
+        UNIT_5,
+        DECLARED_5,
+        b"",
+        b"a.c",
+        &[
+            (Side::Vm, 0x1000, 0x20),
+            (Side::File, 1000, 16),
+            (Side::File, 2000, 12),
+        ],
+    ),
+    (
+        UNIT_OF_NO_NAME,
+        b"\0",
+        b"",
+        b"[Unnamed unit]",
+        &[(Side::File, 1000, 12), (Side::File, 2000, 1)],
+    ),
+];
+
+/// The claims are these, in this order.
+fn are_told(rt: &impl Abort, claims: &[Claim], want: &[(Side, u64, u64)]) {
+    assert_eq!(rt; claims.len(), want.len());
+    for (claim, want) in claims.iter().zip(want) {
+        assert_eq!(rt; told(claim), *want);
+    }
+}
+
+/// The units and the sets of these sections make claims with one label.
+fn units_and_sets_claim(
+    rt: &impl Abort,
+    alloc: Global,
+    sections: &Sections<'_>,
+    label: &[u8],
+    want: &[(Side, u64, u64)],
+) -> Result<(), Fail> {
+    let mut pool = LabelPool::new(alloc);
+    let mut sheet = ClaimSheet::begin(alloc, &mut pool, 100);
+    add_units(alloc, sections, &mut sheet)?;
+    let Ok(claims) = sheet.finish(&mut pool) else {
+        panic!(rt; "six claims are within the limit");
+    };
+    assert!(rt; pool.len() == 1 && pool.get(0) == label);
+    are_told(rt, &claims, want);
+    Ok(())
+}
+
 #[test]
 fn claims_of_units_and_sets(rt: HostRuntime) -> Result<(), Fail> {
-    let alloc = rt.alloc();
-    for (info, declared, sets, label, want) in [
-        (
-            UNIT_4,
-            DECLARED_4,
-            SETS,
-            b"a.c".as_slice(),
-            [
-                (Side::Vm, 0x1000, 0x20),
-                (Side::File, 1000, 28),
-                (Side::File, 2000, 14),
-                (Side::File, 5000, 6),
-                (Side::Vm, 0x1000, 0x20),
-                (Side::File, 4000, 40),
-            ]
-            .as_slice(),
-        ),
-        (
-            UNIT_5,
-            DECLARED_5,
-            b"",
-            b"a.c",
-            &[
-                (Side::Vm, 0x1000, 0x20),
-                (Side::File, 1000, 16),
-                (Side::File, 2000, 12),
-            ],
-        ),
-        (
-            UNIT_OF_NO_NAME,
-            b"\0",
-            b"",
-            b"[Unnamed unit]",
-            &[(Side::File, 1000, 12), (Side::File, 2000, 1)],
-        ),
-    ] {
+    for (info, declared, sets, label, want) in CLAIMED {
         assert!(rt; info.len() < 100 && declared.len() < 100 && sets.len() < 100);
         let sections = sections(info, declared, sets, NO_ROWS);
-        let mut pool = LabelPool::new(alloc);
-        let mut sheet = ClaimSheet::begin(alloc, &mut pool, 100);
-        add_units(alloc, &sections, &mut sheet)?;
-        let Ok(claims) = sheet.finish(&mut pool) else {
-            panic!(rt; "six claims are within the limit");
-        };
-        assert!(rt; pool.len() == 1 && pool.get(0) == label);
-        assert_eq!(rt; claims.len(), want.len());
-        for (claim, want) in claims.iter().zip(want) {
-            assert_eq!(rt; told(claim), *want);
-        }
+        units_and_sets_claim(&rt, rt.alloc(), &sections, label, want)?;
     }
     Ok(())
 }
@@ -152,44 +180,67 @@ fn a_fault_of_a_unit_is_told_before_that_of_a_set(rt: HostRuntime) {
     }
 }
 
+/// A line program, the labels of the claims on its rows, and the claims.
+const LINES: [(&[u8], &[u8], &[(Side, u64, u64)]); 3] = [
+    (
+        OPERATIONS,
+        b"a.c:1, a.c:5, a.c:9, ",
+        &[
+            (Side::Vm, 0x1000, 0x28),
+            (Side::Vm, 0x1028, 4),
+            (Side::Vm, 0x102c, 4),
+        ],
+    ),
+    (
+        TWO_FILES,
+        b"a.c:4, [Unknown file]:3, ",
+        &[(Side::Vm, 0x2000, 8), (Side::Vm, 0x1000, 4)],
+    ),
+    (NO_ROWS, b"", &[]),
+];
+
+/// The labels of the claims, with `, ` behind each.
+fn labels_of(
+    rt: &impl Abort,
+    alloc: Global,
+    pool: &LabelPool,
+    claims: &[Claim],
+) -> Result<Vec<u8>, Fail> {
+    let mut text = Vec::new(alloc);
+    for claim in claims {
+        assert!(rt; claim.label < pool.len());
+        text.extend_from_slice(pool.get(claim.label))?;
+        text.extend_from_slice(b", ")?;
+    }
+    Ok(text)
+}
+
+/// The lines of these sections make claims with these labels.
+fn lines_claim(
+    rt: &impl Abort,
+    alloc: Global,
+    sections: &Sections<'_>,
+    labels: &[u8],
+    want: &[(Side, u64, u64)],
+) -> Result<(), Fail> {
+    let mut pool = LabelPool::new(alloc);
+    let mut sheet = ClaimSheet::begin(alloc, &mut pool, 100);
+    add_lines(alloc, sections, &mut sheet)?;
+    let Ok(claims) = sheet.finish(&mut pool) else {
+        panic!(rt; "three claims are within the limit");
+    };
+    are_told(rt, &claims, want);
+    let text = labels_of(rt, alloc, &pool, &claims)?;
+    assert!(rt; text.as_slice() == labels);
+    Ok(())
+}
+
 #[test]
 fn claims_of_lines(rt: HostRuntime) -> Result<(), Fail> {
-    let alloc = rt.alloc();
-    for (program, labels, want) in [
-        (
-            OPERATIONS,
-            b"a.c:1, a.c:5, a.c:9, ".as_slice(),
-            [
-                (Side::Vm, 0x1000, 0x28),
-                (Side::Vm, 0x1028, 4),
-                (Side::Vm, 0x102c, 4),
-            ]
-            .as_slice(),
-        ),
-        (
-            TWO_FILES,
-            b"a.c:4, [Unknown file]:3, ",
-            &[(Side::Vm, 0x2000, 8), (Side::Vm, 0x1000, 4)],
-        ),
-        (NO_ROWS, b"", &[]),
-    ] {
+    for (program, labels, want) in LINES {
         assert!(rt; program.len() < 100);
         let sections = sections(UNIT_OF_LINES, DECLARED_OF_LINES, b"", program);
-        let mut pool = LabelPool::new(alloc);
-        let mut sheet = ClaimSheet::begin(alloc, &mut pool, 100);
-        add_lines(alloc, &sections, &mut sheet)?;
-        let Ok(claims) = sheet.finish(&mut pool) else {
-            panic!(rt; "three claims are within the limit");
-        };
-        assert_eq!(rt; claims.len(), want.len());
-        let mut text = Vec::new(alloc);
-        for (claim, want) in claims.iter().zip(want) {
-            assert_eq!(rt; told(claim), *want);
-            assert!(rt; claim.label < pool.len());
-            text.extend_from_slice(pool.get(claim.label))?;
-            text.extend_from_slice(b", ")?;
-        }
-        assert!(rt; text.as_slice() == labels);
+        lines_claim(&rt, rt.alloc(), &sections, labels, want)?;
     }
     Ok(())
 }

@@ -28,7 +28,8 @@ fn ranges_of(
     root: &Root<'_>,
 ) -> Result<Vec<(u64, u64)>, Stop>
     ensures made { IfOk result (λ v. ranges_of sections.now (shown_root root.now) ≡ Ok v.items) }
-    ensures bad { (bad : BadFileSpec) → IsErrOf result (Stop.Bad bad) → ranges_of sections.now (shown_root root.now) ≡ Err bad }
+    ensures bad { (bad : BadFileSpec) → IsErrOf result (Stop.Bad bad)
+        → ranges_of sections.now (shown_root root.now) ≡ Err bad }
 {
     let mut ranges = Vec::new(alloc);
     match unit_ranges(alloc, root, sections, &mut ranges) {
@@ -89,7 +90,8 @@ fn add_told(
     program: Option<Span>,
     sheet: &mut ClaimSheet,
 ) -> Result<(), NoMemory>
-    ensures made { OnOk result (sheet.new ≡ adding sheet.old (told_claims unit.now (shown_root root.now) label.now ranges.now program)) }
+    ensures made { OnOk result (sheet.new
+        ≡ adding sheet.old (told_claims unit.now (shown_root root.now) label.now ranges.now program)) }
     ensures kept { sheet.new.pool ≡ sheet.old.pool }
 {
     add_ranges(ranges, label, sheet)?;

@@ -19,7 +19,8 @@ use std::alloc::Global;
 
 // Keeps the label of a unit.
 fn keep<'a>(units: &mut Vec<KnownUnit<'a>>, offset: u64, label: &'a [u8]) -> Result<(), NoMemory>
-    ensures { OnOk result (shown_units units.new.items ≡ shown_units units.old.items ++ (offset, label.entry.now) ∷ []) }
+    ensures { OnOk result (shown_units units.new.items
+        ≡ shown_units units.old.items ++ (offset, label.entry.now) ∷ []) }
 {
     units.push(KnownUnit { offset, label })?;
     Ok(())
@@ -36,8 +37,10 @@ fn add_handed<'a>(
 ) -> Result<(), Stop>
     requires { IsTableOf sections.now last.old }
     ensures made { OnOk result (adding_read sheet.old (handed_claims sections.now unit.entry) ≡ Ok sheet.new) }
-    ensures labels { OnOk result (shown_units units.new.items ≡ shown_units units.old.items ++ labelled sections.now unit.entry) }
-    ensures bad { (bad : BadFileSpec) → IsErrOf result (Stop.Bad bad) → handed_claims sections.now unit.entry ≡ Err bad }
+    ensures labels { OnOk result (shown_units units.new.items
+        ≡ shown_units units.old.items ++ labelled sections.now unit.entry) }
+    ensures bad { (bad : BadFileSpec) → IsErrOf result (Stop.Bad bad)
+        → handed_claims sections.now unit.entry ≡ Err bad }
     ensures table { IsTableOf sections.now last.new }
     ensures kept { sheet.new.pool ≡ sheet.old.pool }
 {

@@ -1,4 +1,5 @@
--- The tables of version 5: the contents and forms of an entry's values, and then the entries (DWARF 5, section 6.2.4.1).
+-- The tables of version 5: the contents and forms of an entry's values, and then the entries (DWARF 5, section
+-- 6.2.4.1).
 use Rattle.std.specs.Prelude.{ℕ, pos, ◌-◌, ◌==◌, not, List, [], ◌∷◌, length, Option, Some, None, Ok, nat_le, if◌then◌else◌}
 use Rattle.size_core.specs.declared.fault.Fault.TheVariants.{UnknownForm, Truncated}
 use Rattle.size_core.specs.Checks.{◌>>=◌, ◌>>◌, demand}

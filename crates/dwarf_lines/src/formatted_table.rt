@@ -62,7 +62,8 @@ struct EntryValues<'a> {
 
 /// The first value of a content: the one that is held, or this one, if it is of the content.
 fn first<'a>(held: Option<Value<'a>>, is_content: bool, value: Value<'a>) -> Option<Value<'a>>
-    ensures { option_map value_shown result ≡ held_first (option_map value_shown held.entry) (if is_content then Some (value_shown value.entry) else None) }
+    ensures { option_map value_shown result
+        ≡ held_first (option_map value_shown held.entry) (if is_content then Some (value_shown value.entry) else None) }
 {
     match held {
         Some(held) => Some(held),
@@ -80,7 +81,8 @@ fn entry_values<'a>(
     cursor: &mut Cursor<'a>,
 ) -> Result<EntryValues<'a>, BadFile>
     requires { is_ok (many_from pair_from count pairs.now) ≡ true }
-    ensures { Reads values_shown result cursor.new (entry_values_from shape.now (items_of (many_from pair_from count pairs.now)) cursor.old) }
+    ensures { Reads values_shown result cursor.new
+        (entry_values_from shape.now (items_of (many_from pair_from count pairs.now)) cursor.old) }
 {
     let mut rest = pairs.fork();
     let mut path = None;
@@ -185,7 +187,8 @@ fn entry_at<'a>(
     k: u64,
 ) -> Option<FileEntry<'a>>
     requires { is_ok (many_from (formatted_entry format.now) count entries.now) ≡ true }
-    ensures { option_map shown result ≡ slice_get (items_of (many_from (formatted_entry format.now) count entries.now)) k }
+    ensures { option_map shown result
+        ≡ slice_get (items_of (many_from (formatted_entry format.now) count entries.now)) k }
 {
     let mut cursor = entries.fork();
     for i in 0..count {
@@ -207,7 +210,8 @@ fn entries_of<'a>(
     entries: &Cursor<'a>,
 ) -> Result<Vec<FileEntry<'a>>, NoMemory>
     requires { is_ok (many_from (formatted_entry format.now) count entries.now) ≡ true }
-    ensures { IfOk result (λ v. map shown v.items ≡ items_of (many_from (formatted_entry format.now) count entries.now)) }
+    ensures { IfOk result (λ v. map shown v.items
+        ≡ items_of (many_from (formatted_entry format.now) count entries.now)) }
 {
     let mut all = Vec::new(alloc);
     let mut cursor = entries.fork();

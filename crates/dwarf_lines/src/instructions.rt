@@ -57,7 +57,8 @@ fn extended_of(encoding: &LineEncoding, cursor: &Cursor, size: u64) -> Option<In
 #[tactic(auto, unfolding(crate::specs::Instructions::extended))]
 fn extended(encoding: &LineEncoding, cursor: &mut Cursor) -> Option<Instruction>
     ensures value { result ≡ value_of (extended encoding.now cursor.old.bytes cursor.old.at) }
-    ensures after { OnSome result (cursor.new ≡ moved cursor.old true (leb_len (extended encoding.now cursor.old.bytes cursor.old.at))) }
+    ensures after { OnSome result (cursor.new
+        ≡ moved cursor.old true (leb_len (extended encoding.now cursor.old.bytes cursor.old.at))) }
 {
     let size = unsigned(cursor)?;
     if size == 0 || cursor.left() < size {
@@ -80,7 +81,8 @@ fn two(order: Order, cursor: &mut Cursor) -> Option<u16>
 #[tactic(auto, unfolding(crate::specs::Instructions::standard))]
 fn standard(opcode: u8, count: u8, cursor: &mut Cursor, order: Order) -> Option<Instruction>
     ensures value { result ≡ value_of (standard order cursor.old.bytes opcode count cursor.old.at) }
-    ensures after { OnSome result (cursor.new ≡ moved cursor.old true (leb_len (standard order cursor.old.bytes opcode count cursor.old.at))) }
+    ensures after { OnSome result (cursor.new
+        ≡ moved cursor.old true (leb_len (standard order cursor.old.bytes opcode count cursor.old.at))) }
 {
     Some(match opcode {
         DW_LNS_COPY => Instruction::CopyRow,
@@ -112,7 +114,8 @@ fn operands(
 ) -> Option<Instruction>
     requires { HasLengths encoding.now lengths.now }
     ensures value { result ≡ value_of (operands encoding.now lengths.now cursor.old.bytes opcode cursor.old.at) }
-    ensures after { OnSome result (cursor.new ≡ moved cursor.old true (leb_len (operands encoding.now lengths.now cursor.old.bytes opcode cursor.old.at))) }
+    ensures after { OnSome result (cursor.new
+        ≡ moved cursor.old true (leb_len (operands encoding.now lengths.now cursor.old.bytes opcode cursor.old.at))) }
 {
     if opcode >= encoding.opcode_base {
         return Some(Instruction::Special(opcode - encoding.opcode_base));
@@ -128,7 +131,8 @@ fn operands(
 fn whole(encoding: &LineEncoding, lengths: &[u8], cursor: &mut Cursor) -> Option<Instruction>
     requires { HasLengths encoding.now lengths.now }
     ensures value { result ≡ value_of (instruction_at encoding.now lengths.now cursor.old.bytes cursor.old.at) }
-    ensures after { OnSome result (IsAt cursor.old (instruction_at encoding.now lengths.now cursor.old.bytes cursor.old.at) cursor.new) }
+    ensures after { OnSome result
+        (IsAt cursor.old (instruction_at encoding.now lengths.now cursor.old.bytes cursor.old.at) cursor.new) }
 {
     let opcode = cursor.u8().ok()?;
     operands(encoding, lengths, opcode, cursor)

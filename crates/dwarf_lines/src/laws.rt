@@ -8,7 +8,10 @@ ghost use Rattle.dwarf_lines.specs.declared.constants.TheConstants.{EXTENDED_OPC
 /// 7.22, table 7.25), the extended ones behind opcode 0 (table 7.26), the contents of entries (table 7.27), and
 /// the one form that can't stand in a line program (section 7.5.6, table 7.6). A path's parts are joined by `/`.
 pub fn constants_are_those_of_the_standard()
-    ensures standard { (DW_LNS_COPY ∷ DW_LNS_ADVANCE_PC ∷ DW_LNS_ADVANCE_LINE ∷ DW_LNS_SET_FILE ∷ DW_LNS_SET_COLUMN ∷ DW_LNS_NEGATE_STMT ∷ DW_LNS_SET_BASIC_BLOCK ∷ DW_LNS_CONST_ADD_PC ∷ DW_LNS_FIXED_ADVANCE_PC ∷ DW_LNS_SET_PROLOGUE_END ∷ DW_LNS_SET_EPILOGUE_BEGIN ∷ DW_LNS_SET_ISA ∷ []) ≡ (1 ∷ 2 ∷ 3 ∷ 4 ∷ 5 ∷ 6 ∷ 7 ∷ 8 ∷ 9 ∷ 10 ∷ 11 ∷ 12 ∷ []) }
+    ensures standard { (DW_LNS_COPY ∷ DW_LNS_ADVANCE_PC ∷ DW_LNS_ADVANCE_LINE ∷ DW_LNS_SET_FILE ∷ DW_LNS_SET_COLUMN
+        ∷ DW_LNS_NEGATE_STMT ∷ DW_LNS_SET_BASIC_BLOCK ∷ DW_LNS_CONST_ADD_PC ∷ DW_LNS_FIXED_ADVANCE_PC
+        ∷ DW_LNS_SET_PROLOGUE_END ∷ DW_LNS_SET_EPILOGUE_BEGIN ∷ DW_LNS_SET_ISA ∷ [])
+        ≡ (1 ∷ 2 ∷ 3 ∷ 4 ∷ 5 ∷ 6 ∷ 7 ∷ 8 ∷ 9 ∷ 10 ∷ 11 ∷ 12 ∷ []) }
     ensures extended { (EXTENDED_OPCODE ∷ DW_LNE_END_SEQUENCE ∷ DW_LNE_SET_ADDRESS ∷ []) ≡ (0 ∷ 1 ∷ 2 ∷ []) }
     ensures contents { (DW_LNCT_PATH ∷ DW_LNCT_DIRECTORY_INDEX ∷ []) ≡ (1 ∷ 2 ∷ []) }
     ensures forms { DW_FORM_IMPLICIT_CONST ≡ 0x21 }

@@ -13,7 +13,8 @@ use size_core::BadFile;
 #[tactic(auto, unfolding(crate::specs::Reads::unsigned_at))]
 pub fn unsigned(cursor: &mut Cursor) -> Option<u64>
     ensures value { result ≡ value_of (unsigned_at cursor.old.bytes cursor.old.at) }
-    ensures after { OnSome result (cursor.new ≡ moved cursor.old true (leb_len (unsigned_at cursor.old.bytes cursor.old.at))) }
+    ensures after { OnSome result (cursor.new
+        ≡ moved cursor.old true (leb_len (unsigned_at cursor.old.bytes cursor.old.at))) }
 {
     cursor.uleb().ok()
 }
@@ -22,7 +23,8 @@ pub fn unsigned(cursor: &mut Cursor) -> Option<u64>
 #[tactic(auto, unfolding(crate::specs::Reads::signed_at))]
 pub fn signed(cursor: &mut Cursor) -> Option<i64>
     ensures value { result ≡ value_of (signed_at cursor.old.bytes cursor.old.at) }
-    ensures after { OnSome result (cursor.new ≡ moved cursor.old true (leb_len (signed_at cursor.old.bytes cursor.old.at))) }
+    ensures after { OnSome result (cursor.new
+        ≡ moved cursor.old true (leb_len (signed_at cursor.old.bytes cursor.old.at))) }
 {
     cursor.sleb().ok()
 }
@@ -31,7 +33,8 @@ pub fn signed(cursor: &mut Cursor) -> Option<i64>
 #[tactic(auto, unfolding(crate::specs::Reads::passed))]
 pub fn passed(cursor: &mut Cursor, count: u8) -> Option<()>
     ensures value { result ≡ value_of (passed cursor.old.bytes count cursor.old.at) }
-    ensures after { OnSome result (cursor.new ≡ moved cursor.old true (leb_len (passed cursor.old.bytes count cursor.old.at))) }
+    ensures after { OnSome result (cursor.new
+        ≡ moved cursor.old true (leb_len (passed cursor.old.bytes count cursor.old.at))) }
 {
     if count == 0 {
         return Some(());

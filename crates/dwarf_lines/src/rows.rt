@@ -25,8 +25,10 @@ fn next_row(
     requires usable { IsUsable encoding.now }
     requires lengths { HasLengths encoding.now lengths.now }
     ensures { MatchOption result
-        ((to_come encoding.now lengths.now registers.old cursor.old ≡ []) × (to_come encoding.now lengths.now registers.new cursor.new ≡ []))
-        (λ x. to_come encoding.now lengths.now registers.old cursor.old ≡ x ∷ to_come encoding.now lengths.now registers.new cursor.new) }
+        ((to_come encoding.now lengths.now registers.old cursor.old ≡ [])
+        × (to_come encoding.now lengths.now registers.new cursor.new ≡ []))
+        (λ x. to_come encoding.now lengths.now registers.old cursor.old
+        ≡ x ∷ to_come encoding.now lengths.now registers.new cursor.new) }
 {
     while cursor.left() > 0 {
         match instruction(encoding, lengths, cursor) {
@@ -74,7 +76,8 @@ impl<'a> LineRows<'a> {
     pub fn new(encoding: LineEncoding, lengths: &'a [u8], cursor: Cursor<'a>) -> LineRows<'a>
         requires usable { IsUsable encoding }
         requires lengths { HasLengths encoding lengths.now }
-        ensures { result ≡ rows_of encoding start (program encoding lengths.now cursor.entry.base cursor.entry.bytes cursor.entry.at) }
+        ensures { result ≡ rows_of encoding start
+            (program encoding lengths.now cursor.entry.base cursor.entry.bytes cursor.entry.at) }
     {
         LineRows {
             encoding,

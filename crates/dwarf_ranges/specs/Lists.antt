@@ -24,7 +24,8 @@ abbrev pub Refuses : Result (List (ℕ × ℕ)) BadFile → RangeAnswer → Type
 Refuses answer (Bad e) = answer ≡ Err e
 Refuses answer NoMemory = Unit {0}
 
--- the ranges behind an item: none behind the end; those over another base; or a range, and then those over the same base
+-- the ranges behind an item: none behind the end; those over another base; or a range, and then those over the same
+-- base
 abbrev pub behind : ℕ → ℕ → (ℕ → Window → Result (List (ℕ × ℕ)) BadFile) → ListItem → Window → Result (List (ℕ × ℕ)) BadFile
 behind size base rest End w = Ok []
 behind size base rest (Base other) w = rest other w

@@ -6,7 +6,9 @@ ghost use Rattle.dwarf_ranges.specs.Laws.{ListsFollow, RangesClaim};
 
 /// The kinds of the entries of range lists have these numbers (DWARF 5, section 7.25, table 7.30).
 pub fn constants_are_those_of_the_standard()
-    ensures { (DW_RLE_END_OF_LIST ∷ DW_RLE_BASE_ADDRESSX ∷ DW_RLE_STARTX_ENDX ∷ DW_RLE_STARTX_LENGTH ∷ DW_RLE_OFFSET_PAIR ∷ DW_RLE_BASE_ADDRESS ∷ DW_RLE_START_END ∷ DW_RLE_START_LENGTH ∷ []) ≡ (0 ∷ 1 ∷ 2 ∷ 3 ∷ 4 ∷ 5 ∷ 6 ∷ 7 ∷ []) }
+    ensures { (DW_RLE_END_OF_LIST ∷ DW_RLE_BASE_ADDRESSX ∷ DW_RLE_STARTX_ENDX ∷ DW_RLE_STARTX_LENGTH
+        ∷ DW_RLE_OFFSET_PAIR ∷ DW_RLE_BASE_ADDRESS ∷ DW_RLE_START_END ∷ DW_RLE_START_LENGTH ∷ [])
+        ≡ (0 ∷ 1 ∷ 2 ∷ 3 ∷ 4 ∷ 5 ∷ 6 ∷ 7 ∷ []) }
 {}
 
 /// A range list is what its first entry says and then what those behind it say, up to its end or a fault.

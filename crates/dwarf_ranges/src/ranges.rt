@@ -133,7 +133,8 @@ fn told_ranges(
     sections: &Sections,
     low: Option<u64>,
 ) -> Result<Vec<(u64, u64)>, RangeAnswer>
-    ensures { MatchResult result (λ v. told_ranges sections.now (shown_root root.now) low (shown_root root.now).ranges ≡ Ok v.items)
+    ensures { MatchResult result
+        (λ v. told_ranges sections.now (shown_root root.now) low (shown_root root.now).ranges ≡ Ok v.items)
         (Refuses (told_ranges sections.now (shown_root root.now) low (shown_root root.now).ranges)) }
 {
     let Some(value) = &root.ranges else {
@@ -174,7 +175,8 @@ pub fn unit_ranges(
     sections: &Sections,
     out: &mut Vec<(u64, u64)>,
 ) -> Result<(), RangeAnswer>
-    ensures added { OnOk result (appended out.old.items (ranges_of sections.now (shown_root root.now)) ≡ Ok out.new.items) }
+    ensures added { OnOk result (appended out.old.items (ranges_of sections.now (shown_root root.now))
+        ≡ Ok out.new.items) }
     ensures fault { IfErr result (Refuses (ranges_of sections.now (shown_root root.now))) }
     ensures same { OnErr result (out.new.items ≡ out.old.items) }
 {

@@ -20,7 +20,8 @@ fn read_values<'a>(
     mut cursor: Cursor<'a>,
     mut root: Root<'a>,
 ) -> Result<Root<'a>, BadFile>
-    ensures { Gives shown_root result (filled_from shape.now declared.entry.specs cursor.entry (shown_root root.entry)) }
+    ensures { Gives shown_root result
+        (filled_from shape.now declared.entry.specs cursor.entry (shown_root root.entry)) }
 {
     for spec in declared {
         let value = read_form(&mut cursor, &spec, shape)?;

@@ -13,8 +13,8 @@ use Rattle.elf_claims.specs.declared.debug.DebugSection.{DebugSection}
 use Rattle.elf_claims.specs.declared.debug.DebugSection.TheVariants.{Info, Abbrev, Str, LineStr, StrOffsets, Addr, Ranges, Rnglists, Aranges, Line}
 use Rattle.elf_claims.specs.Loads.{has_flag, is_relocatable}
 
--- the names of the debug sections (DWARF 5, section 7.1, and DWARF 4, section 7.1), and those that tools gave them which
--- compressed them before SHF_COMPRESSED
+-- the names of the debug sections (DWARF 5, section 7.1, and DWARF 4, section 7.1), and those that tools gave them
+-- which compressed them before SHF_COMPRESSED
 unfoldable pub debug_name : DebugSection → List ℕ
 debug_name Info = codes ".debug_info"
 debug_name Abbrev = codes ".debug_abbrev"

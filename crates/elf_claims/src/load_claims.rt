@@ -40,7 +40,8 @@ fn append_section_flags(text: &mut Vec<u8>, flags: u64) -> Result<(), NoMemory>
 // The label of the load of a program header.
 fn segment_label(alloc: Global, file: &ElfFile<'_>, i: u32) -> Result<Vec<u8>, NoMemory>
     requires { i < segment_count file.now }
-    ensures { IfOk result (λ v. v.items ≡ codes "LOAD #" ++ decimal i ++ codes " [" ++ segment_flags (segment_at file.now i).flags ++ codes "]") }
+    ensures { IfOk result (λ v. v.items
+        ≡ codes "LOAD #" ++ decimal i ++ codes " [" ++ segment_flags (segment_at file.now i).flags ++ codes "]") }
 {
     let mut text = Vec::new(alloc);
     append(&mut text, b"LOAD #")?;
@@ -54,7 +55,8 @@ fn segment_label(alloc: Global, file: &ElfFile<'_>, i: u32) -> Result<Vec<u8>, N
 // The label of the load of a section.
 fn section_load_label(alloc: Global, file: &ElfFile<'_>, i: u32) -> Result<Vec<u8>, NoMemory>
     requires { i < section_count file.now }
-    ensures { IfOk result (λ v. v.items ≡ codes "SECTION [" ++ section_flags (section_at file.now i).flags ++ codes "]") }
+    ensures { IfOk result (λ v. v.items
+        ≡ codes "SECTION [" ++ section_flags (section_at file.now i).flags ++ codes "]") }
 {
     let mut text = Vec::new(alloc);
     append(&mut text, b"SECTION [")?;

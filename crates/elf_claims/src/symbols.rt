@@ -94,7 +94,8 @@ fn add_symbol(
     requires file { table.now.file ≡ file.now }
     requires index { k < symbol_count table.now.file table.now.index }
     ensures made { OnOk result (adding_read sheet.old (symbol_claim file.now table.now.index k) ≡ Ok sheet.new) }
-    ensures bad { (bad : BadFileSpec) → IsErrOf result (Stop.Bad bad) → symbol_claim file.now table.now.index k ≡ Err bad }
+    ensures bad { (bad : BadFileSpec) → IsErrOf result (Stop.Bad bad)
+        → symbol_claim file.now table.now.index k ≡ Err bad }
     ensures kept { sheet.new.pool ≡ sheet.old.pool }
 {
     let symbol = table.symbol(k)?;

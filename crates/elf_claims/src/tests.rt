@@ -7,6 +7,8 @@ use crate::{
 use claim_sheet::{ClaimSheet, Stop, Wrap};
 use elf_file::ElfFile;
 use size_core::{BadFile, Claim, Fault, LabelPool, Load, Side, Span};
+use std::alloc::Global;
+use std::process::Abort;
 use std::test::Fail;
 
 /// Writes bytes over those from an offset on.
@@ -45,8 +47,7 @@ fn plain_file() -> [u8; 440] {
 }
 
 #[test]
-fn groups_of_a_plain_file(rt: HostRuntime) -> Result<(), Fail> {
-    let alloc = rt.alloc();
+fn loads_of_a_plain_file(rt: HostRuntime) -> Result<(), Fail> {
     let file = plain_file();
     let elf = ElfFile::parse(&file)?;
     assert_eq!(rt; load_slots(&elf), 1);
@@ -58,77 +59,102 @@ fn groups_of_a_plain_file(rt: HostRuntime) -> Result<(), Fail> {
         filesz: 64,
     };
     assert_eq!(rt; load_at(&elf, 0), Some(load));
-    let mut pool = LabelPool::new(alloc);
-    let mut sheet = ClaimSheet::begin(alloc, &mut pool, 100);
-    add_loads(alloc, &elf, Wrap::Plain, &mut sheet)?;
-    add_sections(&elf, Wrap::Section, &mut sheet)?;
-    add_headers(&elf, &mut sheet)?;
-    add_symbols(alloc, &elf, &mut sheet)?;
-    let Ok(claims) = sheet.finish(&mut pool) else {
-        panic!(rt; "eight claims are within the limit");
-    };
-    for (label, want) in [
-        b"LOAD #0 [RWX]".as_slice(),
-        b"[section .text]",
-        b"[section [Unnamed section]]",
-        b"[ELF Header]",
-        b"[ELF Program Headers]",
-        b"[ELF Section Headers]",
-        b"f",
-    ]
-    .iter()
-    .enumerate()
-    {
-        assert!(rt; label < pool.len() && pool.get(label) == *want);
+    Ok(())
+}
+
+/// Adds the claims of a file's loads, sections, headers and symbols.
+fn add_all(alloc: Global, elf: &ElfFile<'_>, sheet: &mut ClaimSheet) -> Result<(), Stop> {
+    add_loads(alloc, elf, Wrap::Plain, sheet)?;
+    add_sections(elf, Wrap::Section, sheet)?;
+    add_headers(elf, sheet)?;
+    add_symbols(alloc, elf, sheet)?;
+    Ok(())
+}
+
+const LABELS: [&str; 7] = [
+    "LOAD #0 [RWX]",
+    "[section .text]",
+    "[section [Unnamed section]]",
+    "[ELF Header]",
+    "[ELF Program Headers]",
+    "[ELF Section Headers]",
+    "f",
+];
+
+/// The pool's first labels are these.
+fn assert_labels(rt: &impl Abort, pool: &LabelPool) {
+    for (label, &want) in LABELS.iter().enumerate() {
+        assert!(rt; label < pool.len() && pool.get(label) == want.as_bytes());
     }
-    assert_eq!(rt; claims.len(), 8);
-    let none = Span {
-        space: 0,
-        start: 0,
-        len: 0,
-    };
-    let vm = Span {
+}
+
+const SYMBOL: Claim = Claim {
+    side: Side::Vm,
+    vm: Span {
         space: 0,
         start: 0x400004,
         len: 8,
+    },
+    file: Span {
+        space: 0,
+        start: 0,
+        len: 0,
+    },
+    label: 6,
+};
+
+#[test]
+fn groups_of_a_plain_file(rt: HostRuntime) -> Result<(), Fail> {
+    let alloc = rt.alloc();
+    let file = plain_file();
+    let elf = ElfFile::parse(&file)?;
+    let mut pool = LabelPool::new(alloc);
+    let mut sheet = ClaimSheet::begin(alloc, &mut pool, 100);
+    add_all(alloc, &elf, &mut sheet)?;
+    let Ok(claims) = sheet.finish(&mut pool) else {
+        panic!(rt; "eight claims are within the limit");
     };
-    let symbol = Claim {
-        side: Side::Vm,
-        vm,
-        file: none,
-        label: 6,
-    };
-    assert_eq!(rt; claims[7], symbol);
+    assert_labels(&rt, &pool);
+    assert_eq!(rt; claims.len(), 8);
+    assert_eq!(rt; claims[7], SYMBOL);
     Ok(())
 }
+
+/// Whether the function's symbol claims bytes where these bytes are written over those of the plain file.
+fn claims_symbol(rt: &impl Abort, alloc: Global, at: usize, bytes: &[u8]) -> Result<bool, Fail> {
+    assert!(rt; at < 400 && bytes.len() < 4);
+    let mut file = plain_file();
+    put(&mut file, at, bytes);
+    let elf = ElfFile::parse(&file)?;
+    let mut pool = LabelPool::new(alloc);
+    let mut sheet = ClaimSheet::begin(alloc, &mut pool, 100);
+    add_symbols(alloc, &elf, &mut sheet)?;
+    let Ok(claims) = sheet.finish(&mut pool) else {
+        panic!(rt; "a claim is within the limit");
+    };
+    Ok(!claims.is_empty())
+}
+
+/// What is written over which bytes, and whether the function's symbol still claims bytes.
+const SYMBOLS: [(usize, &[u8], bool); 7] = [
+    // Of no type, of data, of a function that gives the one to call, and of a section.
+    (148, b"\x10", true),
+    (148, b"\x11", true),
+    (148, b"\x1a", true),
+    (148, b"\x13", false),
+    // In a table of symbols that are bound at run time.
+    (316, b"\x0b", true),
+    // In the last section that isn't reserved, and in the first that is.
+    (150, b"\xff\xfe", true),
+    (150, b"\0\xff", false),
+];
 
 #[test]
 fn symbols_that_claim_bytes(rt: HostRuntime) -> Result<(), Fail> {
     let alloc = rt.alloc();
-    // What is written over which bytes, and whether the function's symbol still claims bytes.
-    for (at, bytes, is_claim) in [
-        // Of no type, of data, of a function that gives the one to call, and of a section.
-        (148, b"\x10".as_slice(), true),
-        (148, b"\x11", true),
-        (148, b"\x1a", true),
-        (148, b"\x13", false),
-        // In a table of symbols that are bound at run time.
-        (316, b"\x0b", true),
-        // In the last section that isn't reserved, and in the first that is.
-        (150, b"\xff\xfe", true),
-        (150, b"\0\xff", false),
-    ] {
-        assert!(rt; at < 400 && bytes.len() < 4);
-        let mut file = plain_file();
-        put(&mut file, at, bytes);
-        let elf = ElfFile::parse(&file)?;
-        let mut pool = LabelPool::new(alloc);
-        let mut sheet = ClaimSheet::begin(alloc, &mut pool, 100);
-        add_symbols(alloc, &elf, &mut sheet)?;
-        let Ok(claims) = sheet.finish(&mut pool) else {
-            panic!(rt; "a claim is within the limit");
-        };
-        assert_eq!(rt; !claims.is_empty(), is_claim, "{bytes:?} at {at}");
+    for (at, bytes, is_claim) in SYMBOLS {
+        let claims = claims_symbol(&rt, alloc, at, bytes)?;
+        assert_eq!(rt; claims, is_claim, "{bytes:?} at {at}");
     }
     Ok(())
 }
@@ -174,13 +200,20 @@ fn debug_file() -> [u8; 448] {
 
 #[test]
 fn debug_sections_by_their_names(rt: HostRuntime) -> Result<(), Fail> {
-    let alloc = rt.alloc();
     let file = debug_file();
     let elf = ElfFile::parse(&file)?;
     let sections = debug_sections(&elf)?;
     assert_eq!(rt; (sections.info.place(), sections.info.left()), (64, 12));
     assert_eq!(rt; (sections.abbrev.place(), sections.abbrev.left()), (76, 1));
     assert_eq!(rt; (sections.lines.place(), sections.lines.left()), (0, 0));
+    Ok(())
+}
+
+#[test]
+fn units_of_a_debug_file(rt: HostRuntime) -> Result<(), Fail> {
+    let alloc = rt.alloc();
+    let file = debug_file();
+    let elf = ElfFile::parse(&file)?;
     let mut pool = LabelPool::new(alloc);
     let mut sheet = ClaimSheet::begin(alloc, &mut pool, 100);
     add_units(alloc, &elf, &mut sheet)?;
@@ -193,24 +226,38 @@ fn debug_sections_by_their_names(rt: HostRuntime) -> Result<(), Fail> {
     Ok(())
 }
 
+/// The debug sections aren't read, for this fault, where these bytes are written over those of the debug file.
+fn assert_not_read(
+    rt: &impl Abort,
+    alloc: Global,
+    at: usize,
+    bytes: &[u8],
+    bad: BadFile,
+) -> Result<(), Fail> {
+    assert!(rt; at < 300 && bytes.len() < 20);
+    let mut file = debug_file();
+    put(&mut file, at, bytes);
+    let elf = ElfFile::parse(&file)?;
+    let mut pool = LabelPool::new(alloc);
+    let mut sheet = ClaimSheet::begin(alloc, &mut pool, 0);
+    assert_eq!(rt; add_units(alloc, &elf, &mut sheet), Err(Stop::Bad(bad)));
+    assert_eq!(rt; add_lines(alloc, &elf, &mut sheet), Err(Stop::Bad(bad)));
+    Ok(())
+}
+
+/// What is written over which bytes, and the fault with its place.
+const UNREAD: [(usize, &[u8], Fault, u64); 3] = [
+    // SHF_COMPRESSED, the name of old, and a relocatable file.
+    (264, b"\0\x08", Fault::CompressedDebugInfo, 256),
+    (93, b".zdebug_line\0", Fault::CompressedDebugInfo, 320),
+    (16, b"\x01", Fault::SourceNotForFile, 0),
+];
+
 #[test]
 fn compressed_debug_sections_are_not_read(rt: HostRuntime) -> Result<(), Fail> {
     let alloc = rt.alloc();
-    for (at, bytes, fault, offset) in [
-        // SHF_COMPRESSED, the name of old, and a relocatable file.
-        (264, b"\0\x08".as_slice(), Fault::CompressedDebugInfo, 256),
-        (93, b".zdebug_line\0", Fault::CompressedDebugInfo, 320),
-        (16, b"\x01", Fault::SourceNotForFile, 0),
-    ] {
-        assert!(rt; at < 300 && bytes.len() < 20);
-        let mut file = debug_file();
-        put(&mut file, at, bytes);
-        let elf = ElfFile::parse(&file)?;
-        let mut pool = LabelPool::new(alloc);
-        let mut sheet = ClaimSheet::begin(alloc, &mut pool, 0);
-        let bad = BadFile { fault, offset };
-        assert_eq!(rt; add_units(alloc, &elf, &mut sheet), Err(Stop::Bad(bad)));
-        assert_eq!(rt; add_lines(alloc, &elf, &mut sheet), Err(Stop::Bad(bad)));
+    for (at, bytes, fault, offset) in UNREAD {
+        assert_not_read(&rt, alloc, at, bytes, BadFile { fault, offset })?;
     }
     Ok(())
 }

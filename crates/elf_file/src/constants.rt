@@ -62,7 +62,8 @@ pub fn header_numbers()
     ensures arm { EM_ARM ≡ 40 }
 {}
 
-/// A law: the numbers of sections (ELF gABI, Sections: Special Section Indexes, Section Types, Section Attribute Flags).
+/// A law: the numbers of sections (ELF gABI, Sections: Special Section Indexes, Section Types,
+/// Section Attribute Flags).
 pub fn section_numbers()
     ensures null { SHT_NULL ≡ 0 }
     ensures note { SHT_NOTE ≡ 7 }

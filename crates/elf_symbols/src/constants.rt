@@ -31,8 +31,8 @@ pub fn table_numbers()
     ensures shndx { SHT_SYMTAB_SHNDX ≡ 18 }
 {}
 
-/// A law: the types of symbols (ELF gABI, Symbol Table: Symbol Types; the last is the first of the numbers that the gABI
-/// leaves to the operating system, STT_LOOS, by which GNU means this).
+/// A law: the types of symbols (ELF gABI, Symbol Table: Symbol Types; the last is the first of the numbers that the
+/// gABI leaves to the operating system, STT_LOOS, by which GNU means this).
 pub fn symbol_numbers()
     ensures notype { STT_NOTYPE ≡ 0 }
     ensures object { STT_OBJECT ≡ 1 }

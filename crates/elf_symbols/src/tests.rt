@@ -15,8 +15,8 @@ fn put(file: &mut [u8], at: usize, bytes: &[u8])
     }
 }
 
-/// Writes a header for so many sections, whose headers stand at an offset, two symbols at 64 and their names at 112. The
-/// second symbol's section is in the numbers of sections.
+/// Writes a header for so many sections, whose headers stand at an offset, two symbols at 64 and their names at 112.
+/// The second symbol's section is in the numbers of sections.
 fn put_symbols(file: &mut [u8], headers: u8, sections: u8)
     requires { 120 ≤ length file.old }
     ensures { length file.new ≡ length file.old }

@@ -5,6 +5,5 @@ pub mod MapLemmas
 pub mod NumberLemmas
 pub mod PairLemmas
 pub mod PlaceLemmas
-pub mod PlanLemmas
 pub mod ProfileLemmas
 pub mod SpellLemmas

@@ -70,12 +70,8 @@ impl Model for Plan {
 }
 
 impl Plan {
-    // A plan of these data sources, whose rewrites are among these.
-    pub(crate) fn of(
-        choices: Vec<Choice>,
-        rewrites: Vec<Rewrites>,
-        filter: Option<LabelPattern>,
-    ) -> Plan
+    /// A plan of these data sources, whose rewrites are among these.
+    pub fn of(choices: Vec<Choice>, rewrites: Vec<Rewrites>, filter: Option<LabelPattern>) -> Plan
         requires { All (IsChoice (length rewrites.items)) choices.items }
         ensures { result ≡ record {
           sources = map (chosen_in rewrites.items) choices.items;

@@ -1,4 +1,4 @@
-//! The sizes of one file.
+//! The sizes of a file that was opened.
 
 ghost use Rattle.std.specs.Prelude.{◌≡◌, ◌+◌, ◌-◌, ◌≤◌, ◌<◌, ◌^◌, ℕ, Bool, ◌⊎◌, List, All, length, map, Ok, Err, IfOk, OnOk, OnErr, IsErrOf};
 ghost use Rattle.size_model.specs.declared.view.FileView.{FileView as FileViewSpec};
@@ -8,14 +8,13 @@ ghost use Rattle.rollup.specs.Adding.{file_count, file_where, piece_count, vm_co
 ghost use Rattle.custom_rewrites.specs.Pattern.{is_found};
 ghost use Rattle.data_sources.specs.Groups.{bytes_of};
 ghost use Rattle.file_profile.specs.Counts.{file_size_where, filter_test, marks_by, step_bound, vm_size_where};
-ghost use Rattle.file_profile.specs.Views.{Answers, OpenedAnswers, file_view, opened_view, opened_viewed, viewed};
+ghost use Rattle.file_profile.specs.Views.{OpenedAnswers, opened_view, opened_viewed};
 
-use crate::answer::{OpenedAnswer, ProfileAnswer};
+use crate::answer::OpenedAnswer;
 use crate::asked::Plan;
 use crate::maps::maps_of;
 use crate::subject::Subject;
 use custom_rewrites::LabelPattern;
-use data_sources::open_binary;
 use dual_map::{Base, DualMap};
 use rollup::Rollup;
 use size_core::{LabelPool, Limits, NoMemory, Steps};
@@ -118,60 +117,4 @@ pub fn profile_opened<L: Ledger>(
     let maps = maps_of(alloc, plan, subject, &mut pool, limits.claims)?;
     let base = subject.base();
     add_maps(alloc, plan, base, subject.len(), &maps, &pool, total, steps)
-}
-
-/// Adds the sizes of one file to a total: to each path of labels, over the data sources of the plan, the number of
-/// the file's bytes and of its mapped addresses that pass the filter and have it. `inputfiles` labels them `name`.
-///
-/// # Errors
-///
-/// `Bad` gives the first fault of the file, or else of a data source on it; `TooManyClaims` comes where the claims
-/// of the data sources pass `limits.claims`, at the data source at which they do; `MappedTooLarge` where there is
-/// none of these and the mapped sizes of all files pass 2^63 - 1. After a refusal the total is as it was.
-pub fn profile_file<L: Ledger>(
-    alloc: Global,
-    plan: &Plan,
-    name: &str,
-    file: &[u8],
-    total: &mut Rollup,
-    limits: &Limits,
-    steps: &mut Steps<L>,
-) -> Result<(), ProfileAnswer>
-    requires short { length file.now < 2 ^ 32 }
-    requires depth { total.old.depth ≡ length plan.now.sources }
-    requires lengths { total.old.lengths + length file.now ≤ 2 ^ 62 }
-
-    // The first of the file's faults and limits decides, want of memory aside.
-    ensures answer { Answers result (viewed total.old.mapped limits.now.claims name.now file.now plan.now.sources) }
-    ensures unchanged { OnErr result (total.new ≡ total.old) }
-
-    // The paths of which a test holds, as that a path is this one or begins so, grow by the bytes that have one.
-    ensures file { OnOk result ((f : FileViewSpec) (test : List (List ℕ) → Bool)
-        → viewed total.old.mapped limits.now.claims name.now file.now plan.now.sources ≡ Ok f
-        → file_where test total.new.rows
-        ≡ file_where test total.old.rows + file_size_where (filter_test plan.now.filter) test f) }
-    ensures vm { OnOk result ((f : FileViewSpec) (test : List (List ℕ) → Bool)
-        → viewed total.old.mapped limits.now.claims name.now file.now plan.now.sources ≡ Ok f
-        → vm_where test total.new.rows
-        ≡ vm_where test total.old.rows + vm_size_where (filter_test plan.now.filter) test f) }
-
-    // What was added, filtered or not.
-    ensures depth { total.new.depth ≡ total.old.depth }
-    ensures lengths { OnOk result (total.new.lengths ≡ total.old.lengths + length file.now) }
-    ensures mapped { OnOk result ((f : FileViewSpec)
-        → viewed total.old.mapped limits.now.claims name.now file.now plan.now.sources ≡ Ok f
-        → total.new.mapped ≡ total.old.mapped + mapped_count f.loads) }
-
-    // No more pieces are read than the claims and the loads make, and none where the file or its claims have a fault.
-    ensures cost { (f : FileViewSpec)
-        → file_view limits.now.claims name.now file.now plan.now.sources ≡ Ok f
-        → steps.new ≤ steps.old + step_bound f }
-    ensures free { (fault : ProfileAnswer)
-        → file_view limits.now.claims name.now file.now plan.now.sources ≡ Err fault
-        → steps.new ≡ steps.old }
-{
-    let binary = open_binary(file)?;
-    let subject = Subject::new(alloc, name.as_bytes(), binary, None)?;
-    profile_opened(alloc, plan, &subject, total, limits, steps)?;
-    Ok(())
 }

@@ -52,7 +52,8 @@ pub fn load_at(file: &MachoFile<'_>, i: u32) -> Option<Load>
 fn push_load(loads: &mut Vec<Load>, segment: &MachoSegment<'_>) -> Result<(), NoMemory>
     requires addresses { segment.now.vaddr + segment.now.memsz ≤ 2 ^ 64 }
     requires all { All IsLoad loads.old.items }
-    ensures pushed { OnOk result (loads.new.items ≡ loads.old.items ++ option_to_list (segment_load (segment_shown segment.now))) }
+    ensures pushed { OnOk result (loads.new.items
+        ≡ loads.old.items ++ option_to_list (segment_load (segment_shown segment.now))) }
     ensures all { OnOk result (All IsLoad loads.new.items) }
 {
     if let Some(load) = segment_load(segment) {

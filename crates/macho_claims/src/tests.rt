@@ -21,38 +21,25 @@ fn put(file: &mut [u8], at: usize, bytes: &[u8])
     }
 }
 
-/// A claim's label and side, its addresses, and its bytes of the file.
-#[derive(Drop)]
-struct Want {
-    label: &'static [u8],
-    side: Side,
-    vm: (u64, u64),
-    file: (u64, u64),
-}
+/// A claim: its side, its addresses, its bytes of the file, and its label.
+type Row<'a> = (Side, (u64, u64), (u64, u64), &'a str);
 
-fn made(label: &'static [u8], side: Side, vm: (u64, u64), file: (u64, u64)) -> Want {
-    Want {
-        label,
-        side,
-        vm,
-        file,
-    }
-}
+const NONE: (u64, u64) = (0, 0);
 
 fn is_span(span: Span, want: (u64, u64)) -> bool {
     span.space == 0 && (span.start, span.len) == want
 }
 
 /// The sheet's claims are these, in this order.
-fn assert_made(rt: &impl Abort, mut pool: LabelPool, sheet: ClaimSheet, wanted: &[Want]) {
+fn assert_made(rt: &impl Abort, mut pool: LabelPool, sheet: ClaimSheet, rows: &[Row<'_>]) {
     let Ok(claims) = sheet.finish(&mut pool) else {
         panic!(rt; "the claims are within the limit");
     };
-    assert_eq!(rt; claims.len(), wanted.len());
-    for (claim, want) in claims.iter().zip(wanted) {
-        assert!(rt; claim.label < pool.len() && pool.get(claim.label) == want.label);
-        assert_eq!(rt; claim.side, want.side);
-        assert!(rt; is_span(claim.vm, want.vm) && is_span(claim.file, want.file));
+    assert_eq!(rt; claims.len(), rows.len());
+    for (claim, &(side, vm, file, label)) in claims.iter().zip(rows) {
+        assert!(rt; claim.label < pool.len() && pool.get(claim.label) == label.as_bytes());
+        assert_eq!(rt; claim.side, side);
+        assert!(rt; is_span(claim.vm, vm) && is_span(claim.file, file));
     }
 }
 
@@ -94,42 +81,56 @@ fn program() -> [u8; 4152] {
 }
 
 #[test]
+fn loads_of_a_program(rt: HostRuntime) -> Result<(), Fail> {
+    let file = program();
+    let macho = MachoFile::parse(&file)?;
+    let loads = loads_of(rt.alloc(), &macho)?;
+    assert_eq!(rt; (load_slots(&macho), loads.len()), (3, 2));
+    assert_eq!(rt; load_at(&macho, 1), Some(loads[0]));
+    Ok(())
+}
+
+const PROGRAM: [Row<'static>; 9] = [
+    (Side::Vm, (0x1_0000_0800, 12), NONE, "_a"),
+    (Side::Vm, (0x1_0000_080c, 4), NONE, "_b"),
+    (
+        Side::Both,
+        (0x1_0000_0800, 16),
+        (2048, 16),
+        "[section __TEXT,__text]",
+    ),
+    (Side::File, NONE, (4096, 48), "[Symbol Table]"),
+    (Side::File, NONE, (4144, 8), "[String Table]"),
+    (Side::File, NONE, (0, 32), "[Mach-O Header]"),
+    (Side::File, NONE, (32, 320), "[Mach-O Load Commands]"),
+    (Side::Both, (0x1_0000_0000, 4096), (0, 4096), "[__TEXT]"),
+    (
+        Side::Both,
+        (0x1_0000_1000, 4096),
+        (4096, 56),
+        "[__LINKEDIT]",
+    ),
+];
+
+/// Adds the claims of a file's symbols, sections, parts and loads.
+fn add_all(alloc: Global, macho: &MachoFile<'_>, sheet: &mut ClaimSheet) -> Result<(), Stop> {
+    add_symbols(alloc, macho, sheet)?;
+    add_sections(alloc, macho, Wrap::Section, sheet)?;
+    add_link_edit(macho, sheet)?;
+    add_headers(macho, sheet)?;
+    add_loads(macho, Wrap::Brackets, sheet)?;
+    Ok(())
+}
+
+#[test]
 fn claims_of_a_program(rt: HostRuntime) -> Result<(), Fail> {
     let alloc = rt.alloc();
     let file = program();
     let macho = MachoFile::parse(&file)?;
-    let loads = loads_of(alloc, &macho)?;
-    assert_eq!(rt; (load_slots(&macho), loads.len()), (3, 2));
-    assert_eq!(rt; load_at(&macho, 1), Some(loads[0]));
     let mut pool = LabelPool::new(alloc);
     let mut sheet = ClaimSheet::begin(alloc, &mut pool, 100);
-    add_symbols(alloc, &macho, &mut sheet)?;
-    add_sections(alloc, &macho, Wrap::Section, &mut sheet)?;
-    add_link_edit(&macho, &mut sheet)?;
-    add_headers(&macho, &mut sheet)?;
-    add_loads(&macho, Wrap::Brackets, &mut sheet)?;
-    let wanted = [
-        made(b"_a", Side::Vm, (0x1_0000_0800, 12), (0, 0)),
-        made(b"_b", Side::Vm, (0x1_0000_080c, 4), (0, 0)),
-        made(
-            b"[section __TEXT,__text]",
-            Side::Both,
-            (0x1_0000_0800, 16),
-            (2048, 16),
-        ),
-        made(b"[Symbol Table]", Side::File, (0, 0), (4096, 48)),
-        made(b"[String Table]", Side::File, (0, 0), (4144, 8)),
-        made(b"[Mach-O Header]", Side::File, (0, 0), (0, 32)),
-        made(b"[Mach-O Load Commands]", Side::File, (0, 0), (32, 320)),
-        made(b"[__TEXT]", Side::Both, (0x1_0000_0000, 4096), (0, 4096)),
-        made(
-            b"[__LINKEDIT]",
-            Side::Both,
-            (0x1_0000_1000, 4096),
-            (4096, 56),
-        ),
-    ];
-    assert_made(&rt, pool, sheet, &wanted);
+    add_all(alloc, &macho, &mut sheet)?;
+    assert_made(&rt, pool, sheet, &PROGRAM);
     Ok(())
 }
 
@@ -217,28 +218,34 @@ fn debug_file() -> [u8; 280] {
     file
 }
 
+/// Adds the claims of a file's loads and sections.
+fn add_sections_of(alloc: Global, file: &[u8], sheet: &mut ClaimSheet) -> Result<(), Fail>
+    requires { length file.now < 2 ^ 32 }
+{
+    let macho = MachoFile::parse(file)?;
+    add_loads(&macho, Wrap::Plain, sheet)?;
+    add_sections(alloc, &macho, Wrap::Plain, sheet)?;
+    Ok(())
+}
+
+const SECTIONS: [Row<'static>; 7] = [
+    (Side::Both, (0, 24), (264, 8), "[Unnamed segment]"),
+    (Side::Both, (0, 8), (264, 8), "__TEXT,__text"),
+    (Side::Vm, (8, 16), NONE, "__DATA,__bss"),
+    (Side::Both, (0x1000, 0x1000), NONE, "__TEXT"),
+    (Side::Both, (0x2000, 0x1000), (276, 4), "__DWARF"),
+    (Side::Vm, (0x1000, 16), NONE, "__TEXT,__text"),
+    (Side::Both, (0x2000, 4), (276, 4), "__DWARF,__debug_info"),
+];
+
 #[test]
 fn sections_in_the_file_and_not(rt: HostRuntime) -> Result<(), Fail> {
     let alloc = rt.alloc();
-    let (object, debug_file) = (object(), debug_file());
     let mut pool = LabelPool::new(alloc);
     let mut sheet = ClaimSheet::begin(alloc, &mut pool, 100);
-    for file in [object.as_slice(), &debug_file] {
-        assert!(rt; file.len() < 300);
-        let macho = MachoFile::parse(file)?;
-        add_loads(&macho, Wrap::Plain, &mut sheet)?;
-        add_sections(alloc, &macho, Wrap::Plain, &mut sheet)?;
-    }
-    let wanted = [
-        made(b"[Unnamed segment]", Side::Both, (0, 24), (264, 8)),
-        made(b"__TEXT,__text", Side::Both, (0, 8), (264, 8)),
-        made(b"__DATA,__bss", Side::Vm, (8, 16), (0, 0)),
-        made(b"__TEXT", Side::Both, (0x1000, 0x1000), (0, 0)),
-        made(b"__DWARF", Side::Both, (0x2000, 0x1000), (276, 4)),
-        made(b"__TEXT,__text", Side::Vm, (0x1000, 16), (0, 0)),
-        made(b"__DWARF,__debug_info", Side::Both, (0x2000, 4), (276, 4)),
-    ];
-    assert_made(&rt, pool, sheet, &wanted);
+    add_sections_of(alloc, &object(), &mut sheet)?;
+    add_sections_of(alloc, &debug_file(), &mut sheet)?;
+    assert_made(&rt, pool, sheet, &SECTIONS);
     Ok(())
 }
 
@@ -259,6 +266,15 @@ fn library() -> [u8; 256] {
     file
 }
 
+const LIBRARY: [Row<'static>; 6] = [
+    (Side::File, NONE, (176, 8), "[Rebase Info]"),
+    (Side::File, NONE, (184, 8), "[Binding Info]"),
+    (Side::File, NONE, (192, 8), "[Lazy Binding Info]"),
+    (Side::File, NONE, (200, 8), "[Export Info]"),
+    (Side::File, NONE, (208, 8), "[Indirect Symbols]"),
+    (Side::File, NONE, (240, 16), "[Code Signature]"),
+];
+
 #[test]
 fn parts_of_a_library(rt: HostRuntime) -> Result<(), Fail> {
     let alloc = rt.alloc();
@@ -268,15 +284,7 @@ fn parts_of_a_library(rt: HostRuntime) -> Result<(), Fail> {
     let mut sheet = ClaimSheet::begin(alloc, &mut pool, 100);
     add_link_edit(&macho, &mut sheet)?;
     add_symbols(alloc, &macho, &mut sheet)?;
-    let wanted = [
-        made(b"[Rebase Info]", Side::File, (0, 0), (176, 8)),
-        made(b"[Binding Info]", Side::File, (0, 0), (184, 8)),
-        made(b"[Lazy Binding Info]", Side::File, (0, 0), (192, 8)),
-        made(b"[Export Info]", Side::File, (0, 0), (200, 8)),
-        made(b"[Indirect Symbols]", Side::File, (0, 0), (208, 8)),
-        made(b"[Code Signature]", Side::File, (0, 0), (240, 16)),
-    ];
-    assert_made(&rt, pool, sheet, &wanted);
+    assert_made(&rt, pool, sheet, &LIBRARY);
     Ok(())
 }
 
@@ -290,6 +298,11 @@ fn unmapped() -> [u8; 84] {
     file
 }
 
+const UNMAPPED: [Row<'static>; 2] = [
+    (Side::File, NONE, (0, 28), "[Mach-O Header]"),
+    (Side::File, NONE, (28, 56), "[Mach-O Load Commands]"),
+];
+
 #[test]
 fn a_segment_that_is_never_mapped(rt: HostRuntime) -> Result<(), Fail> {
     let alloc = rt.alloc();
@@ -301,11 +314,7 @@ fn a_segment_that_is_never_mapped(rt: HostRuntime) -> Result<(), Fail> {
     let mut sheet = ClaimSheet::begin(alloc, &mut pool, 100);
     add_loads(&macho, Wrap::Plain, &mut sheet)?;
     add_headers(&macho, &mut sheet)?;
-    let wanted = [
-        made(b"[Mach-O Header]", Side::File, (0, 0), (0, 28)),
-        made(b"[Mach-O Load Commands]", Side::File, (0, 0), (28, 56)),
-    ];
-    assert_made(&rt, pool, sheet, &wanted);
+    assert_made(&rt, pool, sheet, &UNMAPPED);
     Ok(())
 }
 
@@ -326,23 +335,31 @@ fn unit_file() -> [u8; 233] {
 }
 
 #[test]
-fn units_of_a_debug_file(rt: HostRuntime) -> Result<(), Fail> {
-    let alloc = rt.alloc();
+fn debug_sections_by_their_names(rt: HostRuntime) -> Result<(), Fail> {
     let file = unit_file();
     let macho = MachoFile::parse(&file)?;
     let sections = debug_sections(&macho)?;
     assert_eq!(rt; (sections.info.place(), sections.info.left()), (220, 12));
     assert_eq!(rt; (sections.abbrev.place(), sections.abbrev.left()), (232, 1));
     assert_eq!(rt; (sections.lines.place(), sections.lines.left()), (0, 0));
+    Ok(())
+}
+
+const UNITS: [Row<'static>; 2] = [
+    (Side::File, NONE, (220, 12), "[Unnamed unit]"),
+    (Side::File, NONE, (232, 1), "[Unnamed unit]"),
+];
+
+#[test]
+fn units_of_a_debug_file(rt: HostRuntime) -> Result<(), Fail> {
+    let alloc = rt.alloc();
+    let file = unit_file();
+    let macho = MachoFile::parse(&file)?;
     let mut pool = LabelPool::new(alloc);
     let mut sheet = ClaimSheet::begin(alloc, &mut pool, 100);
     add_units(alloc, &macho, &mut sheet)?;
     add_lines(alloc, &macho, &mut sheet)?;
-    let wanted = [
-        made(b"[Unnamed unit]", Side::File, (0, 0), (220, 12)),
-        made(b"[Unnamed unit]", Side::File, (0, 0), (232, 1)),
-    ];
-    assert_made(&rt, pool, sheet, &wanted);
+    assert_made(&rt, pool, sheet, &UNITS);
     Ok(())
 }
 

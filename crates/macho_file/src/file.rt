@@ -66,7 +66,9 @@ impl<'a> MachoFile<'a> {
     pub fn parse(file: &'a [u8]) -> Result<MachoFile<'a>, BadFile>
         requires { length file.now < 2 ^ 32 }
         ensures file { result ≡ opened file.now }
-        ensures first { MatchResult result (λ _. AllHold (macho_checks file.now)) (IsFirstFault (macho_checks file.now)) }
+        ensures first { MatchResult result
+            (λ _. AllHold (macho_checks file.now))
+            (IsFirstFault (macho_checks file.now)) }
         ensures well_formed { OnOk result (IsWellFormed file.now) }
     {
         let encoding = encoding(file)?;
@@ -289,7 +291,9 @@ impl<'a> MachoFile<'a> {
     /// takes no part.
     #[tactic(auto, using(crate::proofs::SpanLemmas::spans_is, crate::proofs::SpanLemmas::taken_part))]
     pub fn spans(&self, alloc: Global) -> Result<Vec<SymbolSpan<'a>>, SpanAnswer>
-        ensures { MatchResult result (λ v. spans self.now ≡ Ok (map span_shown v.items)) (λ e. ForBad e (λ bad. spans self.now ≡ Err bad)) }
+        ensures { MatchResult result
+            (λ v. spans self.now ≡ Ok (map span_shown v.items))
+            (λ e. ForBad e (λ bad. spans self.now ≡ Err bad)) }
     {
         let table = self.table()?;
         let extents = extents_of(alloc, self.sections())?;

@@ -57,7 +57,10 @@ pub fn index_of(alloc: Global, symbols: &[MachoSymbol<'_>]) -> Result<Vec<Key>, 
 pub fn keys_before(keys: &[Key], position: u128) -> usize
     requires { IsNonDecreasingBy (λ (k : KeySpec). k.position) keys.now }
     ensures bound { result ≤ length keys.now }
-    ensures point { IsPartitionPoint (λ (k : KeySpec). nat_lt k.position position ≡ true) (λ (k : KeySpec). nat_lt k.position position ≡ false) keys.now result }
+    ensures point { IsPartitionPoint
+        (λ (k : KeySpec). nat_lt k.position position ≡ true)
+        (λ (k : KeySpec). nat_lt k.position position ≡ false)
+        keys.now result }
 {
     keys.partition_point(|key| key.position < position)
 }
@@ -66,7 +69,10 @@ pub fn keys_before(keys: &[Key], position: u128) -> usize
 pub fn keys_up_to(keys: &[Key], position: u128) -> usize
     requires { IsNonDecreasingBy (λ (k : KeySpec). k.position) keys.now }
     ensures bound { result ≤ length keys.now }
-    ensures point { IsPartitionPoint (λ (k : KeySpec). nat_le k.position position ≡ true) (λ (k : KeySpec). nat_le k.position position ≡ false) keys.now result }
+    ensures point { IsPartitionPoint
+        (λ (k : KeySpec). nat_le k.position position ≡ true)
+        (λ (k : KeySpec). nat_le k.position position ≡ false)
+        keys.now result }
 {
     keys.partition_point(|key| key.position <= position)
 }

@@ -19,8 +19,10 @@ pub fn constants_are_the_standards()
     ensures tables { (LC_SYMTAB ≡ 2) × (LC_DYSYMTAB ≡ 11) × (LC_UUID ≡ 27) }
     ensures dyld_info { (LC_DYLD_INFO ≡ 34) × (LC_DYLD_INFO_ONLY ≡ 2147483682) }
     ensures signature { (LC_CODE_SIGNATURE ≡ 29) × (LC_DYLIB_CODE_SIGN_DRS ≡ 43) }
-    ensures code { (LC_SEGMENT_SPLIT_INFO ≡ 30) × (LC_FUNCTION_STARTS ≡ 38) × (LC_DATA_IN_CODE ≡ 41) × (LC_LINKER_OPTIMIZATION_HINT ≡ 46) }
+    ensures code { (LC_SEGMENT_SPLIT_INFO ≡ 30) × (LC_FUNCTION_STARTS ≡ 38)
+        × (LC_DATA_IN_CODE ≡ 41) × (LC_LINKER_OPTIMIZATION_HINT ≡ 46) }
     ensures linking { (LC_DYLD_EXPORTS_TRIE ≡ 2147483699) × (LC_DYLD_CHAINED_FIXUPS ≡ 2147483700) }
-    ensures section_types { (SECTION_TYPE ≡ 255) × (S_ZEROFILL ≡ 1) × (S_GB_ZEROFILL ≡ 12) × (S_THREAD_LOCAL_ZEROFILL ≡ 18) }
+    ensures section_types { (SECTION_TYPE ≡ 255) × (S_ZEROFILL ≡ 1)
+        × (S_GB_ZEROFILL ≡ 12) × (S_THREAD_LOCAL_ZEROFILL ≡ 18) }
     ensures symbol_types { (N_STAB ≡ 224) × (N_TYPE ≡ 14) × (N_SECT ≡ 14) }
 {}

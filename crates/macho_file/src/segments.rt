@@ -19,7 +19,9 @@ use std::marker::Model;
 #[tactic(auto, using(crate::proofs::SegmentLemmas::same_segments, crate::proofs::SegmentLemmas::same_at, crate::proofs::SegmentLemmas::passed_by))]
 pub fn next_segment(walk: &mut Walk<'_>) -> Option<Command>
     ensures file { walk.new.file ≡ walk.old.file }
-    ensures step { MatchOption result (SameSegments walk.old.file walk.old.rest [] × (walk.new.rest ≡ [])) (λ c. SameSegments walk.old.file walk.old.rest (c ∷ walk.new.rest)) }
+    ensures step { MatchOption result
+        (SameSegments walk.old.file walk.old.rest [] × (walk.new.rest ≡ []))
+        (λ c. SameSegments walk.old.file walk.old.rest (c ∷ walk.new.rest)) }
     ensures inside { IfSome result (λ c. IsInside walk.old.file c) }
     ensures kind { IfSome result (λ c. is_segment c ≡ true) }
     ensures fits { IfSome result (λ c. first_of (command_checks walk.old.file c) ≡ Ok tt) }

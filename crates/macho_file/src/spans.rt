@@ -77,7 +77,8 @@ fn span_at<'a>(
     requires symbol { slice_get (map symbol_shown symbols.now) i ≡ Some (symbol_shown symbol.now) }
     requires part { takes_part extents.now (symbol_shown symbol.now) ≡ true }
     ensures { let all = map symbol_shown symbols.now in let s = symbol_shown symbol.now in
-        MatchOption result (list_any (is_at s) (take i all) ≡ true) (λ x. (list_any (is_at s) (take i all) ≡ false) × (span_shown x ≡ span_of extents.now all s)) }
+        MatchOption result (list_any (is_at s) (take i all) ≡ true)
+        (λ x. (list_any (is_at s) (take i all) ≡ false) × (span_shown x ≡ span_of extents.now all s)) }
 {
     if !is_first(symbols, keys, i, symbol) {
         return None;
@@ -107,7 +108,9 @@ fn push_span<'a>(
     requires symbol { slice_get (map symbol_shown symbols.now) i ≡ Some (symbol_shown symbol.now) }
     requires part { takes_part extents.now (symbol_shown symbol.now) ≡ true }
     ensures { let all = map symbol_shown symbols.now in let s = symbol_shown symbol.now in
-        OnOk result (map span_shown spans.new.items ≡ map span_shown spans.old.items ++ (if list_any (is_at s) (take i all) then [] else span_of extents.now all s ∷ [])) }
+        OnOk result (map span_shown spans.new.items
+        ≡ map span_shown spans.old.items
+        ++ (if list_any (is_at s) (take i all) then [] else span_of extents.now all s ∷ [])) }
 {
     if let Some(span) = span_at(extents, symbols, keys, i, symbol) {
         spans.push(span)?;

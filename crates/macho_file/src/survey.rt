@@ -45,7 +45,8 @@ impl Survey {
         requires sections { self.sections + length (sections_of file.now command) < 2 ^ 32 }
         ensures segments { result.segments ≡ self.segments + (if is_segment command then 1 else 0) }
         ensures sections { result.sections ≡ self.sections + length (sections_of file.now command) }
-        ensures symtab { result.symtab ≡ or_else self.symtab (if command.kind == LC_SYMTAB then Some command else None) }
+        ensures symtab { result.symtab
+            ≡ or_else self.symtab (if command.kind == LC_SYMTAB then Some command else None) }
         ensures table { IsSomeTable file.now self.symtab → IsSomeTable file.now result.symtab }
     {
         let segments = if command.is_segment() { 1 } else { 0 };

@@ -49,7 +49,9 @@ fn push_taking<'a>(
     extents: &[Extent],
     symbol: MachoSymbol<'a>,
 ) -> Result<(), NoMemory>
-    ensures { OnOk result (map symbol_shown taking.new.items ≡ map symbol_shown taking.old.items ++ (if takes_part extents.now (symbol_shown symbol.entry) then symbol_shown symbol.entry ∷ [] else [])) }
+    ensures { OnOk result (map symbol_shown taking.new.items
+        ≡ map symbol_shown taking.old.items
+        ++ (if takes_part extents.now (symbol_shown symbol.entry) then symbol_shown symbol.entry ∷ [] else [])) }
 {
     if takes_part(extents, &symbol) {
         taking.push(symbol)?;
@@ -68,7 +70,9 @@ pub fn taking_part<'a>(
 ) -> Result<Vec<MachoSymbol<'a>>, SpanAnswer>
     requires header { HasHeader file.now encoding }
     requires table { HasTable file.now table }
-    ensures value { MatchResult result (λ v. taken_from file.now table extents.now 0 table.nsyms ≡ Ok (map symbol_shown v.items)) (λ e. ForBad e (λ bad. taken_from file.now table extents.now 0 table.nsyms ≡ Err bad)) }
+    ensures value { MatchResult result
+        (λ v. taken_from file.now table extents.now 0 table.nsyms ≡ Ok (map symbol_shown v.items))
+        (λ e. ForBad e (λ bad. taken_from file.now table extents.now 0 table.nsyms ≡ Err bad)) }
     ensures few { IfOk result (λ v. length (map symbol_shown v.items) ≤ table.nsyms) }
 {
     let mut taking = Vec::new(alloc);

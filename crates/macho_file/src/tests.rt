@@ -1,9 +1,10 @@
 ghost use Rattle.std.specs.Prelude.{◌≡◌, ◌+◌, ◌≤◌, IfOk, length};
 
-use crate::{Encoding, LinkEdit, MachoFile, SpanAnswer};
+use crate::{Encoding, LinkEdit, MachoFile, MachoSection, MachoSegment, SpanAnswer};
 use byte_cursor::Order;
 use size_core::{BadFile, Fault};
 use std::alloc::{AllocError, Global};
+use std::process::Abort;
 use std::test::Fail;
 
 /// Writes bytes over those from an offset on.
@@ -57,44 +58,87 @@ fn program(alloc: Global) -> Result<Vec<u8>, AllocError>
     Ok(file)
 }
 
+const ALL_ONES: &[u8] = b"\xff\xff\xff\xff\xff\xff\xff\xff";
+
+/// What is written over which bytes of a program, how many of all are kept, and the fault with its offset.
+const FIRST_FAULTS: [(usize, &[u8], usize, Option<(Fault, u64)>); 23] = [
+    (0, b"", 4152, None),
+    (0, b"", 3, Some((Fault::UnknownFormat, 0))),
+    (0, b"\x7fELF", 4152, Some((Fault::UnknownFormat, 0))),
+    (0, b"", 4, Some((Fault::Truncated, 0))),
+    (0, b"", 31, Some((Fault::Truncated, 0))),
+    (0, b"", 32, Some((Fault::TablePastEnd, 32))),
+    (0, b"", 351, Some((Fault::TablePastEnd, 32))),
+    (0, b"", 352, Some((Fault::SectionPastEnd, 176))),
+    (0, b"", 2063, Some((Fault::SectionPastEnd, 176))),
+    (0, b"", 2064, None),
+    (16, b"\x05", 4152, Some((Fault::BadCommand, 352))),
+    (108, b"\x07", 4152, Some((Fault::BadCommand, 104))),
+    (168, b"\x02", 4152, Some((Fault::BadCommand, 104))),
+    (332, b"\x17", 4152, Some((Fault::BadCommand, 328))),
+    (332, b"\x19", 4152, Some((Fault::BadCommand, 328))),
+    // An identifier of 16 bytes takes a command of 24.
+    (328, b"\x1b", 4152, None),
+    (328, b"\x1b\0\0\0\x10", 4152, Some((Fault::BadCommand, 328))),
+    (56, b"\0\0\0\0\xff\xff\xff\xff", 4152, None),
+    (56, ALL_ONES, 4152, Some((Fault::RangeOverflow, 32))),
+    (208, ALL_ONES, 4152, Some((Fault::RangeOverflow, 176))),
+    (224, b"\x28\x10", 4152, None),
+    (224, b"\x29\x10", 4152, Some((Fault::SectionPastEnd, 176))),
+    (224, b"\0\0", 352, None),
+];
+
+/// The fault of the program with these bytes written over it, of which so many are kept.
+fn fault_with(
+    rt: &impl Abort,
+    alloc: Global,
+    at: usize,
+    bytes: &[u8],
+    len: usize,
+) -> Result<Option<BadFile>, Fail> {
+    let mut file = program(alloc)?;
+    assert!(rt; at < 400 && bytes.len() < 50 && len <= file.len());
+    put(&mut file, at, bytes);
+    Ok(MachoFile::parse(&file[..len]).err())
+}
+
 #[test]
 fn first_faults(rt: HostRuntime) -> Result<(), Fail> {
-    let all_ones = b"\xff\xff\xff\xff\xff\xff\xff\xff".as_slice();
-    // What is written over which bytes, how many of all are kept, and the fault with its offset.
-    for (at, bytes, len, want) in [
-        (0, b"".as_slice(), 4152, None),
-        (0, b"", 3, Some((Fault::UnknownFormat, 0))),
-        (0, b"\x7fELF", 4152, Some((Fault::UnknownFormat, 0))),
-        (0, b"", 4, Some((Fault::Truncated, 0))),
-        (0, b"", 31, Some((Fault::Truncated, 0))),
-        (0, b"", 32, Some((Fault::TablePastEnd, 32))),
-        (0, b"", 351, Some((Fault::TablePastEnd, 32))),
-        (0, b"", 352, Some((Fault::SectionPastEnd, 176))),
-        (0, b"", 2063, Some((Fault::SectionPastEnd, 176))),
-        (0, b"", 2064, None),
-        (16, b"\x05", 4152, Some((Fault::BadCommand, 352))),
-        (108, b"\x07", 4152, Some((Fault::BadCommand, 104))),
-        (168, b"\x02", 4152, Some((Fault::BadCommand, 104))),
-        (332, b"\x17", 4152, Some((Fault::BadCommand, 328))),
-        (332, b"\x19", 4152, Some((Fault::BadCommand, 328))),
-        // An identifier of 16 bytes takes a command of 24.
-        (328, b"\x1b", 4152, None),
-        (328, b"\x1b\0\0\0\x10", 4152, Some((Fault::BadCommand, 328))),
-        (56, b"\0\0\0\0\xff\xff\xff\xff", 4152, None),
-        (56, all_ones, 4152, Some((Fault::RangeOverflow, 32))),
-        (208, all_ones, 4152, Some((Fault::RangeOverflow, 176))),
-        (224, b"\x28\x10", 4152, None),
-        (224, b"\x29\x10", 4152, Some((Fault::SectionPastEnd, 176))),
-        (224, b"\0\0", 352, None),
-    ] {
-        let mut file = program(rt.alloc())?;
-        assert!(rt; at < 400 && bytes.len() < 50 && len <= file.len());
-        put(&mut file, at, bytes);
-        let found = MachoFile::parse(&file[..len]).err();
+    for &(at, bytes, len, want) in &FIRST_FAULTS {
+        let found = fault_with(&rt, rt.alloc(), at, bytes, len)?;
         let want = want.map(|(fault, offset)| BadFile { fault, offset });
         assert_eq!(rt; found, want, "{bytes:?} at {at}, {len} bytes");
     }
     Ok(())
+}
+
+/// The program has its header and its commands, of which the last places the symbols.
+fn has_commands(rt: &impl Abort, macho: &MachoFile<'_>) {
+    assert!(rt; macho.wide() && macho.order() == Order::Little);
+    assert_eq!(rt; macho.encoding().wide, macho.fork().wide());
+    assert_eq!(rt; (macho.kind(), macho.command_count()), (2, 4));
+    let symbols = macho.command(3);
+    assert_eq!(rt; (symbols.place, symbols.kind, symbols.size), (328, 2, 24));
+    assert_eq!(rt; macho.command_bytes(3).len(), 24);
+}
+
+/// The program has its segment of code.
+fn has_text(rt: &impl Abort, text: MachoSegment<'_>) {
+    assert!(rt; text.name == b"__TEXT".as_slice());
+    assert_eq!(rt; (text.place, text.maxprot), (104, 5));
+    assert_eq!(rt; (text.vaddr, text.memsz), (0x1_0000_0000, 4096));
+    assert_eq!(rt; (text.offset, text.filesz), (0, 4096));
+    assert_eq!(rt; (text.first, text.count), (0, 1));
+}
+
+/// The program has its section of code.
+fn has_code(rt: &impl Abort, code: MachoSection<'_>) {
+    assert!(rt; code.name == b"__text".as_slice() && code.segment == b"__TEXT".as_slice());
+    assert_eq!(rt; (code.place, code.flags, code.in_file), (176, 0, true));
+    assert_eq!(rt;
+        (code.addr, code.size, code.offset),
+        (0x1_0000_0800, 16, 2048)
+    );
 }
 
 #[test]
@@ -103,43 +147,28 @@ fn tables_of_a_program(rt: HostRuntime) -> Result<(), Fail> {
     let Ok(macho) = MachoFile::parse(&file) else {
         panic!(rt; "the file is well formed");
     };
-    assert!(rt; macho.wide() && macho.order() == Order::Little);
-    assert_eq!(rt; macho.encoding().wide, macho.fork().wide());
-    assert_eq!(rt; (macho.kind(), macho.command_count()), (2, 4));
+    has_commands(&rt, &macho);
     assert_eq!(rt; (macho.segment_count(), macho.section_count()), (3, 1));
-    let symbols = macho.command(3);
-    assert_eq!(rt; (symbols.place, symbols.kind, symbols.size), (328, 2, 24));
-    assert_eq!(rt; macho.command_bytes(3).len(), 24);
-    let text = macho.segment(1);
-    assert!(rt; text.name == b"__TEXT".as_slice());
-    assert_eq!(rt; (text.place, text.maxprot), (104, 5));
-    assert_eq!(rt; (text.vaddr, text.memsz), (0x1_0000_0000, 4096));
-    assert_eq!(rt; (text.offset, text.filesz), (0, 4096));
-    assert_eq!(rt; (text.first, text.count), (0, 1));
-    let code = macho.section(0);
-    assert!(rt; code.name == b"__text".as_slice() && code.segment == b"__TEXT".as_slice());
-    assert_eq!(rt; (code.place, code.flags, code.in_file), (176, 0, true));
-    assert_eq!(rt;
-        (code.addr, code.size, code.offset),
-        (0x1_0000_0800, 16, 2048)
-    );
+    has_text(&rt, macho.segment(1));
+    has_code(&rt, macho.section(0));
     assert_eq!(rt; macho.section_bytes(0).len(), 16);
     assert_eq!(rt; macho.bytes().len(), 4152);
     Ok(())
 }
 
-#[test]
-fn rows_of_a_program(rt: HostRuntime) -> Result<(), Fail> {
-    let file = program(rt.alloc())?;
-    let Ok(macho) = MachoFile::parse(&file) else {
-        panic!(rt; "the file is well formed");
-    };
+/// The program's commands, in order.
+fn commands_follow(rt: &impl Abort, macho: &MachoFile<'_>) -> Result<(), Fail> {
     let mut commands = macho.commands();
     for (place, kind) in [(32, 25), (104, 25), (256, 25), (328, 2)] {
         let command = commands.next().ok_or("a command")?;
         assert_eq!(rt; (command.place, command.kind), (place, kind));
     }
     assert!(rt; commands.next().is_none());
+    Ok(())
+}
+
+/// The program's segments and its one section, in order.
+fn segments_follow(rt: &impl Abort, macho: &MachoFile<'_>) -> Result<(), Fail> {
     let mut segments = macho.segments();
     for (place, maxprot, first) in [(32, 0, 0), (104, 5, 0), (256, 1, 1)] {
         let segment = segments.next().ok_or("a segment")?;
@@ -152,6 +181,11 @@ fn rows_of_a_program(rt: HostRuntime) -> Result<(), Fail> {
     let mut sections = macho.sections();
     assert_eq!(rt; sections.next().ok_or("a section")?.place, 176);
     assert!(rt; sections.next().is_none());
+    Ok(())
+}
+
+/// The parts that the program's last command places, in order.
+fn parts_follow(rt: &impl Abort, macho: &MachoFile<'_>) -> Result<(), Fail> {
     let mut parts = macho.link_edit_parts();
     for (kind, offset, len) in [
         (LinkEdit::SymbolTable, 4096, 48),
@@ -162,6 +196,17 @@ fn rows_of_a_program(rt: HostRuntime) -> Result<(), Fail> {
     }
     assert!(rt; parts.next().is_none());
     Ok(())
+}
+
+#[test]
+fn rows_of_a_program(rt: HostRuntime) -> Result<(), Fail> {
+    let file = program(rt.alloc())?;
+    let Ok(macho) = MachoFile::parse(&file) else {
+        panic!(rt; "the file is well formed");
+    };
+    commands_follow(&rt, &macho)?;
+    segments_follow(&rt, &macho)?;
+    parts_follow(&rt, &macho)
 }
 
 /// How many symbols have spans, and the length of the first one's.
@@ -177,34 +222,47 @@ fn spans_in(alloc: Global, file: &[u8]) -> Result<(usize, u64), SpanAnswer>
     Ok((spans.len(), len))
 }
 
+/// What is written over which bytes of a program, how many of all are kept, and how many spans there are with the
+/// length of the first, or the fault with its offset.
+const SPANS: [(usize, &[u8], usize, Result<(usize, u64), (Fault, u64)>); 15] = [
+    (4096, b"", 4152, Ok((2, 12))),
+    // Two symbols at one value, and one that is the first of the table and the last in memory.
+    (4136, b"\0\x08", 4152, Ok((1, 16))),
+    (4120, b"\x0f\x08", 4152, Ok((2, 1))),
+    // A symbol that no other file may use.
+    (4116, b"\x1e", 4152, Ok((2, 12))),
+    // A symbol at its section's end, in no section, for a debugger, with another type, without a name.
+    (4120, b"\x10\x08", 4152, Ok((1, 4))),
+    (4117, b"\x02", 4152, Ok((1, 4))),
+    (4116, b"\x2f", 4152, Ok((1, 4))),
+    (4116, b"\x4e", 4152, Ok((1, 4))),
+    (4116, b"\x8e", 4152, Ok((1, 4))),
+    (4116, b"\x03", 4152, Ok((1, 4))),
+    (4112, b"\0", 4152, Ok((1, 4))),
+    (4096, b"\x08", 4152, Err((Fault::NameOutside, 4096))),
+    (4128, b"\x08", 4152, Err((Fault::NameOutside, 4128))),
+    (4096, b"", 4151, Err((Fault::TablePastEnd, 328))),
+    (4096, b"", 4100, Err((Fault::TablePastEnd, 328))),
+];
+
+/// The spans of the program with these bytes written over it, of which so many are kept.
+fn spans_with(
+    rt: &impl Abort,
+    alloc: Global,
+    at: usize,
+    bytes: &[u8],
+    len: usize,
+) -> Result<Result<(usize, u64), SpanAnswer>, Fail> {
+    let mut file = program(alloc)?;
+    assert!(rt; at < 4140 && bytes.len() < 5 && len <= file.len());
+    put(&mut file, at, bytes);
+    Ok(spans_in(alloc, &file[..len]))
+}
+
 #[test]
 fn spans_of_symbols(rt: HostRuntime) -> Result<(), Fail> {
-    // What is written over which bytes, how many of all are kept, and how many spans there are with the length
-    // of the first, or the fault with its offset.
-    for (at, bytes, len, want) in [
-        (4096, b"".as_slice(), 4152, Ok((2, 12))),
-        // Two symbols at one value, and one that is the first of the table and the last in memory.
-        (4136, b"\0\x08", 4152, Ok((1, 16))),
-        (4120, b"\x0f\x08", 4152, Ok((2, 1))),
-        // A symbol that no other file may use.
-        (4116, b"\x1e", 4152, Ok((2, 12))),
-        // A symbol at its section's end, in no section, for a debugger, with another type, without a name.
-        (4120, b"\x10\x08", 4152, Ok((1, 4))),
-        (4117, b"\x02", 4152, Ok((1, 4))),
-        (4116, b"\x2f", 4152, Ok((1, 4))),
-        (4116, b"\x4e", 4152, Ok((1, 4))),
-        (4116, b"\x8e", 4152, Ok((1, 4))),
-        (4116, b"\x03", 4152, Ok((1, 4))),
-        (4112, b"\0", 4152, Ok((1, 4))),
-        (4096, b"\x08", 4152, Err((Fault::NameOutside, 4096))),
-        (4128, b"\x08", 4152, Err((Fault::NameOutside, 4128))),
-        (4096, b"", 4151, Err((Fault::TablePastEnd, 328))),
-        (4096, b"", 4100, Err((Fault::TablePastEnd, 328))),
-    ] {
-        let mut file = program(rt.alloc())?;
-        assert!(rt; at < 4140 && bytes.len() < 5 && len <= file.len());
-        put(&mut file, at, bytes);
-        let found = spans_in(rt.alloc(), &file[..len]);
+    for &(at, bytes, len, want) in &SPANS {
+        let found = spans_with(&rt, rt.alloc(), at, bytes, len)?;
         let want = want.map_err(|(fault, offset)| SpanAnswer::Bad(BadFile { fault, offset }));
         assert_eq!(rt; found, want, "{bytes:?} at {at}, {len} bytes");
     }
@@ -241,26 +299,36 @@ fn put_number(file: &mut [u8], at: u64, number: u32, order: Order)
     put(file, at as usize, &digits);
 }
 
+/// Writes a file of 80 bytes: one command of 48, which places 3 bytes at 64.
+fn put_command(file: &mut [u8], command: u32)
+    requires { length file.old ≡ 80 }
+    ensures { length file.new ≡ length file.old }
+{
+    put(file, 0, b"\xcf\xfa\xed\xfe");
+    put(file, 16, b"\x01\0\0\0\x30");
+    put_number(file, 32, command, Order::Little);
+    put(file, 36, b"\x30\0\0\0\x40\0\0\0\x03");
+}
+
+/// Commands, and the first part that each places.
+const FIRST_PARTS: [(u32, LinkEdit); 10] = [
+    (0x1d, LinkEdit::CodeSignature),
+    (0x1e, LinkEdit::SegmentSplitInfo),
+    (0x22, LinkEdit::RebaseInfo),
+    (0x26, LinkEdit::FunctionStarts),
+    (0x29, LinkEdit::DataInCode),
+    (0x2b, LinkEdit::CodeSignDrs),
+    (0x2e, LinkEdit::OptimizationHints),
+    (0x8000_0022, LinkEdit::RebaseInfo),
+    (0x8000_0033, LinkEdit::ExportTrie),
+    (0x8000_0034, LinkEdit::ChainedFixups),
+];
+
 #[test]
 fn first_part_of_each_command(rt: HostRuntime) -> Result<(), Fail> {
-    for (command, kind) in [
-        (0x1d, LinkEdit::CodeSignature),
-        (0x1e, LinkEdit::SegmentSplitInfo),
-        (0x22, LinkEdit::RebaseInfo),
-        (0x26, LinkEdit::FunctionStarts),
-        (0x29, LinkEdit::DataInCode),
-        (0x2b, LinkEdit::CodeSignDrs),
-        (0x2e, LinkEdit::OptimizationHints),
-        (0x8000_0022, LinkEdit::RebaseInfo),
-        (0x8000_0033, LinkEdit::ExportTrie),
-        (0x8000_0034, LinkEdit::ChainedFixups),
-    ] {
-        // One command of 48 bytes, which places 3 bytes at 64.
+    for (command, kind) in FIRST_PARTS {
         let mut file = [0; 80];
-        put(&mut file, 0, b"\xcf\xfa\xed\xfe");
-        put(&mut file, 16, b"\x01\0\0\0\x30");
-        put_number(&mut file, 32, command, Order::Little);
-        put(&mut file, 36, b"\x30\0\0\0\x40\0\0\0\x03");
+        put_command(&mut file, command);
         let macho = MachoFile::parse(&file)?;
         let part = macho.link_edit_parts().next().ok_or("a part")?;
         assert_eq!(rt;
@@ -303,22 +371,37 @@ fn put_file(file: &mut [u8], e: Encoding, kind: u32, name: &[u8], flags: u32)
     put_number(file, section + e.pick(56, 64), flags, order);
 }
 
+/// The class, the order, the type, the segment that a section names, its flags, and whether its bytes are in the file.
+const FILES: [(bool, Order, u32, &[u8], u32, bool); 9] = [
+    (true, Order::Little, 1, b"__TEXT", 0, true),
+    (true, Order::Big, 6, b"__DATA", 1, false),
+    (false, Order::Little, 6, b"__DATA", 0x10c, false),
+    (false, Order::Big, 1, b"__DATA", 0x12, false),
+    (false, Order::Big, 2, b"__DATA", 0x11, true),
+    (true, Order::Little, 2, b"__DATA", 0x81, true),
+    (true, Order::Little, 10, b"__TEXT", 0, false),
+    (true, Order::Little, 10, b"__DWARF", 0, true),
+    (false, Order::Big, 10, b"__DWARF", 0, true),
+];
+
+/// The file has one segment, and in it one section of the segment's name.
+fn has_section(rt: &impl Abort, macho: &MachoFile<'_>, name: &[u8], in_file: bool) {
+    assert!(rt; macho.segment_count() == 1 && macho.section_count() == 1);
+    let segment = macho.segment(0);
+    assert_eq!(rt; (segment.vaddr, segment.memsz), (65536, 4096));
+    assert_eq!(rt; (segment.name.len(), segment.maxprot), (16, 0));
+    let section = macho.section(0);
+    assert!(rt; section.segment == name);
+    assert_eq!(rt;
+        (section.addr, section.size, section.in_file),
+        (65536, 16, in_file)
+    );
+    assert_eq!(rt; macho.section_bytes(0).is_empty(), !in_file);
+}
+
 #[test]
 fn files_of_each_class_and_order(rt: HostRuntime) {
-    let (little, big) = (Order::Little, Order::Big);
-    // The class, the order, the type, the segment that a section names, its flags, and whether its bytes are
-    // in the file.
-    for (wide, order, kind, name, flags, in_file) in [
-        (true, little, 1, b"__TEXT".as_slice(), 0, true),
-        (true, big, 6, b"__DATA", 1, false),
-        (false, little, 6, b"__DATA", 0x10c, false),
-        (false, big, 1, b"__DATA", 0x12, false),
-        (false, big, 2, b"__DATA", 0x11, true),
-        (true, little, 2, b"__DATA", 0x81, true),
-        (true, little, 10, b"__TEXT", 0, false),
-        (true, little, 10, b"__DWARF", 0, true),
-        (false, big, 10, b"__DWARF", 0, true),
-    ] {
+    for &(wide, order, kind, name, flags, in_file) in &FILES {
         let mut file = [0; 256];
         assert!(rt; name.len() <= 16);
         put_file(&mut file, Encoding { wide, order }, kind, name, flags);
@@ -329,17 +412,7 @@ fn files_of_each_class_and_order(rt: HostRuntime) {
             (macho.wide(), macho.order(), macho.kind()),
             (wide, order, kind)
         );
-        assert!(rt; macho.segment_count() == 1 && macho.section_count() == 1);
-        let segment = macho.segment(0);
-        assert_eq!(rt; (segment.vaddr, segment.memsz), (65536, 4096));
-        assert_eq!(rt; (segment.name.len(), segment.maxprot), (16, 0));
-        let section = macho.section(0);
-        assert!(rt; section.segment == name);
-        assert_eq!(rt;
-            (section.addr, section.size, section.in_file),
-            (65536, 16, in_file)
-        );
-        assert_eq!(rt; macho.section_bytes(0).is_empty(), !in_file);
+        has_section(&rt, &macho, name, in_file);
     }
 }
 

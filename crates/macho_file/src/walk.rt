@@ -65,7 +65,9 @@ impl<'a> Walk<'a> {
     #[tactic(auto, using(crate::proofs::WalkLemmas::is_inside, crate::proofs::WalkLemmas::has_eight, crate::proofs::WalkLemmas::fits_here, crate::proofs::WalkLemmas::goes_on, crate::proofs::WalkLemmas::comes, crate::proofs::WalkLemmas::is_over))]
     pub fn next(&mut self) -> Option<Command>
         ensures file { self.new.file ≡ self.old.file }
-        ensures step { MatchOption result ((self.old.rest ≡ []) × (self.new.rest ≡ [])) (λ c. self.old.rest ≡ c ∷ self.new.rest) }
+        ensures step { MatchOption result
+            ((self.old.rest ≡ []) × (self.new.rest ≡ []))
+            (λ c. self.old.rest ≡ c ∷ self.new.rest) }
         ensures inside { IfSome result (λ c. IsInside self.old.file c) }
         ensures fits { IfSome result (λ c. first_of (command_checks self.old.file c) ≡ Ok tt) }
     {

@@ -1,8 +1,15 @@
 -- What is seen of the host's files: counts, and the names that were asked for.
-use Rattle.std.specs.Prelude.{ℕ, List}
+use Rattle.std.specs.Prelude.{ℕ, List, ◌+◌, ◌-◌, ◌^◌, ◌≤◌, ◌<◌}
 
--- how many reads failed, how many bytes were taken, and each name that was asked for, in order
+-- how many reads failed, how many bytes were taken, in how many turns, and each name that was asked for, in order; a turn is
+-- one read of an open file
 pub record SeenHost : Type 0 where
   pub faults : ℕ
   pub taken : ℕ
+  pub turns : ℕ
   pub asked : List (List ℕ)
+
+-- Each turn but the last took one byte at least: there were no more turns than bytes, and one. A count of bytes that stands at
+-- the end of its type tells nothing.
+abbrev pub EachTurnTakes : SeenHost → SeenHost → Type 0
+EachTurnTakes before now = now.taken < 2 ^ 64 - 1 → now.turns + before.taken ≤ before.turns + (now.taken + 1)

@@ -6,10 +6,12 @@ ghost use Rattle.std.specs.IoError.{error_kind};
 ghost use Rattle.std.specs.declared.io.ErrorKind.TheVariants.{OutOfMemory};
 ghost use Rattle.outside.specs.Causes.{Rose, RoseBy, raised, raised_by};
 ghost use Rattle.outside.specs.Held.{IsHeld};
+ghost use Rattle.outside.specs.Host.{EachTurnTakes};
 
 use crate::asked::Asked;
 use crate::files::{FileAnswer, Files};
 use crate::sink::{Failed, Sink};
+use crate::turns::Turns;
 use std::alloc::{AllocError, Global};
 use std::io::{ErrorKind, Read, Write};
 use std::marker::Model;
@@ -79,6 +81,7 @@ pub struct HostFiles<'r, R: rt::Files> {
     rt: &'r R,
     faults: u64,
     taken: u64,
+    turns: u64,
     asked: Asked,
 }
 
@@ -87,18 +90,24 @@ impl<'r, R: rt::Files> Model for HostFiles<'r, R> {
 
     ghost Value = { SeenHost };
 
-    ghost view = { λ f. record { faults = f.faults; taken = f.taken; asked = f.asked.names } };
+    ghost view = { λ f. record {
+      faults = f.faults;
+      taken = f.taken;
+      turns = f.turns;
+      asked = f.asked.names;
+    } };
 }
 
 impl<'r, R: rt::Files> HostFiles<'r, R> {
-    /// The files of a runtime. No read has failed, no byte was taken, and no name was asked for.
+    /// The files of a runtime. No read has failed, no byte was taken in any turn, and no name was asked for.
     pub fn new(rt: &'r R) -> HostFiles<'r, R>
-        ensures { result ≡ record { faults = 0; taken = 0; asked = [] } }
+        ensures { result ≡ record { faults = 0; taken = 0; turns = 0; asked = [] } }
     {
         HostFiles {
             rt,
             faults: 0,
             taken: 0,
+            turns: 0,
             asked: Asked::new(),
         }
     }
@@ -115,7 +124,8 @@ impl<'r, R: rt::Files> Files for HostFiles<'r, R> {
 
     ghost asked = { λ f. f.asked };
 
-    /// Takes at most one byte more than the limit. A failed read counts as a fault, and nothing else does.
+    /// Takes at most one byte more than the limit, and each turn but the last takes one byte at least. A failed read counts as a
+    /// fault, and nothing else does.
     fn read(&mut self, alloc: Global, name: &str, limit: u64) -> Result<Vec<u8>, FileAnswer>
         ensures asked { self.new.asked ≡ self.old.asked ++ name.now ∷ [] }
         ensures later { self.old.faults ≤ self.new.faults }
@@ -130,14 +140,16 @@ impl<'r, R: rt::Files> Files for HostFiles<'r, R> {
         ensures counted { IsErrOf result FileAnswer.Failed → self.new.faults ≡ raised self.old.faults }
         ensures added { IfOk result (λ v. self.new.taken ≡ raised_by (length v.items) self.old.taken) }
         ensures at_most { self.new.taken ≤ self.old.taken + (limit + 1) }
+        ensures turns { EachTurnTakes self.old self.new }
     {
         self.asked.add(name.as_bytes());
         let mut file = match fs::open(self.rt, name) {
-            Ok(file) => file,
+            Ok(file) => Turns::new(file),
             Err(e) => return Err(answer(&mut self.faults, &e)),
         };
         let (bytes, outcome) = take_up_to(alloc, &mut file, limit.saturating_add(1));
         self.taken = self.taken.saturating_add(bytes.len() as u64);
+        self.turns = self.turns.saturating_add(file.count());
         match outcome {
             Err(e) => Err(answer(&mut self.faults, &e)),
             Ok(()) if bytes.len() as u64 > limit => Err(FileAnswer::TooLong),
@@ -163,10 +175,15 @@ fn answer(faults: &mut u64, e: &io::Error) -> FileAnswer
 
 // All that a reader has left, or its first `most` bytes, and the error that ended the reading. Each turn but
 // the last takes one byte at least.
-fn take_up_to<F: Read>(alloc: Global, file: &mut F, most: u64) -> (Vec<u8>, io::Result<()>)
+fn take_up_to<F: Read + Drop>(
+    alloc: Global,
+    file: &mut Turns<F>,
+    most: u64,
+) -> (Vec<u8>, io::Result<()>)
     ensures within { length result.0.items ≤ most }
-    ensures taken { Consumes (F.remaining file.old) (F.remaining file.new) result.0.items }
-    ensures all { OnOk result.1 (length result.0.items < most → IsAtEnd (F.remaining file.new)) }
+    ensures taken { Consumes (F.remaining file.old.0) (F.remaining file.new.0) result.0.items }
+    ensures all { OnOk result.1 (length result.0.items < most → IsAtEnd (F.remaining file.new.0)) }
+    ensures turns { file.new.1 ≤ file.old.1 + (length result.0.items + 1) }
 {
     let mut bytes = Vec::new(alloc);
     let mut filled = 0;
@@ -186,8 +203,8 @@ fn take_up_to<F: Read>(alloc: Global, file: &mut F, most: u64) -> (Vec<u8>, io::
 
 // One read into a vector after its first `filled` bytes, of at most `most` bytes. Where there is no room, the
 // vector grows by zeros first; what an earlier read left of them serves the next.
-fn read_more<F: Read>(
-    file: &mut F,
+fn read_more<F: Read + Drop>(
+    file: &mut Turns<F>,
     bytes: &mut Vec<u8>,
     filled: usize,
     most: u64,
@@ -198,10 +215,11 @@ fn read_more<F: Read>(
     ensures room { vec_len bytes.new ≤ filled + most }
     ensures front { take filled bytes.new.items ≡ take filled bytes.old.items }
     ensures fits { IfOk result (λ n. filled + n ≤ vec_len bytes.new) }
-    ensures ok { IfOk result (λ n. Consumes (F.remaining file.old) (F.remaining file.new)
+    ensures ok { IfOk result (λ n. Consumes (F.remaining file.old.0) (F.remaining file.new.0)
         (take n (drop filled bytes.new.items))) }
-    ensures err { OnErr result (Keeps (F.remaining file.old) (F.remaining file.new)) }
-    ensures end { IfOk result (λ n. n ≡ 0 → IsAtEnd (F.remaining file.new)) }
+    ensures err { OnErr result (Keeps (F.remaining file.old.0) (F.remaining file.new.0)) }
+    ensures end { IfOk result (λ n. n ≡ 0 → IsAtEnd (F.remaining file.new.0)) }
+    ensures turn { file.new.1 ≤ file.old.1 + 1 }
 {
     make_room(bytes, filled, most)?;
     file.read(&mut bytes[filled..])

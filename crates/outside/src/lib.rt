@@ -7,6 +7,7 @@ mod files;
 mod host;
 mod memory;
 mod sink;
+mod turns;
 
 pub use asked::Asked;
 pub use files::{FileAnswer, Files};

@@ -28,8 +28,8 @@ pub fn covers(base: &Base, file_len: u64, claim: &Claim, place: &Place) -> bool
     Spot::of(base, place).is_covered_by(claim)
 }
 
-/// The numbers, from 1 on and ascending, of all claims of the list that cover a place inside a file of `file_len` bytes,
-/// over which the base was built.
+/// The numbers, from 1 on and ascending, of all claims of the list that cover a place inside a file of `file_len`
+/// bytes, over which the base was built.
 pub fn explain(
     alloc: Global,
     base: &Base,

@@ -114,8 +114,8 @@ fn label_of_first(
 
 /// What a data source says of a place of a file of `file_len` bytes before labels are rewritten: of its claims, whose
 /// labels have numbers of the pool, the label of the first that covers the place, or that of the number `unmapped`; and
-/// the claims that cover the place, of which a `limit` above 0 gives the first and so many further ones, with the number
-/// of the others. No other claim's label is copied.
+/// the claims that cover the place, of which a `limit` above 0 gives the first and so many further ones, with the
+/// number of the others. No other claim's label is copied.
 pub fn explain_source(
     alloc: Global,
     base: &Base,

@@ -61,8 +61,10 @@ impl RangeMap {
     /// is unchanged.
     pub fn add(&mut self, start: u128, len: u64, label: usize) -> Result<(), NoMemory>
         requires { start < 2 ^ 96 }
-        ensures ok { OnOk result (IsLaid (self.old ++ record { start = start; len = len; label = label } ∷ []) self.new) }
-        ensures places { OnOk result (KeepsPlaces (self.old ++ record { start = start; len = len; label = label } ∷ []) self.new) }
+        ensures ok { OnOk result
+            (IsLaid (self.old ++ record { start = start; len = len; label = label } ∷ []) self.new) }
+        ensures places { OnOk result
+            (KeepsPlaces (self.old ++ record { start = start; len = len; label = label } ∷ []) self.new) }
         ensures place_count { OnOk result ((n : ℕ) → place_count self.new n ≤ place_count self.old n + 2) }
         ensures err { OnErr result (self.new ≡ self.old) }
     {

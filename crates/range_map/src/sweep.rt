@@ -25,7 +25,8 @@ fn open_starts(
     requires numbers { All (λ p. p.1 < length claims.now) starts.now }
     requires opening { IsOpening claims.now starts.now next from (heap_items heap.old) }
     ensures opening { IfOk result (λ m. IsOpening claims.now starts.now m from (heap_items heap.new)) }
-    ensures rest { IfOk result (λ m. m < length starts.now → from < (at claims.now (get_or starts.now m (0, 0)).1).start) }
+    ensures rest { IfOk result (λ m. m < length starts.now
+        → from < (at claims.now (get_or starts.now m (0, 0)).1).start) }
 {
     let mut at = next;
     while at < starts.len() {
@@ -44,7 +45,8 @@ fn first_open(heap: &mut BinaryHeap<Reverse<usize>>, claims: &[Piece], from: u12
     requires fits { EndsBy (2 ^ 97) claims.now }
     requires all_open { AllOpen claims.now from (heap_items heap.old) }
     ensures all_open { AllOpen claims.now from (heap_items heap.new) }
-    ensures label { MatchOption result (label_in claims.now from ≡ None) (λ k. (k < length claims.now) × (label_in claims.now from ≡ Some (at claims.now k).label)) }
+    ensures label { MatchOption result (label_in claims.now from ≡ None)
+        (λ k. (k < length claims.now) × (label_in claims.now from ≡ Some (at claims.now k).label)) }
 {
     while let Some(top) = heap.peek() {
         let number = top.0;

@@ -2,7 +2,8 @@
 use Rattle.std.specs.Prelude.{ℕ, zero, suc, ◌+◌, ⊤, List, [], ◌∷◌, map, get_or}
 use Rattle.std.specs.List.{flat_map}
 
--- the rows of so many levels over something, the first of them at this level; what stands below an entry follows its row
+-- the rows of so many levels over something, the first of them at this level;
+-- what stands below an entry follows its row
 unfoldable pub rows_over : {T E R : Type 0} → (T → List E) → (E → T) → (ℕ → E → R) → ℕ → ℕ → T → List R
 rows_over entries below row zero level t = []
 rows_over {T} {E} {R} entries below row (suc levels) level t = flat_map

@@ -13,8 +13,8 @@ unfoldable pub in_order : {X : Type 0} → (X → X → Ordering) → List X →
 in_order cmp [] = []
 in_order cmp (x ∷ xs) = placed cmp x (in_order cmp xs)
 
--- Where a limit is above 0 and there are more, so many stay, and the others are taken together as one more, which stands
--- before the first that is not less.
+-- Where a limit is above 0 and there are more, so many stay, and the others are taken together as one more, which
+-- stands before the first that is not less.
 unfoldable pub within : {X : Type 0} → ℕ → (X → X → Ordering) → (List X → X) → List X → List X
 within limit cmp together xs =
     if limit == 0 || nat_le (length xs) limit then xs

@@ -36,9 +36,9 @@ abbrev pub size_taken : RowKind → ℕ → ℕ
 size_taken (Label label) size = 0
 size_taken (Others count) size = size
 
--- The rows of a level, up to the first row of a lesser level, show what stands under a path. Each label with a shown size
--- has one row there or is one of the labels left out, and no other label is. Where labels are left out there is one
--- Others row, with their count and the sums of their sizes, and else none.
+-- The rows of a level, up to the first row of a lesser level, show what stands under a path. Each label with a shown
+-- size has one row there or is one of the labels left out, and no other label is. Where labels are left out there is
+-- one Others row, with their count and the sums of their sizes, and else none.
 pub record ShowsLevel (o : RowOptions) (vm file : Path → ℕ) (path : Path) (level : ℕ) (rows : List Row) : Type 0 where
   pub left : List (List ℕ)
   pub each : (label : List ℕ) → level_sum (λ (r : Row). row_of_label label r.kind) level rows + times label left
@@ -59,8 +59,8 @@ abbrev pub path_with : Path → RowKind → Path
 path_with path (Label label) = path ++ label ∷ []
 path_with path (Others count) = path
 
--- The path of a row: as many labels of the path of the row before it as the row's level, and its own label. The row before
--- it stands no higher than the row that it stands under.
+-- The path of a row: as many labels of the path of the row before it as the row's level, and its own label. The row
+-- before it stands no higher than the row that it stands under.
 abbrev pub path_after : Path → Row → Path
 path_after before r = path_with (take r.level before) r.kind
 

@@ -8,9 +8,9 @@ pub fn sizes_by_prefix()
     ensures { SizesByPrefix }
 {}
 
-/// The rows of a report show the paths of its table. The row of a label has the sizes of its path, which is read off the
-/// rows above it; an Others row has the sums of just the labels that are left out; and each label with a shown size has
-/// its row or is one of those.
+/// The rows of a report show the paths of its table. The row of a label has the sizes of its path, which is read off
+/// the rows above it; an Others row has the sums of just the labels that are left out; and each label with a shown size
+/// has its row or is one of those.
 pub fn rows_show_paths()
     ensures { RowsShowPaths }
 {}

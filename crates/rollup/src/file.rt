@@ -37,9 +37,12 @@ pub fn sizes_of_file<L: Ledger>(
     steps: &mut Steps<L>,
 ) -> Result<PathSizes, NoMemory>
     requires over { All (IsOver base.now) maps.now }
-    ensures file { IfOk result (λ sizes. (test : List ℕ → Bool) → weight File test sizes ≡ file_counted test (option_copied marks.entry) maps.now base.now.len) }
-    ensures vm { IfOk result (λ sizes. (test : List ℕ → Bool) → weight Vm test sizes ≡ vm_counted test (option_copied marks.entry) maps.now base.now.loads) }
-    ensures entries { IfOk result (λ sizes. (n : ℕ) → All (LabelsBelow n) maps.now → All (IsEntry (length maps.now) n) sizes) }
+    ensures file { IfOk result (λ sizes. (test : List ℕ → Bool)
+        → weight File test sizes ≡ file_counted test (option_copied marks.entry) maps.now base.now.len) }
+    ensures vm { IfOk result (λ sizes. (test : List ℕ → Bool)
+        → weight Vm test sizes ≡ vm_counted test (option_copied marks.entry) maps.now base.now.loads) }
+    ensures entries { IfOk result (λ sizes. (n : ℕ) → All (LabelsBelow n) maps.now
+        → All (IsEntry (length maps.now) n) sizes) }
     ensures cost { steps.new ≤ steps.old + piece_count maps.now }
 {
     let mut sizes = PathSizes::new(alloc);

@@ -94,7 +94,8 @@ fn insert(rows: &mut Vec<RollupRow>, above: &mut Vec<RollupRow>, row: RollupRow)
     requires ordered { IsStrictlySortedBy row_cmp (rows.old.items ++ reverse above.old.items) }
     requires ends { EndsUpto rows.old.items row }
     requires fits { FitTogether (rows.old.items ++ reverse above.old.items) (row ∷ []) }
-    ensures rows { rows.new.items ++ reverse above.new.items ≡ with_row (rows.old.items ++ reverse above.old.items) row }
+    ensures rows { rows.new.items ++ reverse above.new.items
+        ≡ with_row (rows.old.items ++ reverse above.old.items) row }
     ensures ends { (s : RollupRow) → is_lt (row_cmp s row) ≡ false → EndsUpto rows.new.items s }
     ensures room { vec_len rows.new + vec_len above.new ≤ vec_len rows.old + vec_len above.old + 1 }
     ensures capacity { vec_capacity rows.new ≡ vec_capacity rows.old }

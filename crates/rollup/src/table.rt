@@ -114,8 +114,14 @@ impl Rollup {
 
         // To the rows of whose path a test holds, as that it is one path or begins with one, the positions are
         // added at which the labels count and spell such a path.
-        ensures file { OnOk result ((test : List (List ℕ) → Bool) → file_where test self.new.rows ≡ file_where test self.old.rows + file_count test pool.now (option_copied passes.entry) maps.now file_len) }
-        ensures vm { OnOk result ((test : List (List ℕ) → Bool) → vm_where test self.new.rows ≡ vm_where test self.old.rows + vm_count test pool.now (option_copied passes.entry) maps.now base.now.loads) }
+        ensures file { OnOk result ((test : List (List ℕ) → Bool)
+            → file_where test self.new.rows
+            ≡ file_where test self.old.rows
+            + file_count test pool.now (option_copied passes.entry) maps.now file_len) }
+        ensures vm { OnOk result ((test : List (List ℕ) → Bool)
+            → vm_where test self.new.rows
+            ≡ vm_where test self.old.rows
+            + vm_count test pool.now (option_copied passes.entry) maps.now base.now.loads) }
 
         // What was added, filtered or not.
         ensures depth { self.new.depth ≡ self.old.depth }
@@ -124,7 +130,9 @@ impl Rollup {
 
         // Refusals.
         ensures too_many_bytes { IsErrOf result RollupAnswer.TooManyBytes ↔ (2 ^ 63 - 1 < self.old.lengths + file_len) }
-        ensures mapped_too_large { IsErrOf result RollupAnswer.MappedTooLarge ↔ ((self.old.lengths + file_len ≤ 2 ^ 63 - 1) × (2 ^ 63 - 1 < self.old.mapped + mapped_count base.now.loads)) }
+        ensures mapped_too_large { IsErrOf result RollupAnswer.MappedTooLarge
+            ↔ ((self.old.lengths + file_len ≤ 2 ^ 63 - 1)
+            × (2 ^ 63 - 1 < self.old.mapped + mapped_count base.now.loads)) }
         ensures unchanged { OnErr result (self.new ≡ self.old) }
 
         // Each piece is read once at most.

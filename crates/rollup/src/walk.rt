@@ -100,7 +100,8 @@ fn count(
 ) -> Result<(), NoMemory>
     requires order { at ≤ to }
     requires fits { (i : ℕ) → size_in part (slice_index_or sizes.old i no_entry) + (to - at) < 2 ^ 128 }
-    ensures grown { OnOk result (IsGrownIf (is_counted (option_copied marks.entry) at cursors.now) part (labels_of cursors.now) (to - at) sizes.old sizes.new) }
+    ensures grown { OnOk result (IsGrownIf (is_counted (option_copied marks.entry) at cursors.now)
+        part (labels_of cursors.now) (to - at) sizes.old sizes.new) }
 {
     if !labels_at(cursors, at, numbers)? {
         return Ok(());
@@ -122,7 +123,8 @@ fn advance<L: Ledger>(
     requires reached { Each (λ ps c. IsReached ps to c) (layers part maps.now) cursors.old }
     requires fits { to ≤ 2 ^ 97 }
     ensures at { Each (λ ps c. IsAt ps to c) (layers part maps.now) cursors.new }
-    ensures cost { steps.new + reads (layers part maps.now) cursors.old ≡ steps.old + reads (layers part maps.now) cursors.new }
+    ensures cost { steps.new + reads (layers part maps.now) cursors.old
+        ≡ steps.old + reads (layers part maps.now) cursors.new }
 {
     for i in 0..maps.len() {
         cursors[i] = cursors[i].after(part.map_of(&maps[i]), to, steps);
@@ -142,9 +144,13 @@ pub fn walk<L: Ledger>(
 ) -> Result<(), NoMemory>
     requires none { (test : List ℕ → Bool) → weight part test sizes.old ≡ 0 }
     requires fits { limit ≤ 2 ^ 97 }
-    ensures counted { OnOk result ((test : List ℕ → Bool) → weight part test sizes.new ≡ counted test (option_copied marks.entry) (layers part maps.now) limit) }
-    ensures other { OnOk result ((test : List ℕ → Bool) → weight (other part) test sizes.new ≡ weight (other part) test sizes.old) }
-    ensures entries { OnOk result ((n : ℕ) → All (LabelsBelow n) maps.now → All (IsEntry (length maps.now) n) sizes.old → All (IsEntry (length maps.now) n) sizes.new) }
+    ensures counted { OnOk result ((test : List ℕ → Bool)
+        → weight part test sizes.new ≡ counted test (option_copied marks.entry) (layers part maps.now) limit) }
+    ensures other { OnOk result ((test : List ℕ → Bool)
+        → weight (other part) test sizes.new ≡ weight (other part) test sizes.old) }
+    ensures entries { OnOk result ((n : ℕ) → All (LabelsBelow n) maps.now
+        → All (IsEntry (length maps.now) n) sizes.old
+        → All (IsEntry (length maps.now) n) sizes.new) }
     ensures cost { steps.new ≤ steps.old + piece_total (layers part maps.now) }
 {
     let mut cursors = first_pieces(alloc, maps, part, steps)?;

@@ -25,8 +25,8 @@ size_under size label us =
 abbrev pub labels_of : List Under → List (List ℕ)
 labels_of us = map (λ (u : Under). u.label) us
 
--- The labels that paths begin with stand in order, byte by byte, each once. To a label belong the sizes of the paths that
--- begin with it, and these are in order without it.
+-- The labels that paths begin with stand in order, byte by byte, each once. To a label belong the sizes of the paths
+-- that begin with it, and these are in order without it.
 pub record AreLabels (paths : List GrowthPath) : Type 0 where
   pub once : IsStrictlySortedBy (λ (a b : List ℕ). slice_cmp nat_cmp a b) (labels_of (runs paths))
   pub sizes : (size : GrowthSizes → ℕ) (label : List ℕ) → size_under size label (runs paths) ≡ size_from size label paths

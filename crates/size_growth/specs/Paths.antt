@@ -20,8 +20,8 @@ growth_cmp a b = path_cmp a.path b.path
 abbrev pub sums : List GrowthPath → GrowthSizes
 sums paths = sums_by (λ (p : GrowthPath). p.sizes) paths
 
--- What is known of every growth: its paths ascend, each stands once, and each has its labels and a size above 0. A 63-bit
--- number holds each size of all paths together.
+-- What is known of every growth: its paths ascend, each stands once, and each has its labels and a size above 0. A
+-- 63-bit number holds each size of all paths together.
 pub record IsGrowth (depth : ℕ) (paths : List GrowthPath) : Type 0 where
   pub ordered : IsStrictlySortedBy growth_cmp paths
   pub deep : All (λ (p : GrowthPath). length p.path ≡ depth) paths

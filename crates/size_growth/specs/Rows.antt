@@ -37,8 +37,8 @@ by_key o a b = nat_cmp (growth_key o b.sizes) (growth_key o a.sizes)
 abbrev pub is_child : RowOptions → Entry → Bool
 is_child o e = has_changed o e.sizes
 
--- The children of paths: the labels that they begin with, where a shown size has changed. The larger key stands first, and
--- of one key the label that stands first, which is the lesser one.
+-- The children of paths: the labels that they begin with, where a shown size has changed. The larger key stands first,
+-- and of one key the label that stands first, which is the lesser one.
 unfoldable pub children : RowOptions → List GrowthPath → List Entry
 children o paths = in_order (by_key o) (filter (is_child o) (map label_entry (runs paths)))
 

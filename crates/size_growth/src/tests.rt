@@ -8,7 +8,8 @@ use size_core::{Domain, Sort};
 use std::test::Fail;
 
 // The definitions on worked tables: two rollups side by side, rows ordered without the sign of their growths, an Others
-// row that didn't grow and one before a label of its key, a growth that is not shown, a label under which growths cancel.
+// row that didn't grow and one before a label of its key, a growth that is not shown,
+// a label under which growths cancel.
 fn worked_growths()
     ensures { WorkedGrowths }
 {}

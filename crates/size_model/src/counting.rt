@@ -122,7 +122,10 @@ fn counts_first<T: LabelTest>(
     address: u64,
 ) -> Result<bool, NoMemory>
     requires { i < length file.now.loads }
-    ensures { IfOk result (λ counts. counts ≡ (not (mapped (take i file.now.loads) space address) && counts_for (option_map (λ t. T.holds t.now) filter.entry) prefix.now (map (label_of_address file.now space address) file.now.sources))) }
+    ensures { IfOk result (λ counts. counts
+        ≡ (not (mapped (take i file.now.loads) space address)
+        && counts_for (option_map (λ t. T.holds t.now) filter.entry) prefix.now
+        (map (label_of_address file.now space address) file.now.sources))) }
 {
     if is_mapped_by_first(&file.loads, i, space, address) {
         return Ok(false);
@@ -142,7 +145,8 @@ fn size_of_load<T: LabelTest>(
 ) -> Result<u128, NoMemory>
     requires { i < length file.now.loads }
     ensures { IfOk result (λ n. (load : Load) → slice_get file.now.loads i ≡ Some load
-        → n ≡ first_mapped_size (counts_for (option_map (λ t. T.holds t.now) filter.entry) prefix.now) file.now (take i file.now.loads) load) }
+        → n ≡ first_mapped_size (counts_for (option_map (λ t. T.holds t.now) filter.entry) prefix.now)
+        file.now (take i file.now.loads) load) }
 {
     let load = file.loads.get(i);
     let space = load.space;

@@ -63,7 +63,8 @@ pub record IsAlone (o : Options) : Type 0 where
   pub no_debug : o.debug ≡ None
   pub no_base : o.bases ≡ []
 
--- there are one to eight data sources, each with a name, and something to read; a debug file stands beside one file, and a place is asked of one file
+-- there are one to eight data sources, each with a name, and something to read; a debug file stands beside one file,
+-- and a place is asked of one file
 pub record KeepsLimits (o : Options) : Type 0 where
   pub some_source : 0 < length o.sources
   pub few_sources : length o.sources ≤ 8

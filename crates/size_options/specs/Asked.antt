@@ -82,6 +82,7 @@ unless_usage (Some kind) options = Err kind
 abbrev pub given_by : List Text → GivenTexts
 given_by words = given_in (rows_by (profile_words words))
 
--- what the words ask for by the matches that clap's definition gives: the options, or the first kind of misuse other than words that can't be read
+-- what the words ask for by the matches that clap's definition gives: the options, or the first kind of misuse other
+-- than words that can't be read
 unfoldable pub asked : List Text → Result Options UsageKind
 asked words = unless_usage (first_usage (usage_tests (given_by words) (ends_in_mark words) (has_mark words))) (options_in (given_by words) (base_words words))

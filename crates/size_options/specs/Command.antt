@@ -48,7 +48,8 @@ debug_rules = word_option (codes "debug-file") ∷ word_option (codes "debug-fil
 abbrev pub file_rules : List Rule
 file_rules = word_option (codes "synth") ∷ file_words ∷ []
 
--- a command with no argument: its first word is no program's name, and it has neither a flag for help nor one for its version
+-- a command with no argument: its first word is no program's name, and it has neither a flag for help
+-- nor one for its version
 abbrev pub bare_app : App
 bare_app = record {
   top = record (new_shape (codes "bloaty")) {

@@ -41,10 +41,8 @@ fn push_option(line: &mut String, option: &str, value: &Option<Text>) -> Result<
     Ok(())
 }
 
-// The options as a line that asks for them, each at its place.
-fn line_of(alloc: Global, options: &Options) -> Result<String, Fail> {
-    let mut line = String::from_str(alloc, "-d ")?;
-    push_names(&mut line, &options.sources, ",")?;
+// The options that always have a value.
+fn push_values(alloc: Global, line: &mut String, options: &Options) -> Result<(), Fail> {
     let (limit, sort, domain) = (options.limit, options.sort, options.domain);
     line.push_str(format!(in alloc; " -n {limit} -s {sort:?} --domain {domain:?}")?.as_str())?;
     line.push_str(if options.wide { " -w" } else { "" })?;
@@ -53,18 +51,38 @@ fn line_of(alloc: Global, options: &Options) -> Result<String, Fail> {
         Format::Csv => " --csv",
         Format::Tsv => " --tsv",
     })?;
-    push_option(&mut line, " -c ", &options.config)?;
-    push_option(&mut line, " --source-filter ", &options.filter)?;
-    push_option(&mut line, " --debug-file ", &options.debug)?;
+    Ok(())
+}
+
+// The options that can be absent.
+fn push_given(alloc: Global, line: &mut String, options: &Options) -> Result<(), Fail> {
+    push_option(line, " -c ", &options.config)?;
+    push_option(line, " --source-filter ", &options.filter)?;
+    push_option(line, " --debug-file ", &options.debug)?;
     if let Some(synth) = options.synth {
         line.push_str(format!(in alloc; " --synth {synth}")?.as_str())?;
     }
+    Ok(())
+}
+
+// The files, and those that they are compared with.
+fn push_files(line: &mut String, options: &Options) -> Result<(), NoMemory> {
     line.push_str(" FILE ")?;
-    push_names(&mut line, &options.files, " ")?;
+    push_names(line, &options.files, " ")?;
     if options.bases.len() > 0 {
         line.push_str(" BASE ")?;
-        push_names(&mut line, &options.bases, " ")?;
+        push_names(line, &options.bases, " ")?;
     }
+    Ok(())
+}
+
+// The options as a line that asks for them, each at its place.
+fn line_of(alloc: Global, options: &Options) -> Result<String, Fail> {
+    let mut line = String::from_str(alloc, "-d ")?;
+    push_names(&mut line, &options.sources, ",")?;
+    push_values(alloc, &mut line, options)?;
+    push_given(alloc, &mut line, options)?;
+    push_files(&mut line, options)?;
     Ok(line)
 }
 
@@ -200,14 +218,19 @@ const ASKED: [(&str, &str); 32] = [
     ),
 ];
 
+// The line asks for the options that the other line tells.
+fn asks_for(rt: &impl Abort, alloc: Global, line: &str, wanted: &str) -> Result<(), Fail> {
+    match read(alloc, line) {
+        Ok(options) => assert_eq!(rt; line_of(alloc, &options)?.as_str(), wanted, "{line}"),
+        Err(answer) => assert!(rt; false, "{line}: {answer:?}"),
+    }
+    Ok(())
+}
+
 #[test]
 fn reads_the_options(rt: HostRuntime) -> Result<(), Fail> {
-    let alloc = rt.alloc();
     for (line, wanted) in ASKED {
-        match read(alloc, line) {
-            Ok(options) => assert_eq!(rt; line_of(alloc, &options)?.as_str(), wanted, "{line}"),
-            Err(answer) => assert!(rt; false, "{line}: {answer:?}"),
-        }
+        asks_for(&rt, rt.alloc(), line, wanted)?;
     }
     Ok(())
 }

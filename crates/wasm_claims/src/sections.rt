@@ -66,7 +66,9 @@ fn add_standard(
     wrap: Wrap,
     sheet: &mut ClaimSheet,
 ) -> Result<(), NoMemory>
-    ensures made { OnOk result (sheet.new ≡ adding sheet.old (claim_on reach (wrapped wrap (or_else (standard_name id) (codes "[Section #" ++ decimal id ++ codes "]"))))) }
+    ensures made { OnOk result (sheet.new
+        ≡ adding sheet.old (claim_on reach
+        (wrapped wrap (or_else (standard_name id) (codes "[Section #" ++ decimal id ++ codes "]"))))) }
     ensures kept { sheet.new.pool ≡ sheet.old.pool }
 {
     match standard_name(id) {

@@ -6,7 +6,8 @@ use Rattle.wasm_file.specs.declared.constants.TheConstants.{FUNCTION_IMPORT, TAB
 use Rattle.wasm_file.specs.Numbers.{◌>>=◌, behind, byte_at, number_at, long_number_at, name_at}
 use Rattle.wasm_file.specs.Records.{vector, values}
 
--- the place behind limits (5.3.7 Limits): a flag and the least size, and the greatest one where bit 0 of the flag is set
+-- the place behind limits (5.3.7 Limits): a flag and the least size, and the greatest one where bit 0 of the flag is
+-- set
 unfoldable pub behind_limits : List ℕ → ℕ → Option ℕ
 behind_limits bytes at = do
   flag ← byte_at bytes at

@@ -36,7 +36,9 @@ pub fn first_with<'a>(sections: WasmSections<'a>, id: u8) -> Option<Cursor<'a>>
 
 /// Keeps a name for an index that has none yet.
 fn keep<'a>(table: &mut HashMap<u32, &'a [u8]>, index: u32, name: &'a [u8]) -> Result<(), NoMemory>
-    ensures { OnOk result ((k : ℕ) → option_copied (get nat_eq table.new k) ≡ or_else (option_copied (get nat_eq table.old k)) (if index == k then Some name.now else None)) }
+    ensures { OnOk result ((k : ℕ)
+        → option_copied (get nat_eq table.new k)
+        ≡ or_else (option_copied (get nat_eq table.old k)) (if index == k then Some name.now else None)) }
 {
     if table.contains_key(&index) {
         return Ok(());
@@ -72,7 +74,9 @@ fn name_at<'a>(table: &HashMap<u32, &'a [u8]>, index: u32) -> Option<&'a [u8]>
 /// The body at the cursor's place, which is passed.
 #[tactic(auto, unfolding(crate::specs::Functions::body_at), using(crate::proofs::NameLemmas::piece_forward))]
 fn extent(cursor: &mut Cursor) -> Option<Extent>
-    ensures { MatchOption result (body_at cursor.old ≡ None) (λ e. IsRead (body_at cursor.old) cursor.old e cursor.new) }
+    ensures { MatchOption result
+        (body_at cursor.old ≡ None)
+        (λ e. IsRead (body_at cursor.old) cursor.old e cursor.new) }
 {
     let place = cursor.place();
     piece(cursor)?;
@@ -93,7 +97,8 @@ fn numbered<'a>(
     names: FunctionNames<'a>,
 ) -> Result<Vec<Body<'a>>, WasmAnswer>
     requires { first + length (values_in body_at count cursor) < 2 ^ 32 }
-    ensures { Answers result (under (fault_in body_at count cursor.entry) (numbered names.entry first (values_in body_at count cursor.entry))) }
+    ensures { Answers result (under (fault_in body_at count cursor.entry)
+        (numbered names.entry first (values_in body_at count cursor.entry))) }
 {
     let table = name_table(alloc, names)?;
     let mut rest = cursor;
@@ -126,7 +131,8 @@ pub fn numbered_bodies<'a>(
     names: FunctionNames<'a>,
 ) -> Result<Vec<Body<'a>>, WasmAnswer>
     requires { first + length (values (bodies_in section)) < 2 ^ 32 }
-    ensures { Answers result (checked (checks_of (bodies_in section.entry)) (numbered names.entry first (values (bodies_in section.entry)))) }
+    ensures { Answers result (checked (checks_of (bodies_in section.entry))
+        (numbered names.entry first (values (bodies_in section.entry)))) }
 {
     let Some(mut cursor) = section else {
         return Ok(Vec::new(alloc));

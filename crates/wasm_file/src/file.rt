@@ -72,7 +72,9 @@ impl<'a> WasmFile<'a> {
     pub fn parse(file: &'a [u8]) -> Result<WasmFile<'a>, BadFile>
         requires { length file.now < 2 ^ 32 }
         ensures file { result ≡ opened file.now }
-        ensures first { MatchResult result (λ _. AllHold (module_checks file.now)) (IsFirstFault (module_checks file.now)) }
+        ensures first { MatchResult result
+            (λ _. AllHold (module_checks file.now))
+            (IsFirstFault (module_checks file.now)) }
     {
         version_is_known(file)?;
         sections_are_there(start_of(file))?;
@@ -114,7 +116,9 @@ impl<'a> WasmFile<'a> {
     #[tactic(auto, using(crate::proofs::FunctionLemmas::bad_imports, crate::proofs::FunctionLemmas::good_imports))]
     pub fn functions(&self, alloc: Global) -> Result<Vec<Body<'a>>, WasmAnswer>
         ensures value { Answers result (functions_of self.now) }
-        ensures first { MatchResult result (λ _. AllHold (function_checks self.now)) (IsFirstFaultOf (function_checks self.now)) }
+        ensures first { MatchResult result
+            (λ _. AllHold (function_checks self.now))
+            (IsFirstFaultOf (function_checks self.now)) }
     {
         let first = function_imports(first_with(self.sections(), IMPORT))?;
         let bodies = first_with(self.sections(), CODE);

@@ -15,7 +15,9 @@ use size_core::{BadFile, Fault};
 /// Limits: a flag and the least size, and the greatest one where bit 0 of the flag is set.
 #[tactic(auto, unfolding(crate::specs::Imports::behind_limits))]
 fn limits(cursor: &mut Cursor) -> Option<()>
-    ensures { MatchOption result (behind_limits cursor.old.bytes cursor.old.at ≡ None) (λ _. IsPassed cursor.old (behind_limits cursor.old.bytes cursor.old.at) cursor.new) }
+    ensures { MatchOption result
+        (behind_limits cursor.old.bytes cursor.old.at ≡ None)
+        (λ _. IsPassed cursor.old (behind_limits cursor.old.bytes cursor.old.at) cursor.new) }
 {
     let flag = byte(cursor)?;
     long_number(cursor)?;
@@ -28,7 +30,9 @@ fn limits(cursor: &mut Cursor) -> Option<()>
 /// What an import of a kind asks.
 #[tactic(auto, unfolding(crate::specs::Imports::behind_description))]
 fn description(cursor: &mut Cursor, kind: u8) -> Option<()>
-    ensures { MatchOption result (behind_description cursor.old.bytes kind cursor.old.at ≡ None) (λ _. IsPassed cursor.old (behind_description cursor.old.bytes kind cursor.old.at) cursor.new) }
+    ensures { MatchOption result
+        (behind_description cursor.old.bytes kind cursor.old.at ≡ None)
+        (λ _. IsPassed cursor.old (behind_description cursor.old.bytes kind cursor.old.at) cursor.new) }
 {
     match kind {
         FUNCTION_IMPORT => {
@@ -52,7 +56,9 @@ fn description(cursor: &mut Cursor, kind: u8) -> Option<()>
 /// An import: whether it is a function.
 #[tactic(auto, unfolding(crate::specs::Imports::import_at))]
 fn import(cursor: &mut Cursor) -> Option<bool>
-    ensures { MatchOption result (import_at cursor.old ≡ None) (λ is_function. IsRead (import_at cursor.old) cursor.old is_function cursor.new) }
+    ensures { MatchOption result
+        (import_at cursor.old ≡ None)
+        (λ is_function. IsRead (import_at cursor.old) cursor.old is_function cursor.new) }
 {
     name(cursor)?;
     name(cursor)?;
@@ -72,7 +78,8 @@ fn one_if(holds: bool) -> u32
 /// read.
 #[tactic(auto, using(crate::proofs::RecordLemmas::fault_end, crate::proofs::RecordLemmas::fault_here, crate::proofs::RecordLemmas::fault_later, crate::proofs::RecordLemmas::values_end, crate::proofs::RecordLemmas::values_next))]
 fn count_functions(cursor: Cursor, count: u32) -> Result<u32, BadFile>
-    ensures { result ≡ under (fault_in import_at count cursor.entry) (count_by (λ is_function. is_function) (values_in import_at count cursor.entry)) }
+    ensures { result ≡ under (fault_in import_at count cursor.entry)
+        (count_by (λ is_function. is_function) (values_in import_at count cursor.entry)) }
 {
     let mut rest = cursor;
     let mut found = 0;

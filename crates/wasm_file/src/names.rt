@@ -36,7 +36,9 @@ fn custom_named<'a>(sections: WasmSections<'a>, wanted: &[u8]) -> Option<Cursor<
 /// A subsection: its id and its contents.
 #[tactic(auto, unfolding(crate::specs::Names::subsection_at))]
 fn next_subsection<'a>(cursor: &mut Cursor<'a>) -> Option<(u8, Cursor<'a>)>
-    ensures { MatchOption result (subsection_at cursor.old ≡ None) (λ s. IsRead (subsection_at cursor.old) cursor.old s cursor.new) }
+    ensures { MatchOption result
+        (subsection_at cursor.old ≡ None)
+        (λ s. IsRead (subsection_at cursor.old) cursor.old s cursor.new) }
 {
     let kind = byte(cursor)?;
     let contents = piece(cursor)?;

@@ -13,7 +13,9 @@ use std::marker::Model;
 /// A pair of a function's index and its name.
 #[tactic(auto, unfolding(crate::specs::Names::pair_at))]
 fn pair<'a>(cursor: &mut Cursor<'a>) -> Option<(u32, &'a [u8])>
-    ensures { MatchOption result (pair_at cursor.old ≡ None) (λ p. IsRead (pair_at cursor.old) cursor.old (named p) cursor.new) }
+    ensures { MatchOption result
+        (pair_at cursor.old ≡ None)
+        (λ p. IsRead (pair_at cursor.old) cursor.old (named p) cursor.new) }
 {
     let index = number(cursor)?;
     let name = name(cursor)?;

@@ -44,7 +44,8 @@ pub fn long_number(cursor: &mut Cursor) -> Option<u64>
 #[tactic(auto, unfolding(crate::specs::Numbers::piece_at))]
 pub fn piece<'a>(cursor: &mut Cursor<'a>) -> Option<Cursor<'a>>
     ensures value { result ≡ value_of (piece_at cursor.old.base cursor.old.bytes cursor.old.at) }
-    ensures after { OnSome result (IsBehind cursor.old (piece_at cursor.old.base cursor.old.bytes cursor.old.at) cursor.new) }
+    ensures after { OnSome result
+        (IsBehind cursor.old (piece_at cursor.old.base cursor.old.bytes cursor.old.at) cursor.new) }
 {
     let size = number(cursor)?;
     cursor.take(size as u64).ok()

@@ -42,7 +42,9 @@ fn section_name<'a>(id: u8, contents: &Cursor<'a>) -> Option<&'a [u8]>
 /// no number below 2^32 in at most five bytes.
 #[tactic(auto, unfolding(crate::specs::Sections::size_at, crate::specs::Numbers::number_at))]
 fn section_size(cursor: &mut Cursor, place: u64) -> Result<u32, BadFile>
-    ensures { MatchResult result (λ n. HasSize cursor.old place n cursor.new) (λ e. size_at cursor.old.bytes cursor.old.at place ≡ Err e) }
+    ensures { MatchResult result
+        (λ n. HasSize cursor.old place n cursor.new)
+        (λ e. size_at cursor.old.bytes cursor.old.at place ≡ Err e) }
 {
     let start = cursor.place();
     let fault = match cursor.uleb() {

@@ -28,7 +28,9 @@ pub fn sections_are_there(cursor: Cursor) -> Result<(), BadFile>
 fn next_section<'a>(cursor: &mut Cursor<'a>) -> Option<WasmSection<'a>>
     requires { AreThere cursor.old }
     ensures there { AreThere cursor.new }
-    ensures item { MatchOption result ((to_come cursor.old ≡ []) × (to_come cursor.new ≡ [])) (λ s. to_come cursor.old ≡ section s ∷ to_come cursor.new) }
+    ensures item { MatchOption result
+        ((to_come cursor.old ≡ []) × (to_come cursor.new ≡ []))
+        (λ s. to_come cursor.old ≡ section s ∷ to_come cursor.new) }
 {
     if cursor.left() == 0 {
         return None;

@@ -2,9 +2,12 @@
 //! tests say what the runs answer.
 #![tactic(auto)]
 
+mod runs;
+
 use bloaty_engine::{Outcome, bloaty};
 use custom_rewrites::RegexPatterns;
 use outside::{MemFiles, MemSink};
+pub use runs::{COMMAND, is_end, is_report};
 use size_core::{FULL, Limits, NoMemory};
 use std::alloc::Global;
 

@@ -226,7 +226,8 @@ pub fn macho_units(alloc: Global) -> Result<Vec<u8>, AllocError> {
     macho_file(alloc, head, &commands, 1233, &[(896, &bytes)])
 }
 
-/// Code of two units, whose `.debug_info` is marked as compressed, or has the name that told so before there was a mark.
+/// Code of two units, whose `.debug_info` is marked as compressed, or has the name that told so
+/// before there was a mark.
 pub fn compressed_units(alloc: Global, marked: bool) -> Result<Vec<u8>, AllocError> {
     let debug = two_units_of(alloc, 4)?;
     let mut sections = debug.sections()?;

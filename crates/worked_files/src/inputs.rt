@@ -114,8 +114,8 @@ pub fn two_functions(alloc: Global) -> Result<Vec<u8>, AllocError> {
     file(alloc, EXECUTABLE, &[LOAD], &sections)
 }
 
-/// An executable of 392 bytes for PowerPC, of 32 bits and the greatest byte of a number first, with the functions `a` and
-/// `b` of 8 bytes each.
+/// An executable of 392 bytes for PowerPC, of 32 bits and the greatest byte of a number first, with the functions `a`
+/// and `b` of 8 bytes each.
 pub fn big_endian(alloc: Global) -> Result<Vec<u8>, AllocError> {
     let head = Head {
         class: Class::Bits32,

@@ -61,8 +61,8 @@ fn debug_sections<'a>(id: &'a [u8], symbols: &'a [u8], names: u32) -> [Section<'
     [NULL, EMPTY_TEXT, note(id), table, STRINGS, NAMES]
 }
 
-/// A debug file, whose build ID ends so, with a function `f` of 12 bytes where `.text` begins; the bytes of `.text` are in
-/// another file. The names of the symbols are those of section `names`, which is 4.
+/// A debug file, whose build ID ends so, with a function `f` of 12 bytes where `.text` begins; the bytes of `.text` are
+/// in another file. The names of the symbols are those of section `names`, which is 4.
 pub fn debug_file(alloc: Global, last: u8, names: u32) -> Result<Vec<u8>, AllocError> {
     let f = Symbol {
         name: 1,

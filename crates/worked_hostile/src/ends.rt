@@ -80,8 +80,8 @@ fn assert_same(rt: &impl Abort, ran: &Ran, again: &Ran, harm: Harm) {
     assert!(rt; again.err.as_slice() == ran.err.as_slice(), "{harm:?}");
 }
 
-/// Runs the data sources of a list over the harmed file twice, and gives the outcome. The first run ends as it should, and
-/// the second one does the same.
+/// Runs the data sources of a list over the harmed file twice, and gives the outcome. The first run ends as it should,
+/// and the second one does the same.
 pub fn assert_ends(
     rt: &impl Abort,
     alloc: Global,

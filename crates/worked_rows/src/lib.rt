@@ -4,8 +4,6 @@
 #[cfg(test)]
 mod made_file;
 #[cfg(test)]
-mod one_file;
-#[cfg(test)]
 mod report_table;
 #[cfg(test)]
 mod sizes;

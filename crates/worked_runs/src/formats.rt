@@ -1,10 +1,11 @@
 //! Files of the formats beside ELF, their reports and their faults.
 
+use crate::asserts::{assert_end, assert_report};
 use crate::reports::{Case, assert_cases};
-use crate::runs::{assert_end, assert_report, run, sound};
 use bloaty_engine::Outcome;
 use size_core::Fault;
 use std::test::Fail;
+use worked_devices::{run, sound};
 use worked_files::{Class, Input, Order, bytes_of, patched};
 
 // A module with a type, three imported functions, one with a body, and a section of names that is cut short.

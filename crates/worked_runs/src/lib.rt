@@ -1,25 +1,15 @@
-//! Worked runs of the whole tool, with the reports and lines that a person computed.
+//! Worked runs of the whole tool that report sizes: of ELF files with their units and lines, of Mach-O files and of
+//! modules, with the faults of such files; and the sizes of one file by a plan. The reports, lines and sizes are those that
+//! a person computed.
 #![tactic(auto)]
 
 #[cfg(test)]
-mod customs;
-#[cfg(test)]
-mod devices;
-#[cfg(test)]
-mod faults;
+mod asserts;
 #[cfg(test)]
 mod formats;
 #[cfg(test)]
-mod growth;
-#[cfg(test)]
-mod pairs;
-#[cfg(test)]
-mod places;
-#[cfg(test)]
-mod refusals;
+mod one_file;
 #[cfg(test)]
 mod reports;
-#[cfg(test)]
-mod runs;
 #[cfg(test)]
 mod units;

@@ -1,9 +1,10 @@
 //! Words and a file, and the whole report that they make.
 
-use crate::runs::{assert_report, run, run_over, sound};
+use crate::asserts::assert_report;
 use std::alloc::Global;
 use std::process::Abort;
 use std::test::Fail;
+use worked_devices::{run, run_over, sound};
 use worked_files::{Input, bytes_of};
 
 /// Words over a file named `a.elf`, and the lines of their report.

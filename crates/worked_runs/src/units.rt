@@ -1,12 +1,12 @@
 //! Compile units and lines of source text of ELF files, their reports and their faults.
 
+use crate::asserts::{assert_end, assert_report};
 use crate::formats::bad;
 use crate::reports::{Case, assert_cases};
-use crate::runs::{assert_end, assert_report, run, sound};
 use bloaty_engine::Outcome;
 use size_core::Fault;
-use std::process::Abort;
 use std::test::Fail;
+use worked_devices::{run, sound};
 use worked_files::{Input, bytes_of, patched};
 
 const VM_SIZES: [&str; 5] = ["--csv", "-d", "compileunits", "--domain=vm", "a.elf"];

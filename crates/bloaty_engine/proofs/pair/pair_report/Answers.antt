@@ -3,7 +3,7 @@ use Rattle.std.proofs.Common.{◌≡◌, ◌+◌, ◌∷◌, [], Some, Err, ap}
 use Rattle.std.specs.Prelude.{slice_get}
 use Rattle.std.proofs.lemmas.Option.{IfSome_then}
 use Rattle.std.proofs.lemmas.Result.{err_from_is_err_and}
-use Rattle.bloaty_engine.specs.Named.{name_at}
+use Rattle.run_outcome.specs.Names.{name_at}
 use Rattle.file_profile.proofs.MapLemmas.{err-same}
 use Rattle.bloaty_engine.proofs.PairLemmas.{debug-held, own-held, pair-ends, pair-found, pair-name, read-are, two}
 use Rattle.bloaty_engine.proofs.pair.pair_report.Goals as goal

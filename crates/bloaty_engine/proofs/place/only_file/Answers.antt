@@ -2,7 +2,7 @@
 use Rattle.std.proofs.Common.{◌≡◌, ◌+◌, length, Some, refl, sym, ap, ◌∙◌, arith}
 use Rattle.std.proofs.lemmas.Option.{IfSome_then}
 use Rattle.elf_synth.specs.Made.{made}
-use Rattle.bloaty_engine.specs.Named.{name_at}
+use Rattle.run_outcome.specs.Names.{name_at}
 use Rattle.bloaty_engine.proofs.PairLemmas.{one-held, single}
 use Rattle.bloaty_engine.proofs.RunLemmas.{none-name}
 use Rattle.bloaty_engine.proofs.place.only_file.Goals as goal

@@ -4,7 +4,7 @@ use Rattle.std.proofs.Common.{subst}
 use Rattle.std.proofs.lemmas.Result.{err_from_is_err_and}
 use Rattle.bloaty_engine.specs.PlaceSteps.{EndsExplained, explained_within}
 use Rattle.file_profile.proofs.MapLemmas.{err-same}
-use Rattle.bloaty_engine.specs.Named.{file_names, other_names}
+use Rattle.run_outcome.specs.Names.{file_names, other_names}
 use Rattle.bloaty_engine.specs.Reading.{unmade_names}
 use Rattle.bloaty_engine.proofs.PlaceLemmas.{no-other-names, no-others-held, only-ends, place-ends, place-found}
 use Rattle.bloaty_engine.proofs.ReadLemmas.{reads-front}

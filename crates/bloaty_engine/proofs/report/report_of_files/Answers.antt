@@ -3,7 +3,7 @@ use Rattle.std.proofs.Common.{◌≡◌, ◌+◌, ◌<◌, [], length, Some, Err
 use Rattle.std.specs.Prelude.{slice_get}
 use Rattle.std.proofs.lemmas.Option.{IfSome_then}
 use Rattle.std.proofs.lemmas.Result.{err_from_is_err_and}
-use Rattle.bloaty_engine.specs.Named.{file_names, name_at}
+use Rattle.run_outcome.specs.Names.{file_names, name_at}
 use Rattle.bloaty_engine.proofs.FileLemmas.{some-held}
 use Rattle.file_profile.proofs.MapLemmas.{err-same}
 use Rattle.bloaty_engine.proofs.ReadLemmas.{reads-behind, reads-more}

@@ -4,7 +4,7 @@ use Rattle.std.specs.Prelude.{slice_get}
 use Rattle.std.proofs.lemmas.List.{append-nil}
 use Rattle.std.proofs.lemmas.Option.{IfSome_then}
 use Rattle.elf_synth.specs.Made.{made}
-use Rattle.bloaty_engine.specs.Named.{name_at}
+use Rattle.run_outcome.specs.Names.{name_at}
 use Rattle.bloaty_engine.proofs.ReadLemmas.{OnOk-any, reads-none}
 use Rattle.bloaty_engine.proofs.RunLemmas.{none-name}
 use Rattle.bloaty_engine.proofs.TakenLemmas.{over-made, over-plain}

@@ -8,5 +8,6 @@ loop-filled-preserved g c =
     let before = c.loop-filled.invariant in record {
       within = read.fits;
       room = omega (arith, read.room);
+      turns = omega (arith, read.turn, before.turns);
       read = Consumes-more _ _ _ c.loop-filled.bytes.items c.read_more.new.bytes.items c.loop-filled.filled c.in-Ok.count read.front before.read read.ok;
     }

@@ -1,0 +1,172 @@
+//! The plan of a run, from its options and its configuration.
+
+ghost use Rattle.std.specs.Prelude.{◌≡◌, ◌<◌, ◌≤◌, ◌+◌, ◌^◌, None, Some, Ok, All, length, map, slice_get, IfSome, IfOk, IfErr, true, option_map};
+ghost use Rattle.std.specs.Option.{option_copied};
+ghost use Rattle.custom_rewrites.specs.Pattern.{IsPattern};
+ghost use Rattle.file_profile.specs.Choices.{IsChoice, as_chosen, chosen_in, rewrite_lists};
+ghost use Rattle.file_profile.specs.Patterns.{AreRead, rewrites_of};
+ghost use Rattle.file_profile.specs.Plans.{HasCause, HasFilterCause, HasNameCause, HasRewriteCause, IsPlan, KeepsLast, answers_without_refusal};
+ghost use Rattle.file_profile.specs.Sources.{chosen_named, chosen_sources, custom_named};
+
+use config_text::CustomSource;
+use custom_rewrites::{LabelPattern, PatternAnswer, Patterns, RewriteAnswer, Rewrites};
+use file_profile::{Choice, Plan, PlanAnswer};
+use size_core::{Names, Source, Text};
+use size_options::Options;
+use std::alloc::Global;
+
+// The place of the first custom data source of a name.
+fn custom_place(custom: &[CustomSource], name: &[u8]) -> Option<usize>
+    ensures none { result ≡ None → custom_named custom.now name.now ≡ None }
+    ensures some { IfSome result
+        (λ place. IfSome (slice_get custom.now place) (λ c. custom_named custom.now name.now ≡ Some (as_chosen c))) }
+    ensures within { IfSome result (λ place. place < length custom.now) }
+{
+    for i in 0..custom.len() {
+        if custom[i].name.as_slice() == name {
+            return Some(i);
+        }
+    }
+    None
+}
+
+// The data source of a name.
+fn choice_of(custom: &[CustomSource], name: &[u8]) -> Option<Choice>
+    ensures chosen { option_map (chosen_in (rewrite_lists custom.now)) result ≡ chosen_named custom.now name.now }
+    ensures place { IfSome result (IsChoice (length custom.now)) }
+{
+    if let Some(base) = Source::named(name) {
+        return Some(Choice {
+            base,
+            rewrites: None,
+        });
+    }
+    let place = custom_place(custom, name)?;
+    Some(Choice {
+        base: custom[place].base,
+        rewrites: Some(place),
+    })
+}
+
+// The data sources of the names.
+fn choices_of(
+    alloc: Global,
+    names: &Names,
+    custom: &[CustomSource],
+) -> Result<Vec<Choice>, PlanAnswer>
+    ensures chosen { IfOk result (λ choices. chosen_sources custom.now names.now
+        ≡ Ok (map (chosen_in (rewrite_lists custom.now)) choices.items)) }
+    ensures places { IfOk result (λ choices. All (IsChoice (length custom.now)) choices.items) }
+    ensures cause { IfErr result (HasNameCause custom.now names.now) }
+{
+    let mut choices = Vec::new(alloc);
+    for i in 0..names.len() {
+        let Some(choice) = choice_of(custom, names.get(i).as_slice()) else {
+            return Err(PlanAnswer::UnknownSource(i + 1));
+        };
+        choices.push(choice)?;
+    }
+    Ok(choices)
+}
+
+// The filter's pattern, where there is one.
+fn filter_of<P: Patterns>(
+    alloc: Global,
+    filter: Option<&Text>,
+    patterns: &mut P,
+) -> Result<Option<LabelPattern>, PlanAnswer>
+    ensures same { IfOk result (λ made. made ≡ option_copied filter.entry) }
+    ensures read { IfOk result (λ _. IfSome (option_copied filter.entry) IsPattern) }
+    ensures cause { IfErr result (HasFilterCause (option_copied filter.entry) (P.refused patterns.old)
+        (P.refused patterns.new) (P.last_refused patterns.new)) }
+    ensures kept { KeepsLast (P.last_refused patterns.old) (P.last_refused patterns.new) result }
+    ensures rises { P.refused patterns.old ≤ P.refused patterns.new }
+    ensures uncounted { answers_without_refusal result ≡ true → P.refused patterns.new ≡ P.refused patterns.old }
+{
+    let Some(text) = filter else {
+        return Ok(None);
+    };
+    match patterns.build(alloc, text.as_str()) {
+        Ok(pattern) => Ok(Some(pattern)),
+        Err(PatternAnswer::Syntax) => Err(PlanAnswer::PatternSyntax(0)),
+        Err(PatternAnswer::TooBig) => Err(PlanAnswer::PatternTooBig(0)),
+        Err(PatternAnswer::NoMemory) => Err(PlanAnswer::NoMemory),
+    }
+}
+
+// The rewrites of a custom data source, whose first pattern has this number.
+fn rewrites_from<P: Patterns>(
+    alloc: Global,
+    source: &CustomSource,
+    first: usize,
+    patterns: &mut P,
+) -> Result<Rewrites, PlanAnswer>
+    requires { first + length source.now.rewrites < 2 ^ 64 }
+    ensures same { IfOk result (λ made. made ≡ source.now.rewrites) }
+    ensures read { IfOk result (λ _. AreRead source.now.rewrites) }
+    ensures cause { IfErr result (HasRewriteCause first source.now.rewrites (P.refused patterns.old)
+        (P.refused patterns.new) (P.last_refused patterns.new)) }
+    ensures kept { KeepsLast (P.last_refused patterns.old) (P.last_refused patterns.new) result }
+    ensures rises { P.refused patterns.old ≤ P.refused patterns.new }
+    ensures uncounted { answers_without_refusal result ≡ true → P.refused patterns.new ≡ P.refused patterns.old }
+{
+    match Rewrites::build(alloc, source, patterns) {
+        Ok(made) => Ok(made),
+        Err(RewriteAnswer::PatternSyntax(place)) => Err(PlanAnswer::PatternSyntax(first + place)),
+        Err(RewriteAnswer::PatternTooBig(place)) => Err(PlanAnswer::PatternTooBig(first + place)),
+        Err(RewriteAnswer::NoMemory) => Err(PlanAnswer::NoMemory),
+    }
+}
+
+// The rewrites of each custom data source, asked or not; their patterns are numbered from 1.
+fn rewrites_of<P: Patterns>(
+    alloc: Global,
+    custom: &[CustomSource],
+    patterns: &mut P,
+) -> Result<Vec<Rewrites>, PlanAnswer>
+    ensures same { IfOk result (λ made. made.items ≡ rewrite_lists custom.now) }
+    ensures read { IfOk result (λ _. AreRead (rewrites_of custom.now)) }
+    ensures cause { IfErr result (HasRewriteCause 1 (rewrites_of custom.now) (P.refused patterns.old)
+        (P.refused patterns.new) (P.last_refused patterns.new)) }
+    ensures kept { KeepsLast (P.last_refused patterns.old) (P.last_refused patterns.new) result }
+    ensures rises { P.refused patterns.old ≤ P.refused patterns.new }
+    ensures uncounted { answers_without_refusal result ≡ true → P.refused patterns.new ≡ P.refused patterns.old }
+{
+    let mut all = Vec::new(alloc);
+    let mut first = 1usize;
+    for source in custom {
+        let Some(next) = first.checked_add(source.rewrites.len()) else {
+            return Err(PlanAnswer::NoMemory);
+        };
+        let made = rewrites_from(alloc, source, first, patterns)?;
+        all.push(made)?;
+        first = next;
+    }
+    Ok(all)
+}
+
+/// What the options ask of each file. A name means the built-in data source of that name, or else the first custom one.
+/// Pattern 0 is the filter, and the rewrites of all custom data sources, asked or not, are those from 1 on.
+///
+/// # Errors
+///
+/// `UnknownSource` gives the number, from 1, of the first name that means no data source. `PatternSyntax` and
+/// `PatternTooBig` come only where each name means one, and give a pattern before which each is one of the grammar.
+pub fn plan<P: Patterns>(
+    alloc: Global,
+    options: &Options,
+    custom: &[CustomSource],
+    patterns: &mut P,
+) -> Result<Plan, PlanAnswer>
+    ensures plan { IfOk result (IsPlan options.now.sources options.now.filter custom.now) }
+    ensures cause { IfErr result (HasCause options.now.sources options.now.filter custom.now (P.refused patterns.old)
+        (P.refused patterns.new) (P.last_refused patterns.new)) }
+    ensures kept { KeepsLast (P.last_refused patterns.old) (P.last_refused patterns.new) result }
+    ensures rises { P.refused patterns.old ≤ P.refused patterns.new }
+    ensures uncounted { answers_without_refusal result ≡ true → P.refused patterns.new ≡ P.refused patterns.old }
+{
+    let choices = choices_of(alloc, &options.sources, custom)?;
+    let filter = filter_of(alloc, options.filter.as_ref(), patterns)?;
+    let rewrites = rewrites_of(alloc, custom, patterns)?;
+    Ok(Plan::of(choices, rewrites, filter))
+}

@@ -1,0 +1,67 @@
+-- The line that a run writes where it isn't done.
+use Rattle.std.specs.Prelude.{ℕ, List, [], ◌++◌, codes, decimal, Result}
+use Rattle.size_core.specs.FaultNames.{fault_name}
+use Rattle.config_text.specs.declared.config.ConfigKind.{ConfigKind}
+use Rattle.config_text.specs.declared.config.ConfigKind.TheVariants.{Syntax, BadString, NotUtf8, UnknownField, RepeatedField, MissingField, BadName, BadBase, BadReplacement, TooMany}
+use Rattle.size_options.specs.declared.chosen.Options.{Options}
+use Rattle.size_options.specs.declared.answer.UsageKind.{UsageKind}
+use Rattle.size_options.specs.declared.answer.UsageKind.TheVariants.{Words, BadNumber, BadSort, BadDomain, TwoFormats, BadSourceList, NoFile, SynthWithFile, NoBase, DebugFile, BadPlace, TwoPlaces, PlaceFile}
+use Rattle.run_outcome.specs.declared.outcome.Outcome.{Outcome}
+use Rattle.run_outcome.specs.declared.outcome.Outcome.TheVariants.{Done, Usage, ReadFailed, TooLong, Config, UnknownSource, PatternSyntax, PatternTooBig, Bad, TooManyClaims, MappedTooLarge, NoMatch, PlaceOutside, WriteFailed, NoMemory}
+use Rattle.run_outcome.specs.Names.{file_name, source_name}
+
+abbrev pub usage_text : UsageKind → List ℕ
+usage_text Words = codes "unreadable words"
+usage_text BadNumber = codes "bad number"
+usage_text BadSort = codes "bad sort order"
+usage_text BadDomain = codes "bad domain"
+usage_text TwoFormats = codes "--csv with --tsv"
+usage_text BadSourceList = codes "bad source list"
+usage_text NoFile = codes "no file"
+usage_text SynthWithFile = codes "--synth with a file"
+usage_text NoBase = codes "no base file"
+usage_text DebugFile = codes "--debug-file needs one file"
+usage_text BadPlace = codes "bad place"
+usage_text TwoPlaces = codes "two places"
+usage_text PlaceFile = codes "a place needs one file"
+
+-- the number of a kind of fault of a configuration
+abbrev pub config_number : ConfigKind → ℕ
+config_number Syntax = 1
+config_number BadString = 2
+config_number NotUtf8 = 3
+config_number UnknownField = 4
+config_number RepeatedField = 5
+config_number MissingField = 6
+config_number BadName = 7
+config_number BadBase = 8
+config_number BadReplacement = 9
+config_number TooMany = 10
+
+-- a file's name, and what is wrong with it
+abbrev pub file_line : Result Options UsageKind → ℕ → List ℕ → List ℕ
+file_line asked i text = codes "bloaty: " ++ file_name asked i ++ codes ": " ++ text ++ codes "\n"
+
+abbrev pub pattern_line : ℕ → List ℕ → List ℕ
+pattern_line i text = codes "bloaty: pattern " ++ decimal i ++ codes ": " ++ text ++ codes "\n"
+
+-- the line for an outcome, where the words come to this
+abbrev pub line_of : Result Options UsageKind → Outcome → List ℕ
+line_of asked Done = []
+line_of asked (Usage kind) = codes "bloaty: usage: " ++ usage_text kind ++ codes "\n"
+line_of asked (ReadFailed i) = file_line asked i (codes "cannot be read")
+line_of asked (TooLong i) = file_line asked i (codes "too long")
+line_of asked (Config kind offset) =
+    codes "bloaty: " ++ file_name asked 0 ++ codes ": offset " ++ decimal offset
+    ++ codes ": config fault " ++ decimal (config_number kind) ++ codes "\n"
+line_of asked (UnknownSource i) = codes "bloaty: unknown source: " ++ source_name asked i ++ codes "\n"
+line_of asked (PatternSyntax i) = pattern_line i (codes "bad syntax")
+line_of asked (PatternTooBig i) = pattern_line i (codes "too big")
+line_of asked (Bad i fault offset) =
+    codes "bloaty: " ++ file_name asked i ++ codes ": offset " ++ decimal offset ++ codes ": " ++ fault_name fault ++ codes "\n"
+line_of asked (TooManyClaims i) = file_line asked i (codes "too many claims")
+line_of asked MappedTooLarge = codes "bloaty: mapped size too large\n"
+line_of asked NoMatch = file_line asked 2 (codes "no match")
+line_of asked PlaceOutside = codes "bloaty: place outside the file\n"
+line_of asked WriteFailed = codes "bloaty: output failed\n"
+line_of asked NoMemory = codes "bloaty: out of memory\n"

@@ -1,0 +1,44 @@
+-- The names of a run's files by number: the configuration is file 0, the files of the words have the numbers from 1 on, and a
+-- debug file, or the base files, those behind them.
+use Rattle.std.specs.Prelude.{ℕ, zero, suc, List, [], ◌∷◌, ◌++◌, codes, slice_get, unwrap_or, Option, None, Some, Result, Ok, Err}
+use Rattle.size_options.specs.declared.chosen.Options.{Options}
+use Rattle.size_options.specs.declared.answer.UsageKind.{UsageKind}
+
+-- the names of the files from 1 on; a made file is called `synth`
+abbrev pub names_of : Option ℕ → List (List ℕ) → List (List ℕ)
+names_of None files = files
+names_of (Some n) files = codes "synth" ∷ []
+
+abbrev pub file_names : Options → List (List ℕ)
+file_names o = names_of o.synth o.files
+
+-- those of the base files behind them
+abbrev pub side_names : Options → List (List ℕ)
+side_names o = file_names o ++ o.bases
+
+-- the name of the debug file, if there is one
+abbrev pub debug_names : Option (List ℕ) → List (List ℕ)
+debug_names None = []
+debug_names (Some name) = name ∷ []
+
+-- the names behind those of the files; a run has no debug file beside base files
+abbrev pub other_names : Options → List (List ℕ)
+other_names o = debug_names o.debug ++ o.bases
+
+abbrev pub all_names : Options → List (List ℕ)
+all_names o = file_names o ++ other_names o
+
+-- the name of the file of a number
+abbrev pub name_at : Options → ℕ → Option (List ℕ)
+name_at o zero = o.config
+name_at o (suc k) = slice_get (all_names o) k
+
+-- what the words name so: a file by its number, and a data source by its own from 1 on
+abbrev pub file_name : Result Options UsageKind → ℕ → List ℕ
+file_name (Err kind) i = []
+file_name (Ok o) i = unwrap_or (name_at o i) []
+
+abbrev pub source_name : Result Options UsageKind → ℕ → List ℕ
+source_name (Err kind) i = []
+source_name (Ok o) zero = []
+source_name (Ok o) (suc k) = unwrap_or (slice_get o.sources k) []

@@ -1,0 +1,250 @@
+//! The line that tells how a run ended.
+
+ghost use Rattle.std.specs.Prelude.{◌≡◌, ◌≤◌, ◌<◌, ◌++◌, [], List, ℕ, Ok, Err, codes, decimal, slice_get, unwrap_or, OnOk, OnErr};
+ghost use Rattle.outside.specs.Causes.{Rose};
+ghost use Rattle.outside.specs.Grown.{Grew};
+ghost use Rattle.size_options.specs.declared.answer.UsageKind.{UsageKind as UsageKindSpec};
+ghost use Rattle.run_outcome.specs.Line.{config_number, line_of, pattern_line, usage_text};
+ghost use Rattle.run_outcome.specs.Names.{file_name, other_names, source_name};
+ghost use Rattle.run_outcome.specs.declared.outcome.Outcome.TheVariants.{Done, Usage, NoMemory as OutOfMemory};
+
+use crate::outcome::Outcome;
+use config_text::ConfigKind;
+use itoa::Buffer;
+use outside::{Failed, Sink, write_pieces};
+use size_options::{Options, UsageKind};
+
+fn usage_text(kind: UsageKind) -> &'static str
+    ensures { result.now ≡ usage_text kind }
+{
+    match kind {
+        UsageKind::Words => "unreadable words",
+        UsageKind::BadNumber => "bad number",
+        UsageKind::BadSort => "bad sort order",
+        UsageKind::BadDomain => "bad domain",
+        UsageKind::TwoFormats => "--csv with --tsv",
+        UsageKind::BadSourceList => "bad source list",
+        UsageKind::NoFile => "no file",
+        UsageKind::SynthWithFile => "--synth with a file",
+        UsageKind::NoBase => "no base file",
+        UsageKind::DebugFile => "--debug-file needs one file",
+        UsageKind::BadPlace => "bad place",
+        UsageKind::TwoPlaces => "two places",
+        UsageKind::PlaceFile => "a place needs one file",
+    }
+}
+
+// The number of a kind of fault of a configuration.
+fn config_number(kind: ConfigKind) -> u64
+    ensures { result ≡ config_number kind }
+{
+    match kind {
+        ConfigKind::Syntax => 1,
+        ConfigKind::BadString => 2,
+        ConfigKind::NotUtf8 => 3,
+        ConfigKind::UnknownField => 4,
+        ConfigKind::RepeatedField => 5,
+        ConfigKind::MissingField => 6,
+        ConfigKind::BadName => 7,
+        ConfigKind::BadBase => 8,
+        ConfigKind::BadReplacement => 9,
+        ConfigKind::TooMany => 10,
+    }
+}
+
+// The name of a base file by its place among them.
+fn base_name(options: &Options, place: usize) -> &[u8]
+    ensures { result.now ≡ unwrap_or (slice_get options.now.bases place) [] }
+{
+    if place < options.bases.len() {
+        return options.bases.get(place).as_slice();
+    }
+    &[]
+}
+
+// The name of a debug file, or of a base file, by its place behind the files.
+fn other_name(options: &Options, place: usize) -> &[u8]
+    ensures { result.now ≡ unwrap_or (slice_get (other_names options.now) place) [] }
+{
+    match &options.debug {
+        Some(name) if place == 0 => name.as_slice(),
+        Some(_) => base_name(options, place - 1),
+        None => base_name(options, place),
+    }
+}
+
+// The name of a file by its number.
+fn file_name(options: &Options, number: usize) -> &[u8]
+    ensures { result.now ≡ file_name (Ok options.now) number }
+{
+    if number == 0 {
+        return match &options.config {
+            Some(name) => name.as_slice(),
+            None => &[],
+        };
+    }
+    match options.synth {
+        Some(_) if number == 1 => b"synth",
+        Some(_) => other_name(options, number - 2),
+        None if number <= options.files.len() => options.files.get(number - 1).as_slice(),
+        None => other_name(options, number - 1 - options.files.len()),
+    }
+}
+
+// The name of a data source by its number from 1 on.
+fn source_name(options: &Options, number: usize) -> &[u8]
+    ensures { result.now ≡ source_name (Ok options.now) number }
+{
+    if number == 0 || number > options.sources.len() {
+        return &[];
+    }
+    options.sources.get(number - 1).as_slice()
+}
+
+fn tell_file<E: Sink>(err: &mut E, name: &[u8], text: &[u8]) -> Result<(), Failed>
+    ensures whole { OnOk result (Grew (E.written err.old) (E.written err.new)
+        (codes "bloaty: " ++ name.now ++ codes ": " ++ text.now ++ codes "\n")) }
+    ensures later { E.faults err.old ≤ E.faults err.new }
+    ensures failed { OnErr result (Rose (E.faults err.old) (E.faults err.new)) }
+{
+    write_pieces(err, &[b"bloaty: ", name, b": ", text, b"\n"])
+}
+
+fn tell_fault<E: Sink>(err: &mut E, name: &[u8], offset: u64, fault: &[u8]) -> Result<(), Failed>
+    ensures whole { OnOk result (Grew (E.written err.old) (E.written err.new)
+        (codes "bloaty: " ++ name.now ++ codes ": offset " ++ decimal offset
+        ++ codes ": " ++ fault.now ++ codes "\n")) }
+    ensures later { E.faults err.old ≤ E.faults err.new }
+    ensures failed { OnErr result (Rose (E.faults err.old) (E.faults err.new)) }
+{
+    let mut digits = Buffer::new();
+    let offset = digits.format(offset).as_bytes();
+    write_pieces(
+        err,
+        &[b"bloaty: ", name, b": offset ", offset, b": ", fault, b"\n"],
+    )
+}
+
+fn write_config<E: Sink>(
+    err: &mut E,
+    name: &[u8],
+    offset: &[u8],
+    number: &[u8],
+) -> Result<(), Failed>
+    ensures whole { OnOk result (Grew (E.written err.old) (E.written err.new)
+        (codes "bloaty: " ++ name.now ++ codes ": offset " ++ offset.now
+        ++ codes ": config fault " ++ number.now ++ codes "\n")) }
+    ensures later { E.faults err.old ≤ E.faults err.new }
+    ensures failed { OnErr result (Rose (E.faults err.old) (E.faults err.new)) }
+{
+    write_pieces(
+        err,
+        &[
+            b"bloaty: ",
+            name,
+            b": offset ",
+            offset,
+            b": config fault ",
+            number,
+            b"\n",
+        ],
+    )
+}
+
+fn tell_config<E: Sink>(
+    err: &mut E,
+    name: &[u8],
+    offset: u64,
+    kind: ConfigKind,
+) -> Result<(), Failed>
+    ensures whole { OnOk result (Grew (E.written err.old) (E.written err.new)
+        (codes "bloaty: " ++ name.now ++ codes ": offset " ++ decimal offset
+        ++ codes ": config fault " ++ decimal (config_number kind) ++ codes "\n")) }
+    ensures later { E.faults err.old ≤ E.faults err.new }
+    ensures failed { OnErr result (Rose (E.faults err.old) (E.faults err.new)) }
+{
+    let mut offset_digits = Buffer::new();
+    let offset = offset_digits.format(offset).as_bytes();
+    let mut digits = Buffer::new();
+    let number = digits.format(config_number(kind)).as_bytes();
+    write_config(err, name, offset, number)
+}
+
+fn write_pattern<E: Sink>(err: &mut E, number: &[u8], text: &[u8]) -> Result<(), Failed>
+    ensures whole { OnOk result (Grew (E.written err.old) (E.written err.new)
+        (codes "bloaty: pattern " ++ number.now ++ codes ": " ++ text.now ++ codes "\n")) }
+    ensures later { E.faults err.old ≤ E.faults err.new }
+    ensures failed { OnErr result (Rose (E.faults err.old) (E.faults err.new)) }
+{
+    write_pieces(err, &[b"bloaty: pattern ", number, b": ", text, b"\n"])
+}
+
+fn tell_pattern<E: Sink>(err: &mut E, number: usize, text: &[u8]) -> Result<(), Failed>
+    ensures whole { OnOk result (Grew (E.written err.old) (E.written err.new) (pattern_line number text.now)) }
+    ensures later { E.faults err.old ≤ E.faults err.new }
+    ensures failed { OnErr result (Rose (E.faults err.old) (E.faults err.new)) }
+{
+    let mut digits = Buffer::new();
+    let number = digits.format(number).as_bytes();
+    write_pattern(err, number, text)
+}
+
+/// Writes the line for words that are misused.
+pub fn tell_usage<E: Sink>(err: &mut E, kind: UsageKind) -> Result<(), Failed>
+    ensures whole { OnOk result (Grew (E.written err.old) (E.written err.new)
+        (codes "bloaty: usage: " ++ usage_text kind ++ codes "\n")) }
+    ensures later { E.faults err.old ≤ E.faults err.new }
+    ensures failed { OnErr result (Rose (E.faults err.old) (E.faults err.new)) }
+{
+    write_pieces(
+        err,
+        &[b"bloaty: usage: ", usage_text(kind).as_bytes(), b"\n"],
+    )
+}
+
+/// Writes the line for want of memory.
+pub fn tell_no_memory<E: Sink>(err: &mut E) -> Result<(), Failed>
+    ensures whole { OnOk result (Grew (E.written err.old) (E.written err.new) (codes "bloaty: out of memory\n")) }
+    ensures later { E.faults err.old ≤ E.faults err.new }
+    ensures failed { OnErr result (Rose (E.faults err.old) (E.faults err.new)) }
+{
+    write_pieces(err, &[b"bloaty: out of memory\n"])
+}
+
+/// Writes the line for an outcome of a run with these options, which is none where the run is done. It takes no memory.
+pub fn tell<E: Sink>(err: &mut E, options: &Options, outcome: &Outcome) -> Result<(), Failed>
+    ensures whole { OnOk result (Grew (E.written err.old) (E.written err.new) (line_of (Ok options.now) outcome.now)) }
+    ensures silent { outcome.now ≡ Done → E.written err.new ≡ E.written err.old }
+    ensures later { E.faults err.old ≤ E.faults err.new }
+    ensures failed { OnErr result (Rose (E.faults err.old) (E.faults err.new)) }
+{
+    match *outcome {
+        Outcome::Done => Ok(()),
+        Outcome::Usage(kind) => tell_usage(err, kind),
+        Outcome::ReadFailed(i) => tell_file(err, file_name(options, i), b"cannot be read"),
+        Outcome::TooLong(i) => tell_file(err, file_name(options, i), b"too long"),
+        Outcome::Config(kind, offset) => tell_config(err, file_name(options, 0), offset, kind),
+        Outcome::UnknownSource(i) => write_pieces(
+            err,
+            &[b"bloaty: unknown source: ", source_name(options, i), b"\n"],
+        ),
+        Outcome::PatternSyntax(i) => tell_pattern(err, i, b"bad syntax"),
+        Outcome::PatternTooBig(i) => tell_pattern(err, i, b"too big"),
+        Outcome::Bad {
+            file,
+            fault,
+            offset,
+        } => tell_fault(
+            err,
+            file_name(options, file),
+            offset,
+            fault.name().as_bytes(),
+        ),
+        Outcome::TooManyClaims(i) => tell_file(err, file_name(options, i), b"too many claims"),
+        Outcome::MappedTooLarge => write_pieces(err, &[b"bloaty: mapped size too large\n"]),
+        Outcome::NoMatch => tell_file(err, file_name(options, 2), b"no match"),
+        Outcome::PlaceOutside => write_pieces(err, &[b"bloaty: place outside the file\n"]),
+        Outcome::WriteFailed => write_pieces(err, &[b"bloaty: output failed\n"]),
+        Outcome::NoMemory => tell_no_memory(err),
+    }
+}

@@ -1,0 +1,80 @@
+//! How a run ends.
+
+ghost use Rattle.std.specs.Prelude.{◌≡◌};
+
+use config_text::ConfigKind;
+use size_core::{Fault, NoMemory};
+use size_options::UsageKind;
+
+/// How a run ends. File 0 is the configuration, and the files have the numbers from 1 on, in the order of the words.
+#[derive(Clone, Copy, Debug, PartialEq, Eq, Hash)]
+pub enum Outcome {
+    /// The report was written whole.
+    Done,
+    /// The words ask for nothing that is done.
+    Usage(UsageKind),
+    /// The file couldn't be read.
+    ReadFailed(usize),
+    /// The file, or all files up to it together, are longer than the limit.
+    TooLong(usize),
+    /// The configuration has a fault, at an offset in bytes.
+    Config(ConfigKind, u64),
+    /// A name of `-d` means no data source; the names are numbered from 1.
+    UnknownSource(usize),
+    /// A pattern is no regular expression, or nests too deep. The filter is pattern 0, rewrites have the numbers from 1 on.
+    PatternSyntax(usize),
+    /// A pattern was refused for its size.
+    PatternTooBig(usize),
+    /// The file has a fault, at a file offset.
+    Bad {
+        file: usize,
+        fault: Fault,
+        offset: u64,
+    },
+    /// The data sources asked make more claims on the file than the limit.
+    TooManyClaims(usize),
+    /// The mapped sizes of the files pass 2^63 - 1.
+    MappedTooLarge,
+    /// The identifiers of the file and its debug file differ, or one has none.
+    NoMatch,
+    /// The place isn't below the file's end, or isn't mapped.
+    PlaceOutside,
+    /// The output didn't take the whole report.
+    WriteFailed,
+    /// There was not enough memory.
+    NoMemory,
+}
+
+impl Outcome {
+    ghost use Rattle.run_outcome.specs.Status.{status_of};
+
+    /// The exit status.
+    pub fn status(&self) -> u8
+        ensures { result ≡ status_of self.now }
+    {
+        match self {
+            Outcome::Done => 0,
+            Outcome::Bad { .. } | Outcome::NoMatch => 1,
+            Outcome::Usage(_)
+            | Outcome::Config(..)
+            | Outcome::UnknownSource(_)
+            | Outcome::PatternSyntax(_)
+            | Outcome::PatternTooBig(_)
+            | Outcome::PlaceOutside => 2,
+            Outcome::ReadFailed(_) => 3,
+            Outcome::WriteFailed => 4,
+            Outcome::NoMemory => 5,
+            Outcome::TooLong(_) | Outcome::TooManyClaims(_) | Outcome::MappedTooLarge => 6,
+        }
+    }
+}
+
+impl From<NoMemory> for Outcome {
+    ghost use Rattle.run_outcome.specs.declared.outcome.Outcome.TheVariants.{NoMemory as OutOfMemory};
+
+    ghost from_gives = { λ _ e. e ≡ OutOfMemory };
+
+    fn from(_: NoMemory) -> Outcome {
+        Outcome::NoMemory
+    }
+}

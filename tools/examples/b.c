@@ -1,0 +1,2 @@
+// The other unit.
+int twice(int value) { return value + value; }
