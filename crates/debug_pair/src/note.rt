@@ -40,7 +40,8 @@ fn filled(len: u32) -> u64
 #[tactic(auto, unfolding(crate::specs::Notes::has_note, crate::specs::Notes::note_of, crate::specs::Notes::behind_note))]
 pub fn first_note<'a>(area: &'a [u8], order: Order) -> Option<(Note<'a>, &'a [u8])>
     ensures { MatchOption result (has_note order area.now ≡ false)
-        (λ x. (has_note order area.now ≡ true) × (note_shown x.0 ≡ note_of order area.now) × (x.1.now ≡ behind_note order area.now)) }
+        (λ x. (has_note order area.now ≡ true) × (note_shown x.0 ≡ note_of order area.now)
+        × (x.1.now ≡ behind_note order area.now)) }
 {
     if area.len() < 12 {
         return None;

@@ -1,5 +1,6 @@
 -- What is seen of the host's files: counts, and the names that were asked for.
-use Rattle.std.specs.Prelude.{ℕ, List, ◌+◌, ◌-◌, ◌^◌, ◌≤◌, ◌<◌}
+use Rattle.std.specs.Prelude.{ℕ, List, ◌+◌, ◌-◌, ◌*◌, ◌^◌, ◌≤◌, ◌<◌}
+use Rattle.outside.specs.Turns.{turn_most}
 
 -- how many reads failed, how many bytes were taken, in how many turns, and each name that was asked for, in order; a turn is
 -- one read of an open file
@@ -9,7 +10,8 @@ pub record SeenHost : Type 0 where
   pub turns : ℕ
   pub asked : List (List ℕ)
 
--- Each turn but the last took one byte at least: there were no more turns than bytes, and one. A count of bytes that stands at
--- the end of its type tells nothing.
-abbrev pub EachTurnTakes : SeenHost → SeenHost → Type 0
-EachTurnTakes before now = now.taken < 2 ^ 64 - 1 → now.turns + before.taken ≤ before.turns + (now.taken + 1)
+-- Each turn but the last took one byte at least, so there were no more turns than bytes, and one; and no turn took more than
+-- turn_most. A count that stands at the end of its type tells nothing.
+pub record TurnsTake (before now : SeenHost) : Type 0 where
+  pub some : now.taken < 2 ^ 64 - 1 → now.turns + before.taken ≤ before.turns + (now.taken + 1)
+  pub most : now.turns < 2 ^ 64 - 1 → now.taken + turn_most * before.turns ≤ before.taken + turn_most * now.turns

@@ -5,3 +5,4 @@ pub mod Host
 pub mod Memory
 pub mod Pieces
 pub mod SeenPairs
+pub mod Turns

@@ -6,14 +6,14 @@ ghost use Rattle.std.specs.IoError.{error_kind};
 ghost use Rattle.std.specs.declared.io.ErrorKind.TheVariants.{OutOfMemory};
 ghost use Rattle.outside.specs.Causes.{Rose, RoseBy, raised, raised_by};
 ghost use Rattle.outside.specs.Held.{IsHeld};
-ghost use Rattle.outside.specs.Host.{EachTurnTakes};
+ghost use Rattle.outside.specs.Host.{TurnsTake};
 
 use crate::asked::Asked;
 use crate::files::{FileAnswer, Files};
 use crate::sink::{Failed, Sink};
-use crate::turns::Turns;
-use std::alloc::{AllocError, Global};
-use std::io::{ErrorKind, Read, Write};
+use crate::turns::{Turns, take_up_to};
+use std::alloc::Global;
+use std::io::{ErrorKind, Write};
 use std::marker::Model;
 use std::{fs, io, rt};
 
@@ -124,8 +124,8 @@ impl<'r, R: rt::Files> Files for HostFiles<'r, R> {
 
     ghost asked = { λ f. f.asked };
 
-    /// Takes at most one byte more than the limit, and each turn but the last takes one byte at least. A failed read counts as a
-    /// fault, and nothing else does.
+    /// Takes at most one byte more than the limit. Each turn but the last takes one byte at least, and none takes
+    /// more than 2^18. A failed read counts as a fault, and nothing else does.
     fn read(&mut self, alloc: Global, name: &str, limit: u64) -> Result<Vec<u8>, FileAnswer>
         ensures asked { self.new.asked ≡ self.old.asked ++ name.now ∷ [] }
         ensures later { self.old.faults ≤ self.new.faults }
@@ -140,7 +140,7 @@ impl<'r, R: rt::Files> Files for HostFiles<'r, R> {
         ensures counted { IsErrOf result FileAnswer.Failed → self.new.faults ≡ raised self.old.faults }
         ensures added { IfOk result (λ v. self.new.taken ≡ raised_by (length v.items) self.old.taken) }
         ensures at_most { self.new.taken ≤ self.old.taken + (limit + 1) }
-        ensures turns { EachTurnTakes self.old self.new }
+        ensures turns { TurnsTake self.old self.new }
     {
         self.asked.add(name.as_bytes());
         let mut file = match fs::open(self.rt, name) {
@@ -171,75 +171,4 @@ fn answer(faults: &mut u64, e: &io::Error) -> FileAnswer
     }
     *faults = faults.saturating_add(1);
     FileAnswer::Failed
-}
-
-// All that a reader has left, or its first `most` bytes, and the error that ended the reading. Each turn but
-// the last takes one byte at least.
-fn take_up_to<F: Read + Drop>(
-    alloc: Global,
-    file: &mut Turns<F>,
-    most: u64,
-) -> (Vec<u8>, io::Result<()>)
-    ensures within { length result.0.items ≤ most }
-    ensures taken { Consumes (F.remaining file.old.0) (F.remaining file.new.0) result.0.items }
-    ensures all { OnOk result.1 (length result.0.items < most → IsAtEnd (F.remaining file.new.0)) }
-    ensures turns { file.new.1 ≤ file.old.1 + (length result.0.items + 1) }
-{
-    let mut bytes = Vec::new(alloc);
-    let mut filled = 0;
-    while (filled as u64) < most {
-        match read_more(file, &mut bytes, filled, most - filled as u64) {
-            Ok(0) => break,
-            Ok(count) => filled += count,
-            Err(e) => {
-                bytes.truncate(filled);
-                return (bytes, Err(e));
-            }
-        }
-    }
-    bytes.truncate(filled);
-    (bytes, Ok(()))
-}
-
-// One read into a vector after its first `filled` bytes, of at most `most` bytes. Where there is no room, the
-// vector grows by zeros first; what an earlier read left of them serves the next.
-fn read_more<F: Read + Drop>(
-    file: &mut Turns<F>,
-    bytes: &mut Vec<u8>,
-    filled: usize,
-    most: u64,
-) -> io::Result<usize>
-    requires filled { filled ≤ vec_len bytes.old }
-    requires some { 0 < most }
-    requires room { vec_len bytes.old ≤ filled + most }
-    ensures room { vec_len bytes.new ≤ filled + most }
-    ensures front { take filled bytes.new.items ≡ take filled bytes.old.items }
-    ensures fits { IfOk result (λ n. filled + n ≤ vec_len bytes.new) }
-    ensures ok { IfOk result (λ n. Consumes (F.remaining file.old.0) (F.remaining file.new.0)
-        (take n (drop filled bytes.new.items))) }
-    ensures err { OnErr result (Keeps (F.remaining file.old.0) (F.remaining file.new.0)) }
-    ensures end { IfOk result (λ n. n ≡ 0 → IsAtEnd (F.remaining file.new.0)) }
-    ensures turn { file.new.1 ≤ file.old.1 + 1 }
-{
-    make_room(bytes, filled, most)?;
-    file.read(&mut bytes[filled..])
-}
-
-// How many bytes a vector grows by before a read.
-const CHUNK: u64 = 1 << 18;
-
-// Makes a vector longer than `filled`, and at most `most` longer.
-fn make_room(bytes: &mut Vec<u8>, filled: usize, most: u64) -> Result<(), AllocError>
-    requires filled { filled ≤ vec_len bytes.old }
-    requires some { 0 < most }
-    requires room { vec_len bytes.old ≤ filled + most }
-    ensures room { vec_len bytes.new ≤ filled + most }
-    ensures front { take filled bytes.new.items ≡ take filled bytes.old.items }
-    ensures within { filled ≤ vec_len bytes.new }
-    ensures some { OnOk result (filled < vec_len bytes.new) }
-{
-    if filled == bytes.len() {
-        bytes.resize(filled + most.min(CHUNK) as usize, 0)?;
-    }
-    Ok(())
 }

@@ -14,6 +14,7 @@ pub use files::{FileAnswer, Files};
 pub use host::{HostFiles, HostSink};
 pub use memory::{MemFiles, MemSink, NoFaultFiles};
 pub use sink::{Failed, Sink, write_pieces, write_whole};
+pub use turns::{Turns, take_up_to};
 
 #[cfg(test)]
 mod tests;
