@@ -10,8 +10,8 @@ pub record SeenHost : Type 0 where
   pub turns : ℕ
   pub asked : List (List ℕ)
 
--- Each turn but the last took one byte at least, so there were no more turns than bytes, and one; and no turn took more than
--- turn_most. A count that stands at the end of its type tells nothing.
+-- There were no more turns than bytes, and one, as where each turn but the last takes one byte at least; and no more bytes than
+-- turn_most a turn. A count that stands at the end of its type tells nothing.
 pub record TurnsTake (before now : SeenHost) : Type 0 where
   pub some : now.taken < 2 ^ 64 - 1 → now.turns + before.taken ≤ before.turns + (now.taken + 1)
   pub most : now.turns < 2 ^ 64 - 1 → now.taken + turn_most * before.turns ≤ before.taken + turn_most * now.turns

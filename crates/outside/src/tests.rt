@@ -36,7 +36,7 @@ fn host_files_are_read_as_host_sinks_wrote_them(rt: HostRuntime) -> Result<(), F
     assert_eq!(rt; too_long.err(), Some(FileAnswer::TooLong));
     assert!(rt; outcome.is_ok() && read.starts_with(&front));
     assert_eq!(rt; (front.len() as u64, file.failures()), (len - 1, 0));
-    assert!(rt; file.count() > 1);
+    assert!(rt; file.count() > 1 && file.late() == 0);
     assert_eq!(rt; absent.err(), Some(FileAnswer::Failed));
     Ok(())
 }

@@ -1,6 +1,6 @@
 //! The reading of a file in turns, which are counted.
 
-ghost use Rattle.std.specs.Prelude.{◌≡◌, ◌≢◌, ◌≤◌, ◌<◌, ◌+◌, ◌-◌, ◌*◌, ◌^◌, IfErr, IfOk, OnOk, OnErr, length, take, drop, vec_len};
+ghost use Rattle.std.specs.Prelude.{◌≡◌, ◌≢◌, ◌≤◌, ◌<◌, ◌+◌, ◌-◌, ◌*◌, ◌^◌, false, true, nat_eq, if◌then◌else◌, IfErr, IfOk, OnOk, OnErr, length, take, drop, vec_len};
 ghost use Rattle.std.specs.Io.{ReadsAtMost};
 ghost use Rattle.std.specs.Io.KnownBytes.{Consumes, IsAtEnd, Keeps, ReadConsumes};
 ghost use Rattle.std.specs.IoError.{error_kind};
@@ -13,12 +13,14 @@ use std::io;
 use std::io::Read;
 use std::marker::Model;
 
-/// A reader, how often it was read, and how often that failed: each read is a turn.
+/// A reader and what is told of its turns: each read is one.
 #[derive(Drop)]
 pub struct Turns<F: Read + Drop> {
     file: F,
     count: u64,
     failures: u64,
+    is_dry: bool,
+    late: u64,
 }
 
 impl<F: Read + Drop> Model for Turns<F> {
@@ -26,18 +28,26 @@ impl<F: Read + Drop> Model for Turns<F> {
 
     ghost Value = { SeenTurns F };
 
-    ghost view = { λ t. record { file = t.file; count = t.count; failures = t.failures } };
+    ghost view = { λ t. record {
+      file = t.file;
+      count = t.count;
+      failures = t.failures;
+      is_dry = t.is_dry;
+      late = t.late;
+    } };
 }
 
 impl<F: Read + Drop> Turns<F> {
     /// A reader that had no turn.
     pub fn new(file: F) -> Turns<F>
-        ensures { result ≡ record { file = file; count = 0; failures = 0 } }
+        ensures { result ≡ record { file = file; count = 0; failures = 0; is_dry = false; late = 0 } }
     {
         Turns {
             file,
             count: 0,
             failures: 0,
+            is_dry: false,
+            late: 0,
         }
     }
 
@@ -54,6 +64,13 @@ impl<F: Read + Drop> Turns<F> {
     {
         self.failures
     }
+
+    /// How many turns came behind one that took no byte. A count stops at the end of its type.
+    pub fn late(&self) -> u64
+        ensures { result ≡ self.now.late }
+    {
+        self.late
+    }
 }
 
 impl<F: Read + Drop> Read for Turns<F> {
@@ -66,11 +83,21 @@ impl<F: Read + Drop> Read for Turns<F> {
         ensures later { self.old.count ≤ self.new.count }
         ensures failed { OnErr result (self.new.failures ≡ raised self.old.failures) }
         ensures unfailed { OnOk result (self.new.failures ≡ self.old.failures) }
+        ensures late { self.new.late ≡ (if self.old.is_dry then raised self.old.late else self.old.late) }
+        ensures took { IfOk result (λ n. self.new.is_dry ≡ nat_eq n 0) }
+        ensures took_none { OnErr result (self.new.is_dry ≡ true) }
     {
         self.count = self.count.saturating_add(1);
+        if self.is_dry {
+            self.late = self.late.saturating_add(1);
+        }
         let outcome = self.file.read(buf);
-        if outcome.is_err() {
-            self.failures = self.failures.saturating_add(1);
+        match &outcome {
+            Ok(count) => self.is_dry = *count == 0,
+            Err(_) => {
+                self.is_dry = true;
+                self.failures = self.failures.saturating_add(1);
+            }
         }
         outcome
     }
@@ -90,6 +117,7 @@ pub fn take_up_to<F: Read + Drop>(
     ensures within { length result.0.items ≤ most }
     ensures taken { Consumes (F.remaining file.old.file) (F.remaining file.new.file) result.0.items }
     ensures all { OnOk result.1 (length result.0.items < most → IsAtEnd (F.remaining file.new.file)) }
+    ensures each { file.old.is_dry ≡ false → file.new.late ≡ file.old.late }
     ensures turns { file.new.count ≤ file.old.count + (length result.0.items + 1) }
     ensures chunks { file.new.count < 2 ^ 64 - 1 →
         length result.0.items + turn_most * file.old.count ≤ turn_most * file.new.count }
@@ -131,6 +159,8 @@ fn read_more<F: Read + Drop>(
         (take n (drop filled bytes.new.items))) }
     ensures err { OnErr result (Keeps (F.remaining file.old.file) (F.remaining file.new.file)) }
     ensures end { IfOk result (λ n. n ≡ 0 → IsAtEnd (F.remaining file.new.file)) }
+    ensures in_time { file.old.is_dry ≡ false → file.new.late ≡ file.old.late }
+    ensures took { IfOk result (λ n. n ≢ 0 → file.new.is_dry ≡ false) }
     ensures turn { file.new.count ≤ file.old.count + 1 }
     ensures later { file.old.count ≤ file.new.count }
     ensures counted { IfOk result (λ _. file.new.count ≡ raised file.old.count) }
