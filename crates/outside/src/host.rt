@@ -1,20 +1,23 @@
 //! The files and writers of the host: the trusted edge, which tells nothing of what files hold.
 
-ghost use Rattle.std.specs.Prelude.{◌≡◌, ◌≢◌, ◌≤◌, ◌<◌, ◌+◌, ◌↔◌, ◌++◌, ◌∷◌, [], None, IfOk, OnOk, OnErr, IsErrOf, length, take, drop, vec_len};
-ghost use Rattle.std.specs.Io.KnownBytes.{Appends, Consumes, Keeps, IsAtEnd};
+ghost use Rattle.std.specs.Prelude.{◌≡◌, ◌≢◌, ◌≤◌, ◌<◌, ◌+◌, ◌↔◌, ◌++◌, ◌∷◌, [], None, IfOk, OnOk, OnErr, IsErrOf, length, take};
+ghost use Rattle.std.specs.Io.KnownBytes.{Appends};
 ghost use Rattle.std.specs.IoError.{error_kind};
 ghost use Rattle.std.specs.declared.io.ErrorKind.TheVariants.{OutOfMemory};
-ghost use Rattle.outside.specs.Causes.{Rose, RoseBy, raised, raised_by};
+ghost use Rattle.outside.specs.Causes.{Rose, RoseBy, raised};
 ghost use Rattle.outside.specs.Held.{IsHeld};
-ghost use Rattle.outside.specs.Host.{TurnsTake};
+ghost use Rattle.outside.specs.Host.{taken_by};
+ghost use Rattle.outside.specs.Turns.{Took, TookAtMost};
 
-use crate::asked::Asked;
 use crate::files::{FileAnswer, Files};
+use crate::notes::Notes;
+use crate::reading::take_up_to;
 use crate::sink::{Failed, Sink};
-use crate::turns::{Turns, take_up_to};
+use crate::turns::{TurnReader, Turns};
 use std::alloc::Global;
-use std::io::{ErrorKind, Write};
+use std::io::{ErrorKind, Read, Write};
 use std::marker::Model;
+use std::mem::replace;
 use std::{fs, io, rt};
 
 /// A writer of std, flushed after each write. It tells nothing of what it wrote.
@@ -80,9 +83,8 @@ impl<W: Write + Drop> Sink for HostSink<W> {
 pub struct HostFiles<'r, R: rt::Files> {
     rt: &'r R,
     faults: u64,
-    taken: u64,
-    turns: u64,
-    asked: Asked,
+    turns: Turns,
+    asked: Notes,
 }
 
 impl<'r, R: rt::Files> Model for HostFiles<'r, R> {
@@ -90,25 +92,19 @@ impl<'r, R: rt::Files> Model for HostFiles<'r, R> {
 
     ghost Value = { SeenHost };
 
-    ghost view = { λ f. record {
-      faults = f.faults;
-      taken = f.taken;
-      turns = f.turns;
-      asked = f.asked.names;
-    } };
+    ghost view = { λ f. record { faults = f.faults; turns = f.turns; asked = f.asked.items } };
 }
 
 impl<'r, R: rt::Files> HostFiles<'r, R> {
-    /// The files of a runtime. No read has failed, no byte was taken in any turn, and no name was asked for.
+    /// The files of a runtime. No read has failed, there was no turn, and no name was asked for.
     pub fn new(rt: &'r R) -> HostFiles<'r, R>
-        ensures { result ≡ record { faults = 0; taken = 0; turns = 0; asked = [] } }
+        ensures { result ≡ record { faults = 0; turns = []; asked = [] } }
     {
         HostFiles {
             rt,
             faults: 0,
-            taken: 0,
-            turns: 0,
-            asked: Asked::new(),
+            turns: Turns::new(),
+            asked: Notes::new(),
         }
     }
 }
@@ -120,7 +116,7 @@ impl<'r, R: rt::Files> Files for HostFiles<'r, R> {
 
     ghost last_failed = { λ _. None };
 
-    ghost taken = { λ f. f.taken };
+    ghost taken = { taken_by };
 
     ghost asked = { λ f. f.asked };
 
@@ -129,33 +125,46 @@ impl<'r, R: rt::Files> Files for HostFiles<'r, R> {
     fn read(&mut self, alloc: Global, name: &str, limit: u64) -> Result<Vec<u8>, FileAnswer>
         ensures asked { self.new.asked ≡ self.old.asked ++ name.now ∷ [] }
         ensures later { self.old.faults ≤ self.new.faults }
-        ensures more { self.old.taken ≤ self.new.taken }
+        ensures more { taken_by self.old ≤ taken_by self.new }
         ensures within { IfOk result (λ v. length v.items ≤ limit) }
         ensures untold { IfOk result (λ v. IsHeld None name.now v.items) }
-        ensures taken { IfOk result (λ v. RoseBy (length v.items) self.old.taken self.new.taken) }
+        ensures taken { IfOk result (λ v. RoseBy (length v.items) (taken_by self.old) (taken_by self.new)) }
         ensures failed { IsErrOf result FileAnswer.Failed → Rose self.old.faults self.new.faults }
         ensures uncounted { ¬ IsErrOf result FileAnswer.Failed → self.new.faults ≡ self.old.faults }
-        ensures too_long { IsErrOf result FileAnswer.TooLong → RoseBy (limit + 1) self.old.taken self.new.taken }
+        ensures too_long { IsErrOf result FileAnswer.TooLong → RoseBy (limit + 1) (taken_by self.old) (taken_by self.new) }
 
         ensures counted { IsErrOf result FileAnswer.Failed → self.new.faults ≡ raised self.old.faults }
-        ensures added { IfOk result (λ v. self.new.taken ≡ raised_by (length v.items) self.old.taken) }
-        ensures at_most { self.new.taken ≤ self.old.taken + (limit + 1) }
-        ensures turns { TurnsTake self.old self.new }
+        ensures turns { TookAtMost (limit + 1) self.old.turns self.new.turns }
+        ensures all { IfOk result (λ v. Took self.old.turns self.new.turns v.items) }
     {
         self.asked.add(name.as_bytes());
-        let mut file = match fs::open(self.rt, name) {
-            Ok(file) => Turns::new(file),
+        let file = match fs::open(self.rt, name) {
+            Ok(file) => file,
             Err(e) => return Err(answer(&mut self.faults, &e)),
         };
-        let (bytes, outcome) = take_up_to(alloc, &mut file, limit.saturating_add(1));
-        self.taken = self.taken.saturating_add(bytes.len() as u64);
-        self.turns = self.turns.saturating_add(file.count());
+        let (bytes, outcome) = read_file(alloc, file, limit.saturating_add(1), &mut self.turns);
         match outcome {
             Err(e) => Err(answer(&mut self.faults, &e)),
             Ok(()) if bytes.len() as u64 > limit => Err(FileAnswer::TooLong),
             Ok(()) => Ok(bytes),
         }
     }
+}
+
+// The bytes of an open file, up to so many, with its turns noted behind those that were before.
+fn read_file<F: Read + Drop>(
+    alloc: Global,
+    file: F,
+    most: u64,
+    turns: &mut Turns,
+) -> (Vec<u8>, io::Result<()>)
+    ensures within { length result.0.items ≤ most }
+    ensures turns { Took turns.old turns.new result.0.items }
+{
+    let mut file = TurnReader::new(file, replace(turns, Turns::new()));
+    let read = take_up_to(alloc, &mut file, most);
+    *turns = file.into_turns();
+    read
 }
 
 // The answer for an error: want of memory is no fault.

