@@ -9,10 +9,10 @@ use std::io::ErrorKind;
 use std::process::ExitCode;
 use std::{env, io};
 
-// The status where the system doesn't give the words and the cause isn't want of memory.
+// The status if the system doesn't give the arguments, for another reason than running out of memory.
 const NO_WORDS: u8 = 7;
 
-// The words after the program's name.
+// The arguments after the program's name.
 fn words_of(rt: &HostRuntime) -> io::Result<Vec<String>> {
     let mut words = Vec::new(rt.alloc());
     for word in env::args(rt)?.skip(1) {
@@ -21,7 +21,7 @@ fn words_of(rt: &HostRuntime) -> io::Result<Vec<String>> {
     Ok(words)
 }
 
-// The status where there are no words.
+// The status if the arguments can't be had.
 fn status_without_words(e: &io::Error) -> u8 {
     if e.kind() == ErrorKind::OutOfMemory {
         5

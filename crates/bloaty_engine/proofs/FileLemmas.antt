@@ -23,12 +23,13 @@ use Rattle.run_outcome.specs.declared.outcome.Outcome.TheVariants.{Done, Usage, 
 use Rattle.file_profile.specs.Counts.{file_size_where, vm_size_where}
 use Rattle.bloaty_engine.specs.Named.{AreHeld}
 use Rattle.file_profile.specs.Sources.{Chosen}
-use Rattle.bloaty_engine.specs.Steps.{Batch, EndsAs, EndsFiles, Finds, HasCounted, batch_of}
+use Rattle.bloaty_engine.specs.Steps.{Batch, EndsAs, EndsFiles, Finds, HasCounted, IsFileOf, Nowhere, batch_of, counted_batch}
 use Rattle.bloaty_engine.specs.Verdict.{◌>>=◌, counted_file, counted_from, end_at, file_limit, if_viewed, total_limit}
 use Rattle.file_profile.specs.Reasons.{of_file_alone, refused_as}
 use Rattle.file_profile.specs.Views.{Answers, alone, if_opened, opened_viewed, viewed}
 use Rattle.file_profile.proofs.AloneLemmas.{ok-before}
 use Rattle.file_profile.proofs.LawLemmas.{of-viewed}
+use Rattle.bloaty_engine.proofs.EndLemmas.{ends-read, ends-so}
 use Rattle.bloaty_engine.proofs.ReadLemmas.{take-next, take-none}
 
 -- One file.
@@ -286,51 +287,24 @@ module _ (held : Option Pairs) (limits : Limits) (sources : List Chosen) (filter
       (more : Extends held batch.first batch.names to.bytes (batch.first + k) b)
       → slice_get batch.names k ≡ Some name → k < length batch.names → lengths ≤ total_limit limits → limit ≡ min (file_limit limits) (total_limit limits - lengths) → Finds (batch.first + k) limit b (Err end)
       → (bytes : ℕ → List ℕ) × AreHeld held batch.first batch.names bytes × EndsFiles limits sources filter batch bytes (Err end)
-  read-ends k lengths limit t name b (ReadFailed i) to more at lt le is e = (more.bytes, more.are, (k, e, lt, ok-is _ to.files (recounted k lengths t b to more (omega arith))))
-  read-ends k lengths limit t name b (TooLong i) to more at lt le is e =
-      let long : counted_file limits sources (batch.first + k) lengths t.mapped name b ≡ Err (TooLong (batch.first + k)) = counted-long limits sources (batch.first + k) lengths t.mapped name b (rw (← is) e.1) le in
-      (more.bytes, more.are, rw e.0 (counted-stop k lengths t name b (TooLong (batch.first + k)) to more at (omega arith) long))
-  read-ends k lengths limit t name b NoMemory to more at lt le is e = (more.bytes, more.are, tt)
-  read-ends k lengths limit t name b Done to more at lt le is e = absurd e
-  read-ends k lengths limit t name b (Usage kind) to more at lt le is e = absurd e
-  read-ends k lengths limit t name b (Config kind offset) to more at lt le is e = absurd e
-  read-ends k lengths limit t name b (UnknownSource i) to more at lt le is e = absurd e
-  read-ends k lengths limit t name b (PatternSyntax i) to more at lt le is e = absurd e
-  read-ends k lengths limit t name b (PatternTooBig i) to more at lt le is e = absurd e
-  read-ends k lengths limit t name b (Bad i fault offset) to more at lt le is e = absurd e
-  read-ends k lengths limit t name b (TooManyClaims i) to more at lt le is e = absurd e
-  read-ends k lengths limit t name b MappedTooLarge to more at lt le is e = absurd e
-  read-ends k lengths limit t name b NoMatch to more at lt le is e = absurd e
-  read-ends k lengths limit t name b PlaceOutside to more at lt le is e = absurd e
-  read-ends k lengths limit t name b WriteFailed to more at lt le is e = absurd e
+  read-ends k lengths limit t name b end to more at lt le is e = (
+    more.bytes,
+    more.are,
+    ends-read (IsFileOf limits sources batch more.bytes) (counted_batch limits sources more.bytes batch) (batch.first + k) limit b end (λ i same number. (k, number, lt, ok-is _ to.files (recounted k lengths t b to more (omega arith))))
+        (λ over. counted-stop k lengths t name b (TooLong (batch.first + k)) to more at (omega arith) (counted-long limits sources (batch.first + k) lengths t.mapped name b (rw (← is) over) le)) e,
+  )
 
   -- how a run ends at a file that is read
   pub count-ends : (k lengths : ℕ) (t : Totals) (name b : List ℕ) (end : Outcome) (to : AreCountedTo held limits sources filter batch k lengths t)
       (more : Extends held batch.first batch.names to.bytes (batch.first + k) b)
       → slice_get batch.names k ≡ Some name → k < length batch.names → EndsAs {X = FileView} (Err end) (counted_file limits sources (batch.first + k) lengths t.mapped name b)
       → (bytes : ℕ → List ℕ) × AreHeld held batch.first batch.names bytes × EndsFiles limits sources filter batch bytes (Err end)
-  count-ends k lengths t name b end to more at lt e = by-end end e
-    where
-      stopped : (end : Outcome) → counted_file limits sources (batch.first + k) lengths t.mapped name b ≡ Err end → counted_from limits sources more.bytes batch.first batch.before 0 batch.names ≡ Err end
-      stopped end e = counted-stop k lengths t name b end to more at (omega arith) e
-
-      by-end : (end : Outcome) → EndsAs {X = FileView} (Err end) (counted_file limits sources (batch.first + k) lengths t.mapped name b)
-          → (bytes : ℕ → List ℕ) × AreHeld held batch.first batch.names bytes × EndsFiles limits sources filter batch bytes (Err end)
-      by-end (ReadFailed i) e = absurd e
-      by-end NoMemory e = (more.bytes, more.are, tt)
-      by-end (TooLong i) e = (more.bytes, more.are, stopped (TooLong i) e)
-      by-end Done e = (more.bytes, more.are, stopped Done e)
-      by-end (Usage kind) e = (more.bytes, more.are, stopped (Usage kind) e)
-      by-end (Config kind offset) e = (more.bytes, more.are, stopped (Config kind offset) e)
-      by-end (UnknownSource i) e = (more.bytes, more.are, stopped (UnknownSource i) e)
-      by-end (PatternSyntax i) e = (more.bytes, more.are, stopped (PatternSyntax i) e)
-      by-end (PatternTooBig i) e = (more.bytes, more.are, stopped (PatternTooBig i) e)
-      by-end (Bad i fault offset) e = (more.bytes, more.are, stopped (Bad i fault offset) e)
-      by-end (TooManyClaims i) e = (more.bytes, more.are, stopped (TooManyClaims i) e)
-      by-end MappedTooLarge e = (more.bytes, more.are, stopped MappedTooLarge e)
-      by-end NoMatch e = (more.bytes, more.are, stopped NoMatch e)
-      by-end PlaceOutside e = (more.bytes, more.are, stopped PlaceOutside e)
-      by-end WriteFailed e = (more.bytes, more.are, stopped WriteFailed e)
+  count-ends k lengths t name b end to more at lt e = (
+    more.bytes,
+    more.are,
+    ends-so Nowhere (IsFileOf limits sources batch more.bytes) (counted_file limits sources (batch.first + k) lengths t.mapped name b) (counted_batch limits sources more.bytes batch) end (λ i same never. absurd never)
+        (λ is. counted-stop k lengths t name b end to more at (omega arith) is) e,
+  )
 
   -- all files
   pub all-counted : (k lengths : ℕ) (t : Totals) → AreCountedTo held limits sources filter batch k lengths t → length batch.names ≤ k
@@ -368,27 +342,9 @@ made-counted limits sources name file f e = ap (λ r. r >>= λ g. (Ok [] >>= λ 
 
 pub made-ends : (limits : Limits) (sources : List Chosen) (filter : Option (List ℕ → Bool)) (name file : List ℕ) (end : Outcome) → EndsAs {X = FileView} (Err end) (counted_file limits sources 1 0 0 name file)
     → EndsFiles limits sources filter (batch_of 0 0 (name ∷ [])) (λ i. file) (Err end)
-made-ends limits sources filter name file end e = by-end end e
-  where
-    stopped : (end : Outcome) → counted_file limits sources 1 0 0 name file ≡ Err end → (counted_file limits sources 1 0 0 name file >>= λ g. (Ok [] >>= λ others. Ok (g ∷ others))) ≡ Err end
-    stopped end e = ap (λ r. r >>= λ g. (Ok [] >>= λ others. Ok (g ∷ others))) e
-
-    by-end : (end : Outcome) → EndsAs {X = FileView} (Err end) (counted_file limits sources 1 0 0 name file) → EndsFiles limits sources filter (batch_of 0 0 (name ∷ [])) (λ i. file) (Err end)
-    by-end (ReadFailed i) e = absurd e
-    by-end NoMemory e = tt
-    by-end (TooLong i) e = stopped (TooLong i) e
-    by-end Done e = stopped Done e
-    by-end (Usage kind) e = stopped (Usage kind) e
-    by-end (Config kind offset) e = stopped (Config kind offset) e
-    by-end (UnknownSource i) e = stopped (UnknownSource i) e
-    by-end (PatternSyntax i) e = stopped (PatternSyntax i) e
-    by-end (PatternTooBig i) e = stopped (PatternTooBig i) e
-    by-end (Bad i fault offset) e = stopped (Bad i fault offset) e
-    by-end (TooManyClaims i) e = stopped (TooManyClaims i) e
-    by-end MappedTooLarge e = stopped MappedTooLarge e
-    by-end NoMatch e = stopped NoMatch e
-    by-end PlaceOutside e = stopped PlaceOutside e
-    by-end WriteFailed e = stopped WriteFailed e
+made-ends limits sources filter name file end e =
+    ends-so Nowhere (IsFileOf limits sources (batch_of 0 0 (name ∷ [])) (λ i. file)) (counted_file limits sources 1 0 0 name file) (counted_batch limits sources (λ i. file) (batch_of 0 0 (name ∷ []))) end (λ i same never. absurd never)
+    (λ is. ap (λ r. r >>= λ g. (Ok [] >>= λ others. Ok (g ∷ others))) is) e
 
 -- what may still be read is within the limit of all files
 pub min-within : (file total lengths limit : ℕ) → limit ≡ min file (total - lengths) → limit ≤ total - lengths

@@ -6,9 +6,9 @@ use Rattle.size_core.specs.declared.limits.Limits.{Limits}
 use Rattle.size_options.specs.declared.chosen.Options.{Options}
 use Rattle.file_profile.specs.Sources.{Chosen}
 use Rattle.run_outcome.specs.declared.outcome.Outcome.{Outcome}
-use Rattle.run_outcome.specs.declared.outcome.Outcome.TheVariants.{Done, Usage, ReadFailed, TooLong, Config, UnknownSource, PatternSyntax, PatternTooBig, Bad, TooManyClaims, MappedTooLarge, NoMatch, PlaceOutside, WriteFailed, NoMemory}
 use Rattle.run_outcome.specs.Names.{debug_names, file_names, other_names}
-use Rattle.bloaty_engine.specs.Reports.{EndsCounting, EndsFinding}
+use Rattle.bloaty_engine.specs.Reports.{EndsCounting, EndsFinding, IsCountedFile, IsReadFile}
+use Rattle.bloaty_engine.proofs.EndLemmas.{ends-so}
 use Rattle.bloaty_engine.specs.Verdict.{Counted, Sides, as_counted, counted_sides, found, found_by}
 
 -- the other names are those of the base files
@@ -22,18 +22,5 @@ module _ (limits : Limits) (sources : List Chosen) (files : ℕ → List ℕ) (o
 
   pub counting-found : (r : Result (Vec ℕ Global) Outcome) → EndsCounting limits sources files o r → EndsFinding limits sources files o r
   counting-found (Ok out) e = (Counted e.0, found-sides (Ok e.0) e.1, e.2)
-  counting-found (Err (ReadFailed i)) e = rw no_debug e
-  counting-found (Err NoMemory) e = tt
-  counting-found (Err (TooLong i)) e = found-sides (Err (TooLong i)) e
-  counting-found (Err Done) e = found-sides (Err Done) e
-  counting-found (Err (Usage kind)) e = found-sides (Err (Usage kind)) e
-  counting-found (Err (Config kind offset)) e = found-sides (Err (Config kind offset)) e
-  counting-found (Err (UnknownSource i)) e = found-sides (Err (UnknownSource i)) e
-  counting-found (Err (PatternSyntax i)) e = found-sides (Err (PatternSyntax i)) e
-  counting-found (Err (PatternTooBig i)) e = found-sides (Err (PatternTooBig i)) e
-  counting-found (Err (Bad i fault offset)) e = found-sides (Err (Bad i fault offset)) e
-  counting-found (Err (TooManyClaims i)) e = found-sides (Err (TooManyClaims i)) e
-  counting-found (Err MappedTooLarge) e = found-sides (Err MappedTooLarge) e
-  counting-found (Err NoMatch) e = found-sides (Err NoMatch) e
-  counting-found (Err PlaceOutside) e = found-sides (Err PlaceOutside) e
-  counting-found (Err WriteFailed) e = found-sides (Err WriteFailed) e
+  counting-found (Err end) e =
+      ends-so (IsCountedFile limits sources files o) (IsReadFile limits sources files o) (counted_sides limits sources files (file_names o) o.bases) (found limits sources files o) end (λ i same p. rw no_debug p) (λ so. found-sides (Err end) so) e

@@ -1,3 +1,4 @@
+pub mod EndLemmas
 pub mod FileLemmas
 pub mod HeldLemmas
 pub mod KindLemmas
@@ -5,6 +6,8 @@ pub mod PairLemmas
 pub mod PlaceLemmas
 pub mod PlanLemmas
 pub mod ReadLemmas
+pub mod ReportLemmas
 pub mod RunLemmas
 pub mod SidesLemmas
+pub mod StepLemmas
 pub mod TakenLemmas

@@ -16,7 +16,7 @@ use Rattle.file_profile.specs.PairViews.{PairAnswers, pair_viewed}
 use Rattle.file_profile.specs.Sources.{Chosen}
 use Rattle.rollup.specs.Totals.{IsTotals, Totals}
 use Rattle.report_rows.specs.Rows.{row_tree}
-use Rattle.size_options.specs.Answers.{IsPair}
+use Rattle.size_options.specs.Answers.{IsOneInput, IsPair}
 use Rattle.file_profile.specs.Counts.{filter_test}
 use Rattle.file_profile.proofs.MapLemmas.{err-same}
 use Rattle.size_options.specs.declared.chosen.Options.{Options}
@@ -24,12 +24,14 @@ use Rattle.run_outcome.specs.declared.outcome.Outcome.{Outcome}
 use Rattle.run_outcome.specs.declared.outcome.Outcome.TheVariants.{Done, Usage, ReadFailed, TooLong, Config, UnknownSource, PatternSyntax, PatternTooBig, Bad, TooManyClaims, MappedTooLarge, NoMatch, PlaceOutside, WriteFailed, NoMemory}
 use Rattle.bloaty_engine.specs.Named.{AreFiles, AreHeld}
 use Rattle.run_outcome.specs.Names.{all_names, debug_names, file_names, name_at, names_of, other_names}
-use Rattle.bloaty_engine.specs.PairSteps.{EndsFirst, EndsPair, EndsPaired}
-use Rattle.bloaty_engine.specs.Steps.{EndsAs, Finds}
-use Rattle.bloaty_engine.specs.Reading.{files_to_read, unmade_names}
+use Rattle.bloaty_engine.specs.PairSteps.{EndsFirst, EndsPair, EndsPaired, IsOfPair}
+use Rattle.bloaty_engine.specs.Steps.{EndsAs, Finds, Nowhere, batch_of, batch_reading}
+use Rattle.bloaty_engine.proofs.StepLemmas.{IsPart, files-part}
+use Rattle.bloaty_engine.specs.Reading.{files_to_read, reading_for, unmade_names}
 use Rattle.bloaty_engine.specs.Report.{printed, row_options}
-use Rattle.bloaty_engine.specs.Reports.{EndsFinding}
+use Rattle.bloaty_engine.specs.Reports.{EndsFinding, IsReadFile}
 use Rattle.bloaty_engine.specs.Verdict.{◌>>=◌, Counted, Sides, as_counted, counted_pair, end_of_pair, file_limit, first_name, found, found_by, if_paired, if_sound, one_file, opened_first, total_limit}
+use Rattle.bloaty_engine.proofs.EndLemmas.{ends-read, ends-so}
 use Rattle.bloaty_engine.proofs.SidesLemmas.{beyond, size-report, sizes-for}
 
 below : (m n : ℕ) → m < n → nat_lt m n ≡ true
@@ -62,23 +64,7 @@ ok-sound limits file le total ok = rw (first-within limits file le total) ok
 module _ (limits : Limits) (file : List ℕ) (limit : ℕ) (is : limit ≡ min (file_limit limits) (total_limit limits)) where
   -- a read that failed
   pub first-read : (end : Outcome) → Finds 1 limit file (Err end) → EndsFirst limits file (Err end)
-  first-read (TooLong i) e =
-      let number : i ≡ 1 = e.0 in
-      rw number (first-long limits file (omega (arith, is, e.1)))
-  first-read (ReadFailed i) e = e
-  first-read NoMemory e = tt
-  first-read Done e = absurd e
-  first-read (Usage kind) e = absurd e
-  first-read (Config kind offset) e = absurd e
-  first-read (UnknownSource i) e = absurd e
-  first-read (PatternSyntax i) e = absurd e
-  first-read (PatternTooBig i) e = absurd e
-  first-read (Bad i fault offset) e = absurd e
-  first-read (TooManyClaims i) e = absurd e
-  first-read MappedTooLarge e = absurd e
-  first-read NoMatch e = absurd e
-  first-read PlaceOutside e = absurd e
-  first-read WriteFailed e = absurd e
+  first-read end e = ends-read (λ i. i ≡ 1) (opened_first limits file) 1 limit file end (λ i same number. number) (λ over. first-long limits file (omega (arith, is, over))) e
 
   -- a file whose format has a fault
   module _ (few : length file ≤ limit) where
@@ -89,21 +75,7 @@ module _ (limits : Limits) (file : List ℕ) (limit : ℕ) (is : limit ≡ min (
     first-sound ok = rw same-first ok
 
     pub first-fault : (end : Outcome) → EndsAs {X = Binary} (Err end) (if_sound (opened file)) → EndsFirst limits file (Err end)
-    first-fault (ReadFailed i) e = absurd e
-    first-fault NoMemory e = tt
-    first-fault (TooLong i) e = same-first ∙ e
-    first-fault Done e = same-first ∙ e
-    first-fault (Usage kind) e = same-first ∙ e
-    first-fault (Config kind offset) e = same-first ∙ e
-    first-fault (UnknownSource i) e = same-first ∙ e
-    first-fault (PatternSyntax i) e = same-first ∙ e
-    first-fault (PatternTooBig i) e = same-first ∙ e
-    first-fault (Bad i fault offset) e = same-first ∙ e
-    first-fault (TooManyClaims i) e = same-first ∙ e
-    first-fault MappedTooLarge e = same-first ∙ e
-    first-fault NoMatch e = same-first ∙ e
-    first-fault PlaceOutside e = same-first ∙ e
-    first-fault WriteFailed e = same-first ∙ e
+    first-fault end e = ends-so Nowhere (λ i. i ≡ 1) (if_sound (opened file)) (opened_first limits file) end (λ i same never. absurd never) (λ so. same-first ∙ so) e
 
 -- The pair.
 
@@ -117,21 +89,7 @@ module _ (limits : Limits) (sources : List Chosen) (filter : Option (List ℕ �
 
   -- the run ends at the first file
   pub pair-first : (debug : List ℕ) (end : Outcome) → EndsFirst limits file (Err end) → EndsPair limits sources filter name file debug (Err end)
-  pair-first debug (ReadFailed i) e = (0, e, omega arith, tt)
-  pair-first debug NoMemory e = tt
-  pair-first debug (TooLong i) e = after-first debug (Err (TooLong i)) e
-  pair-first debug Done e = after-first debug (Err Done) e
-  pair-first debug (Usage kind) e = after-first debug (Err (Usage kind)) e
-  pair-first debug (Config kind offset) e = after-first debug (Err (Config kind offset)) e
-  pair-first debug (UnknownSource i) e = after-first debug (Err (UnknownSource i)) e
-  pair-first debug (PatternSyntax i) e = after-first debug (Err (PatternSyntax i)) e
-  pair-first debug (PatternTooBig i) e = after-first debug (Err (PatternTooBig i)) e
-  pair-first debug (Bad i fault offset) e = after-first debug (Err (Bad i fault offset)) e
-  pair-first debug (TooManyClaims i) e = after-first debug (Err (TooManyClaims i)) e
-  pair-first debug MappedTooLarge e = after-first debug (Err MappedTooLarge) e
-  pair-first debug NoMatch e = after-first debug (Err NoMatch) e
-  pair-first debug PlaceOutside e = after-first debug (Err PlaceOutside) e
-  pair-first debug WriteFailed e = after-first debug (Err WriteFailed) e
+  pair-first debug end e = ends-so (λ i. i ≡ 1) (IsOfPair limits file) (opened_first limits file) (counted_pair limits sources name file debug) end (λ i same number. (0, number, omega arith, tt)) (λ so. after-first debug (Err end) so) e
 
   module _ (first : IsOk (opened_first limits file)) (debug : List ℕ) where
     behind-first : counted_pair limits sources name file debug
@@ -155,23 +113,8 @@ module _ (limits : Limits) (sources : List Chosen) (filter : Option (List ℕ �
     module _ (limit : ℕ) (is : limit ≡ min (file_limit limits) (total_limit limits - length file)) where
       -- a read of the debug file that failed
       pub second-read : (end : Outcome) → Finds 2 limit debug (Err end) → EndsPair limits sources filter name file debug (Err end)
-      second-read (TooLong i) e =
-          let number : i ≡ 2 = e.0 in
-          rw number (pair-long (omega (arith, is, e.1)))
-      second-read (ReadFailed i) e = (1, omega (arith, e), omega arith, first)
-      second-read NoMemory e = tt
-      second-read Done e = absurd e
-      second-read (Usage kind) e = absurd e
-      second-read (Config kind offset) e = absurd e
-      second-read (UnknownSource i) e = absurd e
-      second-read (PatternSyntax i) e = absurd e
-      second-read (PatternTooBig i) e = absurd e
-      second-read (Bad i fault offset) e = absurd e
-      second-read (TooManyClaims i) e = absurd e
-      second-read MappedTooLarge e = absurd e
-      second-read NoMatch e = absurd e
-      second-read PlaceOutside e = absurd e
-      second-read WriteFailed e = absurd e
+      second-read end e =
+          ends-read (IsOfPair limits file) (counted_pair limits sources name file debug) 2 limit debug end (λ i same number. (1, omega (arith, number), omega arith, first)) (λ over. pair-long (omega (arith, is, over))) e
 
       -- both were read
       module _ (few : length debug ≤ limit) (room : length file ≤ total_limit limits) where
@@ -180,21 +123,8 @@ module _ (limits : Limits) (sources : List Chosen) (filter : Option (List ℕ �
 
         pub pair-counted : (r : Result Totals Outcome) → EndsPaired limits sources filter name file debug r → EndsPair limits sources filter name file debug r
         pair-counted (Ok t) e = (e.0, both-within ∙ ap if_paired e.1, e.2)
-        pair-counted (Err (ReadFailed i)) e = absurd e
-        pair-counted (Err NoMemory) e = tt
-        pair-counted (Err (TooLong i)) e = both-within ∙ e
-        pair-counted (Err Done) e = both-within ∙ e
-        pair-counted (Err (Usage kind)) e = both-within ∙ e
-        pair-counted (Err (Config kind offset)) e = both-within ∙ e
-        pair-counted (Err (UnknownSource i)) e = both-within ∙ e
-        pair-counted (Err (PatternSyntax i)) e = both-within ∙ e
-        pair-counted (Err (PatternTooBig i)) e = both-within ∙ e
-        pair-counted (Err (Bad i fault offset)) e = both-within ∙ e
-        pair-counted (Err (TooManyClaims i)) e = both-within ∙ e
-        pair-counted (Err MappedTooLarge) e = both-within ∙ e
-        pair-counted (Err NoMatch) e = both-within ∙ e
-        pair-counted (Err PlaceOutside) e = both-within ∙ e
-        pair-counted (Err WriteFailed) e = both-within ∙ e
+        pair-counted (Err end) e =
+            ends-so Nowhere (IsOfPair limits file) (if_paired (pair_viewed 0 limits.claims name file debug sources)) (counted_pair limits sources name file debug) end (λ i same never. absurd never) (λ so. both-within ∙ so) e
 
 -- what an answer about the pair ends
 pub ends-paired : (limits : Limits) (sources : List Chosen) (filter : Option (List ℕ → Bool)) (name file debug : List ℕ) (why : PairAnswer)
@@ -229,7 +159,27 @@ pub paired-short : (decided : Result FileView PairAnswer) (i : ℕ) → if_paire
 paired-short (Ok f) i e = cc
 paired-short (Err why) i e = end-pair-short why i (err-same _ _ e)
 
+pub paired-unread : (limits : Limits) (sources : List Chosen) (filter : Option (List ℕ → Bool)) (name file debug : List ℕ) (r : Result Totals Outcome) → EndsPaired limits sources filter name file debug r
+    → (i : ℕ) → r ≡ Err (ReadFailed i) → ⊥
+paired-unread limits sources filter name file debug r e i is = rw is at e
+
+pub paired-not-long : (limits : Limits) (sources : List Chosen) (filter : Option (List ℕ → Bool)) (name file debug : List ℕ) (r : Result Totals Outcome) → EndsPaired limits sources filter name file debug r
+    → (i : ℕ) → r ≡ Err (TooLong i) → ⊥
+paired-not-long limits sources filter name file debug r e i is = paired-short (pair_viewed 0 limits.claims name file debug sources) i (rw is at e)
+
 -- The options of a pair.
+
+-- the one file has a name
+pub pair-named : (o : Options) → IsPair o → slice_get o.files 0 ≡ Some (first_name o)
+pair-named o is = by-synth o.synth is.not_made o.files is.one_file
+  where
+    by-synth : (synth : Option ℕ) → synth ≡ None → (files : List (List ℕ)) → length files ≡ 1 → slice_get files 0 ≡ Some (unwrap_or (slice_get (names_of synth files) 0) [])
+    by-synth None none [] one = absurd (omega (arith, one))
+    by-synth None none (n ∷ files) one = refl
+    by-synth (Some n) none files one = cc
+
+pub pair-one-input : (o : Options) → IsPair o → IsOneInput o.synth o.files
+pair-one-input o is = rw is.not_made is.one_file
 
 pub single : (names : List (List ℕ)) (name : List ℕ) → length names ≡ 1 → slice_get names 0 ≡ Some name → names ≡ name ∷ []
 single [] name one at = absurd (omega (arith, one))
@@ -293,23 +243,10 @@ module _ (o : Options) (name debug : List ℕ) (is : IsPair o) (asked : o.debug 
     -- the run ends at the pair
     pub pair-ends : (end : Outcome) → EndsPair limits sources (filter_test filter) name own other (Err end) → EndsFinding limits sources (two own other) o (Err end)
     unfolding two beyond
-    pair-ends (ReadFailed i) e =
+    pair-ends end e =
         let long : length (all_names o) ≡ 2 = ap length names-are in
-        (e.0, e.1, rw is.not_made tt, omega (arith, e.2, long), rw asked e.3)
-    pair-ends NoMemory e = tt
-    pair-ends (TooLong i) e = found-pair (Err (TooLong i)) e
-    pair-ends Done e = found-pair (Err Done) e
-    pair-ends (Usage kind) e = found-pair (Err (Usage kind)) e
-    pair-ends (Config kind offset) e = found-pair (Err (Config kind offset)) e
-    pair-ends (UnknownSource i) e = found-pair (Err (UnknownSource i)) e
-    pair-ends (PatternSyntax i) e = found-pair (Err (PatternSyntax i)) e
-    pair-ends (PatternTooBig i) e = found-pair (Err (PatternTooBig i)) e
-    pair-ends (Bad i fault offset) e = found-pair (Err (Bad i fault offset)) e
-    pair-ends (TooManyClaims i) e = found-pair (Err (TooManyClaims i)) e
-    pair-ends MappedTooLarge e = found-pair (Err MappedTooLarge) e
-    pair-ends NoMatch e = found-pair (Err NoMatch) e
-    pair-ends PlaceOutside e = found-pair (Err PlaceOutside) e
-    pair-ends WriteFailed e = found-pair (Err WriteFailed) e
+        ends-so (IsOfPair limits own) (IsReadFile limits sources (two own other) o) (counted_pair limits sources name own other) (found limits sources (two own other) o) end
+        (λ i same p. (p.0, p.1, rw is.not_made tt, omega (arith, p.2, long), rw asked p.3)) (λ so. found-pair (Err end) so) e
 
     -- or there is its report
     pub pair-found : (t : Totals) (out : Vec ℕ Global) → EndsPair limits sources (filter_test filter) name own other (Ok t) → IsTotals t.depth t.rows t.lengths t.mapped
@@ -320,3 +257,9 @@ module _ (o : Options) (name debug : List ℕ) (is : IsPair o) (asked : o.debug 
     -- want of memory is free
     pub pair-unmade : EndsFinding limits sources (two own other) o (Err NoMemory)
     pair-unmade = tt
+
+-- what is read of a pair
+pub pair-part : (limits : Limits) (o : Options) (debug : List ℕ) (is : IsPair o) → o.debug ≡ Some debug → (all : List (List ℕ))
+    → IsPart (batch_reading limits (batch_of 0 0 (first_name o ∷ debug ∷ []))) (reading_for limits o all) 0
+pair-part limits o debug is asked all =
+    files-part limits o (first_name o ∷ debug ∷ []) all is.not_made (λ k n at. pair-name o (first_name o) debug is asked (pair-named o is) k n at)

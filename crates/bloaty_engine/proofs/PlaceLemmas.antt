@@ -1,6 +1,6 @@
 -- A place of the one file, which is read or made.
 use Rattle.std.proofs.Common.{◌≡◌, ℕ, ◌+◌, ◌-◌, ◌<◌, ◌≤◌, min, true, false, cond, ◌||◌, nat_lt, List, [], ◌∷◌, ◌++◌, length, Option, None, Some, Result, Ok, Err, refl, ap, ◌∙◌, arith}
-use Rattle.std.specs.Prelude.{IsOk, Vec}
+use Rattle.std.specs.Prelude.{IsOk, Vec, slice_get, unwrap_or}
 use Rattle.std.specs.declared.alloc.Global.{Global}
 use Rattle.std.proofs.lemmas.Bool.Decides.{nat_tests}
 use Rattle.std.proofs.lemmas.Option.{none-some}
@@ -20,8 +20,12 @@ use Rattle.run_outcome.specs.declared.outcome.Outcome.TheVariants.{Done, Usage, 
 use Rattle.bloaty_engine.specs.Named.{AreHeld}
 use Rattle.run_outcome.specs.Names.{debug_names, file_names, names_of, other_names}
 use Rattle.bloaty_engine.specs.PlaceSteps.{EndsExplained, explained_within}
-use Rattle.bloaty_engine.specs.Reports.{EndsFinding, IsUnmade}
+use Rattle.bloaty_engine.specs.Reports.{EndsFinding, IsReadFile, IsUnmade}
+use Rattle.bloaty_engine.specs.Reading.{reading_for, reading_from}
 use Rattle.bloaty_engine.specs.Steps.{Finds}
+use Rattle.bloaty_engine.proofs.EndLemmas.{ends-read}
+use Rattle.bloaty_engine.proofs.ReadLemmas.{none-name}
+use Rattle.bloaty_engine.proofs.StepLemmas.{IsPart, files-part, first-part}
 use Rattle.bloaty_engine.specs.Verdict.{Explained, counted_files, counted_sides, as_explained, end_of_place, explained_file, file_limit, first_name, found, found_by, if_explained, total_limit}
 
 not-below : (m n : ℕ) → n ≤ m → nat_lt m n ≡ false
@@ -70,30 +74,15 @@ module _ (limits : Limits) (sources : List Chosen) (files : ℕ → List ℕ) (o
   -- the one file isn't read
   pub only-ends : (end : Outcome) → o.debug ≡ None → IsOneInput o.synth o.files → ((k : ℕ) → end ≡ ReadFailed (k + 1) → IsUnmade o.synth k)
       → Finds 1 (min (file_limit limits) (total_limit limits)) (files 1) (Err end) → EndsFinding limits sources files o (Err end)
-  only-ends (TooLong i) none one unmade e =
-      let number : i ≡ 1 = e.0 in
-      rw number (found-place (Err (TooLong 1)) (place-long e.1))
-  only-ends (ReadFailed i) none one unmade e =
-      let number : i ≡ 0 + 1 = e in
-      (0, number, unmade 0 (ap ReadFailed number), some-name o.synth o.files (other_names o) one, rw none (none-counted-yet limits sources files o))
+  only-ends end none one unmade e =
+      ends-read (IsReadFile limits sources files o) (found limits sources files o) 1 (min (file_limit limits) (total_limit limits)) (files 1) end
+      (λ i same number. (0, number, unmade 0 (same ∙ ap ReadFailed number), some-name o.synth o.files (other_names o) one, rw none (none-counted-yet limits sources files o)))
+      (λ over. found-place (Err (TooLong 1)) (place-long over)) e
     where
       some-name : (synth : Option ℕ) (names rest : List (List ℕ)) → IsOneInput synth names → 0 < length (names_of synth names ++ rest)
       some-name None [] rest one = absurd (omega (arith, one))
       some-name None (n ∷ names) rest one = omega arith
       some-name (Some n) names rest one = omega arith
-  only-ends NoMemory none one unmade e = tt
-  only-ends Done none one unmade e = absurd e
-  only-ends (Usage kind) none one unmade e = absurd e
-  only-ends (Config kind offset) none one unmade e = absurd e
-  only-ends (UnknownSource i) none one unmade e = absurd e
-  only-ends (PatternSyntax i) none one unmade e = absurd e
-  only-ends (PatternTooBig i) none one unmade e = absurd e
-  only-ends (Bad i fault offset) none one unmade e = absurd e
-  only-ends (TooManyClaims i) none one unmade e = absurd e
-  only-ends MappedTooLarge none one unmade e = absurd e
-  only-ends NoMatch none one unmade e = absurd e
-  only-ends PlaceOutside none one unmade e = absurd e
-  only-ends WriteFailed none one unmade e = absurd e
 
   module _ (few : length (files 1) ≤ min (file_limit limits) (total_limit limits)) where
     -- the place isn't explained
@@ -121,3 +110,20 @@ module _ (limits : Limits) (sources : List Chosen) (files : ℕ → List ℕ) (o
     -- no other end has that answer
     pub explained-no-read : (end : Outcome) (i : ℕ) → EndsExplained (explained_within limits sources o place (files 1)) (Err end) → end ≡ ReadFailed i → ⊥
     explained-no-read end i e is = absurd (rw is at e)
+
+-- the one file that is read
+pub first-file : (o : Options) → o.synth ≡ None → length o.files ≡ 1 → o.files ≡ first_name o ∷ []
+first-file o none one = by-files o.synth none o.files one
+  where
+    by-files : (synth : Option ℕ) → synth ≡ None → (files : List (List ℕ)) → length files ≡ 1 → files ≡ unwrap_or (slice_get (names_of synth files) 0) [] ∷ []
+    by-files None none [] one = absurd (omega (arith, one))
+    by-files None none (n ∷ []) one = refl
+    by-files None none (n ∷ m ∷ files) one = absurd (omega (arith, one))
+    by-files (Some n) none files one = cc
+
+pub first-of-run : (limits : Limits) (o : Options) (all : List (List ℕ)) (limit : ℕ) → limit ≡ min (file_limit limits) (total_limit limits) → o.synth ≡ None → o.files ≡ first_name o ∷ []
+    → IsPart (reading_from 1 (first_name o ∷ []) (limit + 1)) (reading_for limits o all) 0
+first-of-run limits o all limit is none files =
+    let first = first-part limits (first_name o) [] [] limit is in
+    let run = files-part limits o (first_name o ∷ []) all none (λ k n at. none-name o k n none (ap (λ ns. slice_get ns k) files ∙ at)) in
+    record { name_of = λ i n at. run.name_of i n (first.name_of i n at); least = λ i n at. omega (arith, first.least i n at, run.least i n (first.name_of i n at)) }

@@ -1,13 +1,15 @@
 -- Names that are read one after the other.
-use Rattle.std.proofs.Common.{◌≡◌, ℕ, zero, suc, ◌+◌, ◌≤◌, List, [], ◌∷◌, ◌++◌, length, take, false, true, Some, Result, Ok, Err, refl, sym, ap, ◌∙◌, append_assoc, arith}
+use Rattle.std.proofs.Common.{◌≡◌, ℕ, zero, suc, ◌+◌, ◌≤◌, List, [], ◌∷◌, ◌++◌, length, take, false, true, None, Some, Result, Ok, Err, refl, sym, ap, ◌∙◌, append_assoc, arith}
 use Rattle.std.specs.Prelude.{OnOk, slice_get}
 use Rattle.std.proofs.Math.Seq.{take-append-add}
 use Rattle.std.proofs.lemmas.List.{append-nil, take_all}
 use Rattle.std.proofs.lemmas.Option.{none-some, same_Some}
+use Rattle.size_options.specs.declared.chosen.Options.{Options}
+use Rattle.run_outcome.specs.Names.{debug_names, file_names, name_at, other_names}
 use Rattle.run_outcome.specs.declared.outcome.Outcome.{Outcome}
 use Rattle.run_outcome.specs.declared.outcome.Outcome.TheVariants.{Done}
 use Rattle.bloaty_engine.specs.Answers.{is_end}
-use Rattle.bloaty_engine.specs.Reading.{ReadsFirst}
+use Rattle.bloaty_engine.specs.Devices.{ReadsFirst}
 
 pub take-none : (names : List (List ℕ)) → take 0 names ≡ []
 take-none [] = refl
@@ -90,6 +92,19 @@ module _ (before middle front rest : List (List ℕ)) (are : middle ≡ before +
 
   pub reads-whole : (after : List (List ℕ)) → after ≡ middle ++ rest → after ≡ before ++ (front ++ rest)
   reads-whole after all = all ∙ (ap (λ ns. ns ++ rest) are ∙ append_assoc before front rest)
+
+-- where no file is made, the names are those of the words
+pub none-name : (o : Options) (k : ℕ) (name : List ℕ) → o.synth ≡ None → slice_get o.files k ≡ Some name → name_at o (k + 1) ≡ Some name
+none-name o k name e at =
+    let p : k + 1 ≡ suc k = omega arith in
+    rw (p, e) (get-front o.files (other_names o) k name at)
+
+-- behind them stand those of the base files
+pub base-name : (o : Options) (k : ℕ) (name : List ℕ) → o.debug ≡ None → slice_get o.bases k ≡ Some name → name_at o (length (file_names o) + k + 1) ≡ Some name
+base-name o k name none at =
+    let p : length (file_names o) + k + 1 ≡ suc (length (file_names o) + k) = omega arith in
+    let same : other_names o ≡ o.bases = ap (λ d. debug_names d ++ o.bases) none in
+    rw (p, same) (get-behind (file_names o) o.bases k ∙ at)
 
 -- what holds of any result
 pub OnOk-any : {T E : Type 0} (r : Result T E) (P : Type 0) → P → OnOk r P

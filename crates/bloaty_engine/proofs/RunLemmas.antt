@@ -1,5 +1,5 @@
 -- How a run ends, by what its steps answer.
-use Rattle.std.proofs.Common.{◌≡◌, ℕ, zero, suc, ◌+◌, Bool, true, false, cond, ◌||◌, nat_lt, List, [], ◌∷◌, ◌++◌, length, Option, None, Some, Result, Ok, Err, refl, sym, ap, ◌∙◌, arith}
+use Rattle.std.proofs.Common.{◌≡◌, ℕ, zero, suc, ◌+◌, Bool, true, false, cond, ◌||◌, nat_lt, List, [], ◌∷◌, ◌++◌, length, Option, None, Some, Result, Ok, Err, All, ◌⊎◌, inl, inr, refl, sym, ap, ◌∙◌, arith}
 use Rattle.std.specs.Prelude.{⊤, IfSome, IsOk, slice_get, unwrap_or, Vec}
 use Rattle.std.specs.declared.alloc.Global.{Global}
 use Rattle.size_core.specs.declared.fault.BadFile.{BadFile}
@@ -24,15 +24,19 @@ use Rattle.run_outcome.specs.declared.outcome.Outcome.{Outcome}
 use Rattle.run_outcome.specs.declared.outcome.Outcome.TheVariants.{Done, Usage, ReadFailed, TooLong, Config, UnknownSource, PatternSyntax, PatternTooBig, Bad, TooManyClaims, MappedTooLarge, NoMatch, PlaceOutside, WriteFailed, NoMemory}
 use Rattle.size_options.specs.Answers.{IsUsageOf, are_taken}
 use Rattle.size_options.specs.Asked.{asked as options_of}
-use Rattle.bloaty_engine.specs.Answers.{IsFinished, EndsReport, IsAnswer, IsAsked, IsReached, IsRun}
+use Rattle.bloaty_engine.specs.Answers.{CountsFile, EndsReport, HasReport, IsAnswer, IsAsked, IsFinished, IsReached, IsRun, Writes, is_end}
 use Rattle.bloaty_engine.specs.Named.{AreContents, AreFiles, AreHeld, Contents, IsText}
 use Rattle.run_outcome.specs.Names.{debug_names, file_name, file_names, name_at, other_names}
+use Rattle.file_profile.specs.Laws.{IsOfFile}
 use Rattle.file_profile.specs.Patterns.{ArePatterns}
+use Rattle.file_profile.proofs.LawLemmas.{of-file}
+use Rattle.std.proofs.lemmas.List.Elements.{All-cons}
+use Rattle.outside.specs.Grown.{Grew, GrewByPart}
 use Rattle.file_profile.specs.Plans.{IsPlan, Plans}
 use Rattle.bloaty_engine.specs.Reports.{EndsFinding}
 use Rattle.file_profile.specs.Sources.{Chosen, chosen_before, chosen_from, chosen_named, chosen_sources}
 use Rattle.bloaty_engine.specs.Steps.{EndsConfig, EndsPlan}
-use Rattle.bloaty_engine.specs.Verdict.{◌>>=◌, Finding, Request, Sides, as_counted, as_explained, asked, config_limit, counted_file, counted_from, counted_pair, counted_sides, customs_in, end_at, end_of_pair, end_of_place, explained_file, file_limit, first_name, found, found_by, if_config, if_explained, if_paired, if_sound, if_unknown, if_viewed, lengths_of, opened_first, total_limit, verdict}
+use Rattle.bloaty_engine.specs.Verdict.{◌>>=◌, Counted, Explained, Finding, Request, Sides, as_counted, as_explained, asked, config_limit, counted_file, counted_from, counted_pair, counted_sides, customs_in, end_at, end_of_pair, end_of_place, explained_file, file_limit, first_name, found, one_file, found_by, if_config, if_explained, if_paired, if_sound, if_unknown, if_viewed, lengths_of, opened_first, total_limit, verdict}
 use Rattle.file_profile.specs.declared.answer.PairAnswer.{PairAnswer}
 use Rattle.file_profile.specs.declared.answer.PairAnswer.TheVariants as pair
 use Rattle.file_profile.specs.declared.answer.PlaceAnswer.{PlaceAnswer}
@@ -42,7 +46,6 @@ use Rattle.file_profile.specs.Places.{explained_place, named_sources}
 use Rattle.file_profile.specs.Views.{viewed}
 use Rattle.bloaty_engine.proofs.FileLemmas.{some-held}
 use Rattle.bloaty_engine.proofs.HeldLemmas.{held-some}
-use Rattle.bloaty_engine.proofs.ReadLemmas.{get-behind, get-front}
 use Rattle.bloaty_engine.proofs.SidesLemmas.{behind-held, beyond, front-files}
 
 ok-same : {X E : Type 0} (x y : X) → ◌≡◌ {A = Result X E} (Ok x) (Ok y) → x ≡ y
@@ -269,6 +272,50 @@ chosen-count customs i (n ∷ names) sources e = by-name (chosen_named customs n
 pub planned-count : (customs : List CustomSource) (names : List (List ℕ)) (sources : List Chosen) → chosen_sources customs names ≡ Ok sources → length sources ≡ length names
 planned-count customs names sources e = chosen-count customs 1 names sources e
 
+-- and so does the configuration
+pub config-never-big : (limits : Limits) (name : Option (List ℕ)) (text : List ℕ) (i : ℕ) → EndsConfig limits name text (Err (PatternTooBig i)) → ⊥
+unfolding IsConfigEnd
+config-never-big limits name text i e = customs-error limits name text (PatternTooBig i) e
+
+-- With a debug file the sizes are those of the file alone.
+
+pair-file : (limits : Limits) (sources : List Chosen) (name file debug : List ℕ) (s : Sides) → counted_pair limits sources name file debug ≡ Ok s → All (IsOfFile file) s.files
+unfolding counted_pair
+pair-file limits sources name file debug s e = by-first (opened_first limits file) e
+  where
+    by-view : (r : Result FileView PairAnswer) → pair_viewed 0 limits.claims name file debug sources ≡ r → if_paired r ≡ Ok s → All (IsOfFile file) s.files
+    by-view (Ok f) at is =
+        let same : one_file f ≡ s = ok-same (one_file f) s is in
+        rw (← same) (All-cons (IsOfFile file) f [] (of-file 0 limits.claims name sources f file debug at) (λ k d lt. absurd (omega (arith, lt))))
+    by-view (Err why) at is = cc
+
+    by-length : (b : Bool) → cond b (Err (TooLong 2)) (if_paired (pair_viewed 0 limits.claims name file debug sources)) ≡ Ok s → All (IsOfFile file) s.files
+    by-length true is = cc
+    by-length false is = by-view (pair_viewed 0 limits.claims name file debug sources) refl is
+
+    by-first : (r : Result Binary Outcome)
+        → (r >>= λ binary. cond (nat_lt (file_limit limits) (length debug) || nat_lt (total_limit limits) (length file + length debug)) (Err (TooLong 2)) (if_paired (pair_viewed 0 limits.claims name file debug sources))) ≡ Ok s → All (IsOfFile file) s.files
+    by-first (Ok binary) is = by-length (nat_lt (file_limit limits) (length debug) || nat_lt (total_limit limits) (length file + length debug)) is
+    by-first (Err x) is = cc
+
+counts-file : (limits : Limits) (sources : List Chosen) (files : ℕ → List ℕ) (o : Options) (finding : Finding) (place : Option Place) (debug : List ℕ) → found_by place (Some debug) limits sources files o ≡ Ok finding
+    → CountsFile (files 1) finding
+counts-file limits sources files o finding None debug e = by-sides (counted_pair limits sources (first_name o) (files 1) (files 2)) refl e
+  where
+    by-sides : (r : Result Sides Outcome) → counted_pair limits sources (first_name o) (files 1) (files 2) ≡ r → as_counted r ≡ Ok finding → CountsFile (files 1) finding
+    by-sides (Ok s) at is = rw (← ok-same (Counted s) finding is) (pair-file limits sources (first_name o) (files 1) (files 2) s at)
+    by-sides (Err x) at is = cc
+counts-file limits sources files o finding (Some place) debug e = by-place (explained_file limits sources o place (first_name o) (files 1)) e
+  where
+    by-place : (r : Result (List PlaceSource) Outcome) → as_explained place r ≡ Ok finding → CountsFile (files 1) finding
+    by-place (Ok said) is = rw (← ok-same (Explained place said) finding is) tt
+    by-place (Err x) is = cc
+
+counts-stripped : (limits : Limits) (sources : List Chosen) (files : ℕ → List ℕ) (o : Options) (finding : Finding) → found limits sources files o ≡ Ok finding → (debug : List ℕ) → o.debug ≡ Some debug
+    → CountsFile (files 1) finding
+unfolding found
+counts-stripped limits sources files o finding e debug is = counts-file limits sources files o finding o.place debug (ap (λ d. found_by o.place d limits sources files o) (sym is) ∙ e)
+
 -- a file never ends a run by a pattern
 pub never-big : (limits : Limits) (sources : List Chosen) (files : ℕ → List ℕ) (o : Options) (i : ℕ) → EndsFinding limits sources files o (Err (PatternTooBig i)) → ⊥
 unfolding IsFileEnd
@@ -394,7 +441,21 @@ module _ (held : Option Pairs) (limits : Limits) (o : Options) (last text : List
       -- how the run ends at its files, or the report that it has
       pub ends-finding : (r : Result (Vec ℕ Global) Outcome) → EndsFinding limits p.sources files o r → RunsTo held limits o last r
       unfolding IsFileEnd found-read contents-of read request-of
-      ends-finding (Ok out) e = (read, read-are, ((record { request = request-of o customs p.sources; finding = e.0 }, out.items, verdict-read (Ok e.0) e.1, e.2, refl), patterns-read))
+      ends-finding (Ok out) e = (
+        read,
+        read-are,
+        (
+          record {
+            found = record { request = request-of o customs p.sources; finding = e.0 };
+            text = out.items;
+            decided = verdict-read (Ok e.0) e.1;
+            report = e.2;
+            stripped = λ debug is. counts-stripped limits p.sources files o e.0 e.1 debug is;
+            so = refl;
+          },
+          patterns-read,
+        ),
+      )
       ends-finding (Err (ReadFailed i)) e =
           let i-is : i ≡ suc e.0 = omega (arith, e.1) in
           let reached : IsReached limits (Ok o) read (suc e.0) = (request-of o customs p.sources, asked-read, (e.2, e.3, e.4)) in
@@ -414,12 +475,7 @@ module _ (held : Option Pairs) (limits : Limits) (o : Options) (last text : List
       ends-finding (Err (PatternTooBig i)) e = absurd (not-end (PatternTooBig i) e)
       ends-finding (Err WriteFailed) e = absurd (not-end WriteFailed e)
 
--- What is told of the words.
-
--- the name of a file that has one
-pub named-file : (o : Options) (i : ℕ) (last : Option (List ℕ)) → IfSome last (λ n. name_at o i ≡ Some n) → IfSome last (λ n. n ≡ file_name (Ok o) i)
-named-file o i None named = tt
-named-file o i (Some n) named = sym (ap (λ name. unwrap_or name []) named)
+-- How a run with an outcome ends.
 
 -- bytes that the files of options hold, or any where there are no options
 some-contents : (held : Option Pairs) (given : Result Options UsageKind) → (contents : Contents) × ((o : Options) → given ≡ Ok o → AreContents held o contents)
@@ -454,75 +510,117 @@ usage-answer limits words contents last usage.BadPlace is = usage-verdict limits
 usage-answer limits words contents last usage.TwoPlaces is = usage-verdict limits (options_of words) contents usage.TwoPlaces (is.first (λ e. cc))
 usage-answer limits words contents last usage.PlaceFile is = usage-verdict limits (options_of words) contents usage.PlaceFile (is.first (λ e. cc))
 
-pub usage-run : (held : Option Pairs) (limits : Limits) (words : List (List ℕ)) (last : List ℕ) (out : Option (List ℕ)) (kind : UsageKind) → IsUsageOf words kind
-    → (contents : Contents) × IsRun held limits (options_of words) last out out (Usage kind) contents
-usage-run held limits words last out kind is =
-    let some = some-contents held (options_of words) in
-    (some.0, record { bytes = some.1; is = usage-answer limits words some.0 last kind is; patterns = λ e. cc; written = refl })
-
-pub no-memory-run : (held : Option Pairs) (limits : Limits) (given : Result Options UsageKind) (last : List ℕ) (out : Option (List ℕ)) → (contents : Contents) × IsRun held limits given last out out NoMemory contents
-no-memory-run held limits given last out =
-    let some = some-contents held given in
-    (some.0, record { bytes = some.1; is = tt; patterns = λ e. cc; written = refl })
-
--- where no file is made, the names are those of the words
-pub none-name : (o : Options) (k : ℕ) (name : List ℕ) → o.synth ≡ None → slice_get o.files k ≡ Some name → name_at o (k + 1) ≡ Some name
-none-name o k name e at =
-    let p : k + 1 ≡ suc k = omega arith in
-    rw (p, e) (get-front o.files (other_names o) k name at)
-
--- behind them stand those of the base files
-pub base-name : (o : Options) (k : ℕ) (name : List ℕ) → o.debug ≡ None → slice_get o.bases k ≡ Some name → name_at o (length (file_names o) + k + 1) ≡ Some name
-base-name o k name none at =
-    let p : length (file_names o) + k + 1 ≡ suc (length (file_names o) + k) = omega arith in
-    let same : other_names o ≡ o.bases = ap (λ d. debug_names d ++ o.bases) none in
-    rw (p, same) (get-behind (file_names o) o.bases k ∙ at)
-
--- Runs that nothing interrupts.
-
+-- a run whose arguments and files have no fault is finished, or was interrupted
 no-error : {X : Type 0} (r : Result X Outcome) (end : Outcome) → IsOk r → r ≡ Err end → ⊥
 no-error (Ok x) end ok e = cc
 no-error (Err x) end ok e = cc
 
-module _ (held : Option Pairs) (limits : Limits) (given : Result Options UsageKind) (last : List ℕ) (old new : Option (List ℕ)) (contents : Contents) (A B C : Type 0) where
-  pub complete-run : (answer : Outcome) → IsRun held limits given last old new answer contents → ((kind : UsageKind) → answer ≡ Usage kind → ⊥)
-      → ((i : ℕ) → answer ≡ ReadFailed i → A) → ((i : ℕ) → answer ≡ PatternTooBig i → B) → (answer ≡ WriteFailed → C)
-      → IsOk (verdict limits given contents) → (A → ⊥) → (B → ⊥) → (C → ⊥) → IsFinished answer
-  complete-run Done run taken failed refused wrote ok a b c = tt
-  complete-run NoMemory run taken failed refused wrote ok a b c = tt
-  complete-run (PatternSyntax i) run taken failed refused wrote ok a b c = tt
-  complete-run (Usage kind) run taken failed refused wrote ok a b c = absurd (taken kind refl)
-  complete-run (ReadFailed i) run taken failed refused wrote ok a b c = absurd (a (failed i refl))
-  complete-run (PatternTooBig i) run taken failed refused wrote ok a b c = absurd (b (refused i refl))
-  complete-run WriteFailed run taken failed refused wrote ok a b c = absurd (c (wrote refl))
-  complete-run (TooLong i) run taken failed refused wrote ok a b c = absurd (no-error (verdict limits given contents) (TooLong i) ok run.is)
-  complete-run (Config kind offset) run taken failed refused wrote ok a b c = absurd (no-error (verdict limits given contents) (Config kind offset) ok run.is)
-  complete-run (UnknownSource i) run taken failed refused wrote ok a b c = absurd (no-error (verdict limits given contents) (UnknownSource i) ok run.is)
-  complete-run (Bad i fault offset) run taken failed refused wrote ok a b c = absurd (no-error (verdict limits given contents) (Bad i fault offset) ok run.is)
-  complete-run (TooManyClaims i) run taken failed refused wrote ok a b c = absurd (no-error (verdict limits given contents) (TooManyClaims i) ok run.is)
-  complete-run MappedTooLarge run taken failed refused wrote ok a b c = absurd (no-error (verdict limits given contents) MappedTooLarge ok run.is)
-  complete-run NoMatch run taken failed refused wrote ok a b c = absurd (no-error (verdict limits given contents) NoMatch ok run.is)
-  complete-run PlaceOutside run taken failed refused wrote ok a b c = absurd (no-error (verdict limits given contents) PlaceOutside ok run.is)
+module _ (limits : Limits) (given : Result Options UsageKind) (contents : Contents) (last : List ℕ) where
+  finished : (outcome : Outcome) → IsAnswer limits given contents last outcome → IsOk (verdict limits given contents) → IsFinished outcome
+  finished Done is ok = tt
+  finished NoMemory is ok = tt
+  finished (PatternSyntax i) is ok = tt
+  finished (ReadFailed i) is ok = tt
+  finished (PatternTooBig i) is ok = tt
+  finished WriteFailed is ok = tt
+  finished (Usage usage.Words) is ok = tt
+  finished (Usage usage.BadNumber) is ok = absurd (no-error (verdict limits given contents) (Usage usage.BadNumber) ok is)
+  finished (Usage usage.BadSort) is ok = absurd (no-error (verdict limits given contents) (Usage usage.BadSort) ok is)
+  finished (Usage usage.BadDomain) is ok = absurd (no-error (verdict limits given contents) (Usage usage.BadDomain) ok is)
+  finished (Usage usage.TwoFormats) is ok = absurd (no-error (verdict limits given contents) (Usage usage.TwoFormats) ok is)
+  finished (Usage usage.BadSourceList) is ok = absurd (no-error (verdict limits given contents) (Usage usage.BadSourceList) ok is)
+  finished (Usage usage.NoFile) is ok = absurd (no-error (verdict limits given contents) (Usage usage.NoFile) ok is)
+  finished (Usage usage.SynthWithFile) is ok = absurd (no-error (verdict limits given contents) (Usage usage.SynthWithFile) ok is)
+  finished (Usage usage.NoBase) is ok = absurd (no-error (verdict limits given contents) (Usage usage.NoBase) ok is)
+  finished (Usage usage.DebugFile) is ok = absurd (no-error (verdict limits given contents) (Usage usage.DebugFile) ok is)
+  finished (Usage usage.BadPlace) is ok = absurd (no-error (verdict limits given contents) (Usage usage.BadPlace) ok is)
+  finished (Usage usage.TwoPlaces) is ok = absurd (no-error (verdict limits given contents) (Usage usage.TwoPlaces) ok is)
+  finished (Usage usage.PlaceFile) is ok = absurd (no-error (verdict limits given contents) (Usage usage.PlaceFile) ok is)
+  finished (TooLong i) is ok = absurd (no-error (verdict limits given contents) (TooLong i) ok is)
+  finished (Config kind offset) is ok = absurd (no-error (verdict limits given contents) (Config kind offset) ok is)
+  finished (UnknownSource i) is ok = absurd (no-error (verdict limits given contents) (UnknownSource i) ok is)
+  finished (Bad i fault offset) is ok = absurd (no-error (verdict limits given contents) (Bad i fault offset) ok is)
+  finished (TooManyClaims i) is ok = absurd (no-error (verdict limits given contents) (TooManyClaims i) ok is)
+  finished MappedTooLarge is ok = absurd (no-error (verdict limits given contents) MappedTooLarge ok is)
+  finished NoMatch is ok = absurd (no-error (verdict limits given contents) NoMatch ok is)
+  finished PlaceOutside is ok = absurd (no-error (verdict limits given contents) PlaceOutside ok is)
 
--- words that are misused have no report, or aren't taken
-untaken : (b : Bool) → b ≡ false → b ≡ true → ⊥
-untaken true p q = cc
-untaken false p q = cc
+  -- a run that ends before its report writes nothing
+  unwritten : (out : Option (List ℕ)) (end : Outcome) → is_end end ≡ true → Writes limits given contents out out end
+  unwritten out Done is = cc
+  unwritten out (Usage kind) is = cc
+  unwritten out WriteFailed is = cc
+  unwritten out (ReadFailed i) is = refl
+  unwritten out (TooLong i) is = refl
+  unwritten out (Config kind offset) is = refl
+  unwritten out (UnknownSource i) is = refl
+  unwritten out (PatternSyntax i) is = refl
+  unwritten out (PatternTooBig i) is = refl
+  unwritten out (Bad i fault offset) is = refl
+  unwritten out (TooManyClaims i) is = refl
+  unwritten out MappedTooLarge is = refl
+  unwritten out NoMatch is = refl
+  unwritten out PlaceOutside is = refl
+  unwritten out NoMemory is = refl
 
-misused-kind : (limits : Limits) (words : List (List ℕ)) (contents : Contents) (kind : UsageKind) → IsUsageOf words kind → (kind ≡ usage.Words → ⊥) → IsOk (verdict limits (options_of words) contents) → ⊥
-misused-kind limits words contents kind is other ok = no-error (verdict limits (options_of words) contents) (Usage kind) ok (usage-verdict limits (options_of words) contents kind (is.first other))
+module _ (held : Option Pairs) (limits : Limits) (last : List ℕ) (o : Options) (contents : Contents) (are : AreContents held o contents) where
+  own-bytes : (p : Options) → ◌≡◌ {A = Result Options UsageKind} (Ok o) (Ok p) → AreContents held p contents
+  own-bytes p same = rw (← ok-same o p same) are
 
-pub usage-complete : (limits : Limits) (words : List (List ℕ)) (contents : Contents) (kind : UsageKind) → IsUsageOf words kind → IsOk (verdict limits (options_of words) contents) → are_taken words ≡ true → ⊥
-usage-complete limits words contents usage.Words is ok taken = untaken (are_taken words) (is.not_taken refl) taken
-usage-complete limits words contents usage.BadNumber is ok taken = misused-kind limits words contents usage.BadNumber is (λ e. cc) ok
-usage-complete limits words contents usage.BadSort is ok taken = misused-kind limits words contents usage.BadSort is (λ e. cc) ok
-usage-complete limits words contents usage.BadDomain is ok taken = misused-kind limits words contents usage.BadDomain is (λ e. cc) ok
-usage-complete limits words contents usage.TwoFormats is ok taken = misused-kind limits words contents usage.TwoFormats is (λ e. cc) ok
-usage-complete limits words contents usage.BadSourceList is ok taken = misused-kind limits words contents usage.BadSourceList is (λ e. cc) ok
-usage-complete limits words contents usage.NoFile is ok taken = misused-kind limits words contents usage.NoFile is (λ e. cc) ok
-usage-complete limits words contents usage.SynthWithFile is ok taken = misused-kind limits words contents usage.SynthWithFile is (λ e. cc) ok
-usage-complete limits words contents usage.NoBase is ok taken = misused-kind limits words contents usage.NoBase is (λ e. cc) ok
-usage-complete limits words contents usage.DebugFile is ok taken = misused-kind limits words contents usage.DebugFile is (λ e. cc) ok
-usage-complete limits words contents usage.BadPlace is ok taken = misused-kind limits words contents usage.BadPlace is (λ e. cc) ok
-usage-complete limits words contents usage.TwoPlaces is ok taken = misused-kind limits words contents usage.TwoPlaces is (λ e. cc) ok
-usage-complete limits words contents usage.PlaceFile is ok taken = misused-kind limits words contents usage.PlaceFile is (λ e. cc) ok
+  -- a run that ends before its report
+  pub run-ends : (out : Option (List ℕ)) (end : Outcome) → EndsReport limits o last contents (Err end) → IsRun held limits (Ok o) last out out end
+  run-ends out end e = record {
+    contents = contents;
+    bytes = own-bytes;
+    answer = e.0;
+    patterns = e.1;
+    written = unwritten limits (Ok o) contents last out end e.2;
+    complete = finished limits (Ok o) contents last end e.0;
+  }
+
+  reported : (P : List ℕ → Type 0) (text : List ℕ) → HasReport limits (Ok o) contents (λ t. t ≡ text) → P text → HasReport limits (Ok o) contents P
+  reported P text has so =
+      record { found = has.found; text = has.text; decided = has.decided; report = has.report; stripped = has.stripped; so = rw has.so so }
+
+  decided-ok : {X : Type 0} (r : Result X Outcome) (x : X) → r ≡ Ok x → IsOk r
+  decided-ok (Ok y) x e = refl
+  decided-ok (Err y) x e = cc
+
+  wrote-all : (old new : Option (List ℕ)) (text : Vec ℕ Global) → EndsReport limits o last contents (Ok text) → Grew old new text.items → IsRun held limits (Ok o) last old new Done
+  wrote-all old new text e grew = record {
+    contents = contents;
+    bytes = own-bytes;
+    answer = decided-ok _ e.0.found e.0.decided;
+    patterns = λ q. e.1;
+    written = reported (Grew old new) text.items e.0 grew;
+    complete = λ ok. tt;
+  }
+
+  wrote-part : (old new : Option (List ℕ)) (text : Vec ℕ Global) → EndsReport limits o last contents (Ok text) → GrewByPart old new text.items → IsRun held limits (Ok o) last old new WriteFailed
+  wrote-part old new text e grew = record {
+    contents = contents;
+    bytes = own-bytes;
+    answer = decided-ok _ e.0.found e.0.decided;
+    patterns = λ q. e.1;
+    written = reported (GrewByPart old new) text.items e.0 grew;
+    complete = λ ok. tt;
+  }
+
+  -- a run that writes its report
+  pub run-writes : (old new : Option (List ℕ)) (text : Vec ℕ Global) (outcome : Outcome) → EndsReport limits o last contents (Ok text) → (outcome ≡ Done) ⊎ (outcome ≡ WriteFailed)
+      → (outcome ≡ Done → Grew old new text.items) → (outcome ≡ WriteFailed → GrewByPart old new text.items) → IsRun held limits (Ok o) last old new outcome
+  run-writes old new text outcome e (inl is) done part = rw is (wrote-all old new text e (done is))
+  run-writes old new text outcome e (inr is) done part = rw is (wrote-part old new text e (part is))
+
+-- a run whose arguments are misused
+pub usage-run : (held : Option Pairs) (limits : Limits) (words : List (List ℕ)) (last : List ℕ) (out : Option (List ℕ)) (kind : UsageKind) → IsUsageOf words kind
+    → IsRun held limits (options_of words) last out out (Usage kind)
+usage-run held limits words last out kind is =
+    let some = some-contents held (options_of words) in
+    let answer = usage-answer limits words some.0 last kind is in
+    record { contents = some.0; bytes = some.1; answer = answer; patterns = λ e. cc; written = refl; complete = finished limits (options_of words) some.0 last (Usage kind) answer }
+
+pub no-memory-run : (held : Option Pairs) (limits : Limits) (given : Result Options UsageKind) (last : List ℕ) (out : Option (List ℕ)) → IsRun held limits given last out out NoMemory
+no-memory-run held limits given last out =
+    let some = some-contents held given in
+    record { contents = some.0; bytes = some.1; answer = tt; patterns = λ e. cc; written = refl; complete = λ ok. tt }

@@ -15,15 +15,21 @@ use Rattle.size_options.specs.declared.chosen.Options.{Options}
 use Rattle.run_outcome.specs.declared.outcome.Outcome.{Outcome}
 use Rattle.run_outcome.specs.declared.outcome.Outcome.TheVariants.{Done, Usage, ReadFailed, TooLong, Config, UnknownSource, PatternSyntax, PatternTooBig, Bad, TooManyClaims, MappedTooLarge, NoMatch, PlaceOutside, WriteFailed, NoMemory}
 use Rattle.file_profile.specs.Counts.{filter_test}
-use Rattle.bloaty_engine.specs.GrowthReport.{EndsGrowth, IsGrowthReport, PrintsGrowth}
+use Rattle.bloaty_engine.specs.GrowthReport.{AreGrowths, EndsGrowth, IsGrowthReport, PrintsGrowth}
 use Rattle.bloaty_engine.specs.Named.{AreFiles, AreHeld}
 use Rattle.run_outcome.specs.Names.{file_names, names_of}
 use Rattle.bloaty_engine.specs.Report.{AreSizes, IsSizeReport, depth_of, printed, report_tree, row_options}
-use Rattle.bloaty_engine.specs.Reports.{EndsCounting, IsReportFor, IsUnmade}
+use Rattle.bloaty_engine.specs.Reports.{EndsCounting, IsCountedFile, IsReportFor, IsUnmade}
 use Rattle.file_profile.specs.Sources.{Chosen}
-use Rattle.bloaty_engine.specs.Steps.{EndsFiles, HasCounted, batch_of}
+use Rattle.bloaty_engine.specs.Steps.{EndsFiles, HasCounted, IsFileOf, batch_of, counted_batch}
 use Rattle.bloaty_engine.specs.Verdict.{◌>>=◌, Sides, counted_from, counted_sides, lengths_of}
+use Rattle.report_rows.proofs.TreeLemmas.{adds-up}
+use Rattle.size_growth.proofs.TreeLemmas.{grows}
+use Rattle.size_growth.specs.Rows.{growth_tree}
+use Rattle.size_model.proofs.Paths.{counts_for-unique}
+use Rattle.bloaty_engine.proofs.EndLemmas.{ends-so}
 use Rattle.bloaty_engine.proofs.FileLemmas.{same-counted}
+use Rattle.bloaty_engine.proofs.ReportLemmas.{growths-count, rows-show, totals-whole}
 use Rattle.bloaty_engine.proofs.ReadLemmas.{take-none}
 
 -- the bytes of files up to a number, and those of others behind it
@@ -89,7 +95,17 @@ size-report sources o filter same depth t files has totals text is =
       file = rw same at has.file;
       vm = rw same at has.vm;
     } in
-    record { rows = t.rows; sizes = sizes; is = is ∙ ap (printed o) tree }
+    record {
+      rows = t.rows;
+      sizes = sizes;
+      tree = report_tree o t.rows;
+      order = refl;
+      each = rows-show o files t.rows sizes;
+      once = counts_for-unique (filter_test o.filter);
+      sums = adds-up (row_options o) (depth_of o) t.rows sizes.deep;
+      whole = totals-whole o files t.rows sizes;
+      is = is ∙ ap (printed o) tree;
+    }
 
 is-ok : {X E : Type 0} (r : Result X E) → IsOk r → (x : X) × (r ≡ Ok x)
 is-ok (Ok x) ok = (x, refl)
@@ -134,10 +150,9 @@ module _ (limits : Limits) (sources : List Chosen) (o : Options) (filter : Optio
   ok-is (Ok y) x e = refl
   ok-is (Err y) x e = cc
 
-  -- the run ends at the files
-  pub front-ends : (end : Outcome) → ((k : ℕ) → end ≡ ReadFailed (k + 1) → IsUnmade o.synth k) → EndsFiles limits sources (filter_test filter) (batch_of 0 0 (file_names o)) a (Err end) → EndsCounting limits sources (beyond (length (file_names o)) a b) o (Err end)
+  front-at : (i : ℕ) → ((k : ℕ) → ReadFailed i ≡ ReadFailed (k + 1) → IsUnmade o.synth k) → IsFileOf limits sources (batch_of 0 0 (file_names o)) a i → IsCountedFile limits sources (beyond (length (file_names o)) a b) o i
   unfolding count all
-  front-ends (ReadFailed i) unmade e =
+  front-at i unmade e =
       let k = e.0 in
       let number : i ≡ k + 1 = omega (arith, e.1) in
       let some = length-append (file_names o) o.bases in
@@ -145,20 +160,13 @@ module _ (limits : Limits) (sources : List Chosen) (o : Options) (filter : Optio
       let le : length (take k (file_names o)) ≤ count = omega (arith, length-take-le k (file_names o) inside, inside) in
       let fs = is-ok _ e.3 in
       (k, number, unmade k (ap ReadFailed number), omega (arith, e.2, some), rw (take-front (file_names o) o.bases k (omega (arith, e.2))) (ok-is _ _ (sides-none (take k (file_names o)) fs.0 le fs.1)))
-  front-ends NoMemory unmade e = tt
-  front-ends (TooLong i) unmade e = sides-end (TooLong i) e
-  front-ends Done unmade e = sides-end Done e
-  front-ends (Usage kind) unmade e = sides-end (Usage kind) e
-  front-ends (Config kind offset) unmade e = sides-end (Config kind offset) e
-  front-ends (UnknownSource i) unmade e = sides-end (UnknownSource i) e
-  front-ends (PatternSyntax i) unmade e = sides-end (PatternSyntax i) e
-  front-ends (PatternTooBig i) unmade e = sides-end (PatternTooBig i) e
-  front-ends (Bad i fault offset) unmade e = sides-end (Bad i fault offset) e
-  front-ends (TooManyClaims i) unmade e = sides-end (TooManyClaims i) e
-  front-ends MappedTooLarge unmade e = sides-end MappedTooLarge e
-  front-ends NoMatch unmade e = sides-end NoMatch e
-  front-ends PlaceOutside unmade e = sides-end PlaceOutside e
-  front-ends WriteFailed unmade e = sides-end WriteFailed e
+
+  -- the run ends at the files
+  pub front-ends : (end : Outcome) → ((k : ℕ) → end ≡ ReadFailed (k + 1) → IsUnmade o.synth k) → EndsFiles limits sources (filter_test filter) (batch_of 0 0 (file_names o)) a (Err end) → EndsCounting limits sources (beyond (length (file_names o)) a b) o (Err end)
+  unfolding count all
+  front-ends end unmade e =
+      ends-so (IsFileOf limits sources (batch_of 0 0 (file_names o)) a) (IsCountedFile limits sources (beyond (length (file_names o)) a b) o) (counted_batch limits sources a (batch_of 0 0 (file_names o)))
+      (counted_sides limits sources (beyond (length (file_names o)) a b) (file_names o) o.bases) end (λ i same p. front-at i (λ k is. unmade k (same ∙ is)) p) (λ so. sides-end end so) e
 
   -- the report of sizes of the files that were counted
   pub sizes-end : (t : Totals) (out : Vec ℕ Global) → o.bases ≡ [] → EndsFiles limits sources (filter_test filter) (batch_of 0 0 (file_names o)) a (Ok t) → IsTotals t.depth t.rows t.lengths t.mapped
@@ -176,25 +184,28 @@ module _ (limits : Limits) (sources : List Chosen) (o : Options) (filter : Optio
     behind-end end f = sides-behind e.0 o.bases (Err end) e.1 (rw (← e.2.lengths) f)
 
     grown : (u : Totals) (text : List ℕ) (bs : List FileView) → HasCounted (filter_test filter) (length sources) bs u → PrintsGrowth o t.rows u.rows text → IsGrowthReport o e.0 bs text
-    grown u text bs has prints = record {
-      paths = prints.paths;
-      growths = record {
-        is = prints.are;
-        new_file = λ test. prints.between.new_file test ∙ (rw same at e.2.file) test;
-        new_vm = λ test. prints.between.new_vm test ∙ (rw same at e.2.vm) test;
-        base_file = λ test. prints.between.base_file test ∙ (rw same at has.file) test;
-        base_vm = λ test. prints.between.base_vm test ∙ (rw same at has.vm) test;
-      };
-      is = prints.is;
-    }
+    grown u text bs has prints =
+        let growths : AreGrowths (filter_test o.filter) (depth_of o) e.0 bs prints.paths = record {
+          is = prints.are;
+          new_file = λ test. prints.between.new_file test ∙ (rw same at e.2.file) test;
+          new_vm = λ test. prints.between.new_vm test ∙ (rw same at e.2.vm) test;
+          base_file = λ test. prints.between.base_file test ∙ (rw same at has.file) test;
+          base_vm = λ test. prints.between.base_vm test ∙ (rw same at has.vm) test;
+        } in
+        record {
+          paths = prints.paths;
+          growths = growths;
+          tree = growth_tree (row_options o) (depth_of o) prints.paths;
+          order = refl;
+          each = growths-count (filter_test o.filter) (depth_of o) e.0 bs prints.paths growths;
+          once = counts_for-unique (filter_test o.filter);
+          sums = grows (row_options o) (depth_of o) prints.paths prints.are.deep;
+          is = prints.is;
+        }
 
-    pub growth-ends : (r : Result (Vec ℕ Global) Outcome) → EndsGrowth limits sources (filter_test filter) (batch_of (length (file_names o)) t.lengths o.bases) b o t.rows r
-        → EndsCounting limits sources (beyond (length (file_names o)) a b) o r
+    behind-at : (i : ℕ) → IsFileOf limits sources (batch_of (length (file_names o)) t.lengths o.bases) b i → IsCountedFile limits sources (beyond (length (file_names o)) a b) o i
     unfolding count all
-    growth-ends (Ok out) g =
-        let s : Sides = record { files = e.0; bases = g.1.0 } in
-        (s, sides-behind e.0 o.bases (Ok g.1.0) e.1 (rw (← e.2.lengths) g.1.1), growth-for o.bases o s out.items some (grown g.0 out.items g.1.0 g.1.2 g.2))
-    growth-ends (Err (ReadFailed i)) g =
+    behind-at i g =
         let k = g.0 in
         let number : i ≡ count + k + 1 = omega (arith, g.1) in
         let long = length-append (file_names o) o.bases in
@@ -206,17 +217,13 @@ module _ (limits : Limits) (sources : List Chosen) (o : Options) (filter : Optio
         unmade-behind : (synth : Option ℕ) (files : List (List ℕ)) (k : ℕ) → IsUnmade synth (length (names_of synth files) + k)
         unmade-behind None files k = tt
         unmade-behind (Some n) files k = omega arith
-    growth-ends (Err NoMemory) g = tt
-    growth-ends (Err (TooLong i)) g = behind-end (TooLong i) g
-    growth-ends (Err Done) g = behind-end Done g
-    growth-ends (Err (Usage kind)) g = behind-end (Usage kind) g
-    growth-ends (Err (Config kind offset)) g = behind-end (Config kind offset) g
-    growth-ends (Err (UnknownSource i)) g = behind-end (UnknownSource i) g
-    growth-ends (Err (PatternSyntax i)) g = behind-end (PatternSyntax i) g
-    growth-ends (Err (PatternTooBig i)) g = behind-end (PatternTooBig i) g
-    growth-ends (Err (Bad i fault offset)) g = behind-end (Bad i fault offset) g
-    growth-ends (Err (TooManyClaims i)) g = behind-end (TooManyClaims i) g
-    growth-ends (Err MappedTooLarge) g = behind-end MappedTooLarge g
-    growth-ends (Err NoMatch) g = behind-end NoMatch g
-    growth-ends (Err PlaceOutside) g = behind-end PlaceOutside g
-    growth-ends (Err WriteFailed) g = behind-end WriteFailed g
+
+    pub growth-ends : (r : Result (Vec ℕ Global) Outcome) → EndsGrowth limits sources (filter_test filter) (batch_of (length (file_names o)) t.lengths o.bases) b o t.rows r
+        → EndsCounting limits sources (beyond (length (file_names o)) a b) o r
+    unfolding count all
+    growth-ends (Ok out) g =
+        let s : Sides = record { files = e.0; bases = g.1.0 } in
+        (s, sides-behind e.0 o.bases (Ok g.1.0) e.1 (rw (← e.2.lengths) g.1.1), growth-for o.bases o s out.items some (grown g.0 out.items g.1.0 g.1.2 g.2))
+    growth-ends (Err end) g =
+        ends-so (IsFileOf limits sources (batch_of (length (file_names o)) t.lengths o.bases) b) (IsCountedFile limits sources (beyond (length (file_names o)) a b) o) (counted_batch limits sources b (batch_of (length (file_names o)) t.lengths o.bases))
+        (counted_sides limits sources (beyond (length (file_names o)) a b) (file_names o) o.bases) end (λ i same p. behind-at i p) (λ so. behind-end end so) g

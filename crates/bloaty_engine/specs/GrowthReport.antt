@@ -21,7 +21,7 @@ use Rattle.report_text.specs.Growth.{growth_csv_text, growth_report_text, growth
 use Rattle.size_options.specs.declared.chosen.Options.{Options}
 use Rattle.file_profile.specs.Counts.{file_size_where, filter_test, vm_size_where}
 use Rattle.run_outcome.specs.declared.outcome.Outcome.{Outcome}
-use Rattle.bloaty_engine.specs.Report.{depth_of, row_options}
+use Rattle.bloaty_engine.specs.Report.{CountsOnce, depth_of, row_options}
 use Rattle.file_profile.specs.Sources.{Chosen}
 use Rattle.bloaty_engine.specs.Steps.{Batch, EndsFiles}
 
@@ -43,6 +43,7 @@ pub record AreGrowths (filter : Option (List ℕ → Bool)) (depth : ℕ) (files
   pub base_vm : (test : List (List ℕ) → Bool)
       → size_where (λ (s : GrowthSizes). s.base_vm) test paths ≡ sum_by (vm_size_where filter test) bases
 
+-- the text of a tree of growth in a format
 abbrev pub growth_printed_as : Format → Options → GrowthTree → List ℕ
 growth_printed_as Text o tree = growth_report_text tree o.domain o.wide
 growth_printed_as Csv o tree = growth_csv_text tree o.domain o.sources
@@ -66,12 +67,6 @@ EndsGrowth limits sources filter b files o new (Ok text) =
     (t : Totals) × EndsFiles limits sources filter b files (Ok t) × PrintsGrowth o new t.rows text.items
 EndsGrowth limits sources filter b files o new (Err end) = EndsFiles limits sources filter b files (Err end)
 
--- the report of the growth of files from base files
-pub record IsGrowthReport (o : Options) (files bases : List FileView) (text : List ℕ) : Type 0 where
-  pub paths : List GrowthPath
-  pub growths : AreGrowths (filter_test o.filter) (depth_of o) files bases paths
-  pub is : text ≡ growth_printed o (growth_tree (row_options o) (depth_of o) paths)
-
 -- the sizes of the paths that begin with a path are the numbers of bytes and of mapped addresses whose paths do, over the
 -- files and over the base files
 pub record CountsGrowth (filter : Option (List ℕ → Bool)) (files bases : List FileView)
@@ -81,6 +76,7 @@ pub record CountsGrowth (filter : Option (List ℕ → Bool)) (files bases : Lis
   pub base_file : size_where (λ (s : GrowthSizes). s.base_file) (begins_with path) paths ≡ file_size filter bases path
   pub base_vm : size_where (λ (s : GrowthSizes). s.base_vm) (begins_with path) paths ≡ vm_size filter bases path
 
+-- each path counts its bytes and addresses on both sides, for every filter and all files
 abbrev pub GrowthsCountPaths : Type 0
 GrowthsCountPaths = (filter : Option (List ℕ → Bool)) (depth : ℕ) (files bases : List FileView) (paths : List GrowthPath)
     → AreGrowths filter depth files bases paths → (path : List (List ℕ)) → CountsGrowth filter files bases paths path
@@ -90,3 +86,22 @@ abbrev pub GrowthsAddUp : Type 0
 GrowthsAddUp = (o : Options) (files bases : List FileView) (paths : List GrowthPath)
     → AreGrowths (filter_test o.filter) (depth_of o) files bases paths
     → GrowsAlike o.domain (growth_tree (row_options o) (depth_of o) paths)
+
+-- The report of the growth of files from base files.
+--
+-- paths, growths: Each path of labels of a byte or an address of one of them, with its sizes over the files and over the base files.
+-- tree, order: The tree has them in the report's order, level by level, where `-n` leaves out rows an Others row.
+-- each: The sizes of the paths that begin with a path are the numbers of file bytes and of mapped addresses whose path of labels,
+--     by first covering claims, begins with it.
+-- once: Each byte is counted once in a level.
+-- sums: The growths of the children of a row, Others included, add up to that row's, and those of the first level to the whole.
+-- is: The text is the printed tree.
+pub record IsGrowthReport (o : Options) (files bases : List FileView) (text : List ℕ) : Type 0 where
+  pub paths : List GrowthPath
+  pub growths : AreGrowths (filter_test o.filter) (depth_of o) files bases paths
+  pub tree : GrowthTree
+  pub order : tree ≡ growth_tree (row_options o) (depth_of o) paths
+  pub each : (path : List (List ℕ)) → CountsGrowth (filter_test o.filter) files bases paths path
+  pub once : CountsOnce (filter_test o.filter)
+  pub sums : GrowsAlike o.domain tree
+  pub is : text ≡ growth_printed o tree

@@ -1,4 +1,5 @@
 pub mod Answers
+pub mod Devices
 pub mod GrowthReport
 pub mod Named
 pub mod PairSteps
@@ -6,5 +7,6 @@ pub mod PlaceSteps
 pub mod Reading
 pub mod Report
 pub mod Reports
+pub mod Stages
 pub mod Steps
 pub mod Verdict

@@ -10,22 +10,26 @@ pub record Contents : Type 0 where
   pub config : List ℕ
   pub files : ℕ → List ℕ
 
--- the configuration, if there is one, has the bytes that its name holds, where the files tell
+-- the configuration, if there is one, has the bytes that its name holds, where the files report them
 abbrev pub IsText : Option Pairs → Option (List ℕ) → List ℕ → Type 0
 IsText held None text = ⊤
 IsText held (Some name) text = IsHeld held name text
 
--- and so have files that are read, of which the first has this number
+-- And so have files that are read. The first of them has this number.
 abbrev pub AreHeld : Option Pairs → ℕ → List (List ℕ) → (ℕ → List ℕ) → Type 0
 AreHeld None first names files = ⊤
 AreHeld (Some pairs) first names files = (k : ℕ) (name : List ℕ) → slice_get names k ≡ Some name → files (first + k) ≡ held_bytes pairs name
 
--- a made file has the bytes of its number, and the others are read
+-- a synthetic file has the bytes of its number of functions, and the others are read
 abbrev pub AreFiles : Option Pairs → Option ℕ → List (List ℕ) → (ℕ → List ℕ) → Type 0
 AreFiles held None names files = AreHeld held 1 names files
 AreFiles held (Some n) names files = files 1 ≡ made n
 
--- these are the bytes of the files
+-- the files of a run have these bytes, and so have the others, whose numbers follow
+abbrev pub AreInputs : Option Pairs → Options → List (List ℕ) → (ℕ → List ℕ) → Type 0
+AreInputs held o others files = AreFiles held o.synth o.files files × AreHeld held (length (file_names o) + 1) others files
+
+-- These are the bytes of the configuration and of the files.
 pub record AreContents (held : Option Pairs) (o : Options) (c : Contents) : Type 0 where
   pub config : IsText held o.config c.config
   pub files : AreFiles held o.synth o.files c.files

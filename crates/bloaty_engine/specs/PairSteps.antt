@@ -1,4 +1,4 @@
--- What the steps of a run over a file with its debug file answer.
+-- What the steps of a run over a file with its debug file return.
 use Rattle.std.specs.Prelude.{◌≡◌, ℕ, ◌+◌, ◌<◌, ⊤, Bool, List, [], ◌∷◌, length, Option, Result, Ok, Err, Vec, IsOk}
 use Rattle.std.specs.declared.alloc.Global.{Global}
 use Rattle.size_core.specs.declared.limits.Limits.{Limits}
@@ -7,30 +7,28 @@ use Rattle.rollup.specs.Totals.{Totals}
 use Rattle.file_profile.specs.PairViews.{pair_viewed}
 use Rattle.file_profile.specs.Sources.{Chosen}
 use Rattle.run_outcome.specs.declared.outcome.Outcome.{Outcome}
-use Rattle.run_outcome.specs.declared.outcome.Outcome.TheVariants.{ReadFailed, NoMemory}
-use Rattle.bloaty_engine.specs.Steps.{HasCounted}
+use Rattle.bloaty_engine.specs.Steps.{EndsBy, HasCounted, Nowhere}
 use Rattle.bloaty_engine.specs.Verdict.{IsPairRead, counted_pair, if_paired, one_file, opened_first}
 
 -- the first file was read and opened, or the run ended at it, or at its read
 abbrev pub EndsFirst : Limits → List ℕ → Result (Vec ℕ Global) Outcome → Type 0
 EndsFirst limits file (Ok v) = (v.items ≡ file) × IsOk (opened_first limits file)
-EndsFirst limits file (Err (ReadFailed i)) = i ≡ 1
-EndsFirst limits file (Err NoMemory) = ⊤
-EndsFirst limits file (Err end) = opened_first limits file ≡ Err end
+EndsFirst limits file (Err end) = EndsBy (λ i. i ≡ 1) (opened_first limits file) end
 
 -- a file and its debug file were counted, or the run ended at one of them
 abbrev pub EndsPaired : Limits → List Chosen → Option (List ℕ → Bool) → List ℕ → List ℕ → List ℕ → Result Totals Outcome → Type 0
 EndsPaired limits sources filter name file debug (Ok t) =
     (f : FileView) × (pair_viewed 0 limits.claims name file debug sources ≡ Ok f) × HasCounted filter (length sources) (f ∷ []) t
-EndsPaired limits sources filter name file debug (Err NoMemory) = ⊤
-EndsPaired limits sources filter name file debug (Err (ReadFailed i)) = ⊥
-EndsPaired limits sources filter name file debug (Err end) = if_paired (pair_viewed 0 limits.claims name file debug sources) ≡ Err end
+EndsPaired limits sources filter name file debug (Err end) =
+    EndsBy Nowhere (if_paired (pair_viewed 0 limits.claims name file debug sources)) end
+
+-- file i is one of the two, and it may be read
+abbrev pub IsOfPair : Limits → List ℕ → ℕ → Type 0
+IsOfPair limits file i = (k : ℕ) × (i ≡ k + 1) × (k < 2) × IsPairRead limits file k
 
 -- A file and its debug file with these bytes were counted, or the run ended at one of them, or at a read that failed where it
 -- may be made.
 abbrev pub EndsPair : Limits → List Chosen → Option (List ℕ → Bool) → List ℕ → List ℕ → List ℕ → Result Totals Outcome → Type 0
 EndsPair limits sources filter name file debug (Ok t) =
     (f : FileView) × (counted_pair limits sources name file debug ≡ Ok (one_file f)) × HasCounted filter (length sources) (f ∷ []) t
-EndsPair limits sources filter name file debug (Err (ReadFailed i)) = (k : ℕ) × (i ≡ k + 1) × (k < 2) × IsPairRead limits file k
-EndsPair limits sources filter name file debug (Err NoMemory) = ⊤
-EndsPair limits sources filter name file debug (Err end) = counted_pair limits sources name file debug ≡ Err end
+EndsPair limits sources filter name file debug (Err end) = EndsBy (IsOfPair limits file) (counted_pair limits sources name file debug) end

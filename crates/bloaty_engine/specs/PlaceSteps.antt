@@ -1,4 +1,4 @@
--- What the steps of a run that explains a place answer.
+-- What the steps of a run that explains a location return.
 use Rattle.std.specs.Prelude.{◌≡◌, ℕ, ⊤, List, Result, Ok, Err, Vec}
 use Rattle.std.specs.declared.alloc.Global.{Global}
 use Rattle.size_core.specs.declared.limits.Limits.{Limits}
@@ -11,12 +11,12 @@ use Rattle.run_outcome.specs.declared.outcome.Outcome.{Outcome}
 use Rattle.run_outcome.specs.declared.outcome.Outcome.TheVariants.{ReadFailed, TooLong, NoMemory}
 use Rattle.bloaty_engine.specs.Verdict.{first_name, if_explained}
 
--- what data sources say of the place of a file with these bytes, which is within the limits
+-- what data sources report of the location, in a file with these bytes that is within the limits
 abbrev pub explained_within : Limits → List Chosen → Options → Place → List ℕ → Result (List PlaceSource) Outcome
 explained_within limits sources o place file =
     if_explained (explained_place limits.claims o.limit place (first_name o) file (named_sources o.sources sources))
 
--- the place was explained so, or the run ended there
+-- the location was explained so, or the run ended there
 abbrev pub EndsExplained : Result (List PlaceSource) Outcome → Result (Vec PlaceSource Global) Outcome → Type 0
 EndsExplained decided (Ok v) = decided ≡ Ok v.items
 EndsExplained decided (Err NoMemory) = ⊤

@@ -1,11 +1,10 @@
--- Which names a run reads, in which order, and how many bytes it takes before it calls one too long.
-use Rattle.std.specs.Prelude.{◌≡◌, ℕ, zero, suc, ◌+◌, ◌-◌, min, List, [], ◌∷◌, ◌++◌, length, take, Option, None, Some, Result, Ok, Err, ⊤}
+-- Which files a run reads, in which order, and how many bytes it takes before a file is too long.
+use Rattle.std.specs.Prelude.{ℕ, zero, suc, ◌+◌, ◌-◌, min, nat_lt, if◌then◌else◌, List, [], ◌∷◌, ◌++◌, length, slice_get, Option, None, Some, Result, Ok, Err}
 use Rattle.size_core.specs.declared.limits.Limits.{Limits}
-use Rattle.outside.specs.Held.{Pairs, IsTaken}
 use Rattle.elf_synth.specs.Made.{made}
 use Rattle.size_options.specs.declared.chosen.Options.{Options}
 use Rattle.size_options.specs.declared.answer.UsageKind.{UsageKind}
-use Rattle.run_outcome.specs.Names.{other_names}
+use Rattle.run_outcome.specs.Names.{name_at, other_names}
 use Rattle.bloaty_engine.specs.Verdict.{config_limit, file_limit, total_limit}
 
 -- the configuration, if there is one
@@ -13,7 +12,7 @@ abbrev pub config_names : Option (List ℕ) → List (List ℕ)
 config_names None = []
 config_names (Some name) = name ∷ []
 
--- the files, of which a made one isn't read
+-- the files that are read: a synthetic file isn't
 abbrev pub unmade_names : Option ℕ → List (List ℕ) → List (List ℕ)
 unmade_names None files = files
 unmade_names (Some n) files = []
@@ -26,30 +25,38 @@ files_to_read o = unmade_names o.synth o.files ++ other_names o
 abbrev pub names_to_read : Options → List (List ℕ)
 names_to_read o = config_names o.config ++ files_to_read o
 
--- the same of words that come to this; words that are misused have none
-abbrev pub names_by : Result Options UsageKind → List (List ℕ)
-names_by (Ok o) = names_to_read o
-names_by (Err kind) = []
-
--- the names that were read before, and then the first of these, each once and in order
-pub record ReadsFirst (before after names : List (List ℕ)) : Type 0 where
-  pub count : ℕ
-  pub are : after ≡ before ++ take count names
-
--- how many bytes of a made file count as read: all, though none is
+-- the length of the synthetic file, which counts for the limit of all files though it isn't read
 abbrev pub made_len : Option ℕ → ℕ
 made_len None = 0
 made_len (Some n) = length (made n)
 
--- More bytes were taken than the configuration, or the files up to one of them, may have, where the object doesn't tell
--- what it holds. A made file isn't read, but the files behind it have the less room.
-abbrev pub IsOverLimit : Limits → Option ℕ → ℕ → Option Pairs → ℕ → ℕ → Type 0
-IsOverLimit limits synth zero held before now = IsTaken held (config_limit limits + 1) before now
-IsOverLimit limits (Some n) (suc zero) held before now = ⊤
-IsOverLimit limits synth (suc k) held before now =
-    IsTaken held (min (file_limit limits) (total_limit limits - made_len synth) + 1) before now
+-- Where the files don't report what they hold, at least so many bytes are taken before file i is too long. A synthetic file
+-- isn't read, but it leaves less for the files after it.
+abbrev pub least_taken : Limits → Option ℕ → ℕ → ℕ
+least_taken limits synth zero = config_limit limits + 1
+least_taken limits (Some n) (suc zero) = 0
+least_taken limits synth (suc k) = min (file_limit limits) (total_limit limits - made_len synth) + 1
 
--- the same of words that come to this; words that are misused read no file
-abbrev pub IsOverLimitBy : Limits → Result Options UsageKind → ℕ → Option Pairs → ℕ → ℕ → Type 0
-IsOverLimitBy limits (Ok o) i held before now = IsOverLimit limits o.synth i held before now
-IsOverLimitBy limits (Err kind) i held before now = ⊥
+-- Files that are read one after the other: their names in order, the name of each by its number, and how many bytes are taken
+-- before the file of a number is too long.
+pub record Reading : Type 0 where
+  pub names : List (List ℕ)
+  pub name_of : ℕ → Option (List ℕ)
+  pub least : ℕ → ℕ
+
+-- the name of file i, where the first of these names is that of file `first`
+abbrev pub numbered : ℕ → List (List ℕ) → ℕ → Option (List ℕ)
+numbered first names i = if nat_lt i first then None else slice_get names (i - first)
+
+-- files of these names, the first of which has this number; so many bytes are taken before one is too long
+abbrev pub reading_from : ℕ → List (List ℕ) → ℕ → Reading
+reading_from first names least = record { names = names; name_of = numbered first names; least = λ i. least }
+
+-- files of a run with these options
+abbrev pub reading_for : Limits → Options → List (List ℕ) → Reading
+reading_for limits o names = record { names = names; name_of = name_at o; least = least_taken limits o.synth }
+
+-- all that a run reads, by what its arguments come to
+abbrev pub run_reading : Limits → Result Options UsageKind → Reading
+run_reading limits (Ok o) = reading_for limits o (names_to_read o)
+run_reading limits (Err kind) = reading_from 0 [] 0

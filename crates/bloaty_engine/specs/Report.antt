@@ -1,12 +1,12 @@
 -- The report of the sizes of files.
-use Rattle.std.specs.Prelude.{◌≡◌, ◌⊎◌, ℕ, ◌<◌, Bool, List, length, Option, None, All}
+use Rattle.std.specs.Prelude.{◌≡◌, ◌⊎◌, ℕ, ◌<◌, Bool, true, List, length, Option, None, All}
 use Rattle.std.specs.List.{sum_by}
 use Rattle.std.specs.List.Sorted.{IsStrictlySortedBy}
 use Rattle.size_core.specs.declared.choices.Format.{Format}
 use Rattle.size_core.specs.declared.choices.Format.TheVariants.{Text, Csv, Tsv}
 use Rattle.size_model.specs.declared.view.FileView.{FileView}
 use Rattle.size_model.specs.Loads.{mapped_count}
-use Rattle.size_model.specs.Sizes.{file_size, vm_size}
+use Rattle.size_model.specs.Sizes.{counts_for, file_size, vm_size}
 use Rattle.rollup.specs.declared.table.RollupRow.{RollupRow}
 use Rattle.rollup.specs.Adding.{file_where, vm_where}
 use Rattle.rollup.specs.Totals.{row_cmp}
@@ -31,19 +31,22 @@ pub record AreSizes (filter : Option (List ℕ → Bool)) (depth : ℕ) (files :
   pub file : (test : List (List ℕ) → Bool) → file_where test rows ≡ sum_by (file_size_where filter test) files
   pub vm : (test : List (List ℕ) → Bool) → vm_where test rows ≡ sum_by (vm_size_where filter test) files
 
--- the sizes of what stands under a path are those of the path over all files
+-- the sizes of the rows under a path are those of the path over all files
 pub record CountsPath (filter : Option (List ℕ → Bool)) (files : List FileView) (rows : List RollupRow)
     (path : List (List ℕ)) : Type 0 where
   pub file : file_sum (under_path path rows) ≡ file_size filter files path
   pub vm : vm_sum (under_path path rows) ≡ vm_size filter files path
 
+-- each path has the sizes that its rows add up to, for every filter and all files
 abbrev pub RowsCountPaths : Type 0
 RowsCountPaths = (filter : Option (List ℕ → Bool)) (depth : ℕ) (files : List FileView) (rows : List RollupRow)
     → AreSizes filter depth files rows → (path : List (List ℕ)) → CountsPath filter files rows path
 
+-- the limit, the order and the domain of the options
 abbrev pub row_options : Options → RowOptions
 row_options o = record { limit = o.limit; sort = o.sort; domain = o.domain }
 
+-- the number of data sources in `-d`
 abbrev pub depth_of : Options → ℕ
 depth_of o = length o.sources
 
@@ -56,6 +59,7 @@ pub record HasWholeTotals (files : List FileView) (tree : RowTree) : Type 0 wher
   pub file : tree.file ≡ sum_by (λ (f : FileView). f.len) files
   pub vm : tree.vm ≡ sum_by (λ (f : FileView). mapped_count f.loads) files
 
+-- without a filter a report has whole totals, for all options and files
 abbrev pub TotalsAreWhole : Type 0
 TotalsAreWhole = (o : Options) (files : List FileView) (rows : List RollupRow)
     → o.filter ≡ None → AreSizes (filter_test o.filter) (depth_of o) files rows → HasWholeTotals files (report_tree o rows)
@@ -73,6 +77,7 @@ abbrev pub SizesAddUp : Type 0
 SizesAddUp = (o : Options) (files : List FileView) (rows : List RollupRow)
     → AreSizes (filter_test o.filter) (depth_of o) files rows → AddsUp o.domain (report_tree o rows)
 
+-- the text of a tree in a format
 abbrev pub printed_as : Format → Options → RowTree → List ℕ
 printed_as Text o tree = report_text tree o.domain o.wide
 printed_as Csv o tree = csv_text tree o.domain o.sources
@@ -82,8 +87,28 @@ printed_as Tsv o tree = tsv_text tree o.domain o.sources
 unfoldable pub printed : Options → RowTree → List ℕ
 printed o tree = printed_as o.format o tree
 
--- the report of the sizes of files
+-- No byte is counted for two rows of a level: a path of labels begins with at most one path of a length.
+abbrev pub CountsOnce : Option (List ℕ → Bool) → Type 0
+CountsOnce filter = (path p q : List (List ℕ)) → length p ≡ length q → counts_for filter p path ≡ true → counts_for filter q path ≡ true → p ≡ q
+
+-- The report of the sizes of files.
+--
+-- rows, sizes: The rows list each path of labels of a byte or an address, by first covering claims, with its sizes.
+-- tree, order: The tree has these rows in the report's order, level by level, where `-n` leaves out rows an Others row.
+-- each: The sizes of a row are the numbers of file bytes and of mapped addresses whose path of labels begins with the row's path;
+--     an Others row has the sums of the rows left out.
+-- once: Each byte is counted once in a level.
+-- sums: The sizes of the children of a row, Others included, add up to that row's, and those of the first level to the total.
+-- whole: Without a filter the totals are the lengths of all files and the numbers of addresses that they map.
+-- is: The text is the printed tree.
 pub record IsSizeReport (o : Options) (files : List FileView) (text : List ℕ) : Type 0 where
   pub rows : List RollupRow
   pub sizes : AreSizes (filter_test o.filter) (depth_of o) files rows
-  pub is : text ≡ printed o (report_tree o rows)
+  pub tree : RowTree
+  pub order : tree ≡ report_tree o rows
+  pub each : ShowsPaths (row_options o) (vm_size (filter_test o.filter) files) (file_size (filter_test o.filter) files)
+      (depth_of o) tree.rows
+  pub once : CountsOnce (filter_test o.filter)
+  pub sums : AddsUp o.domain tree
+  pub whole : o.filter ≡ None → HasWholeTotals files tree
+  pub is : text ≡ printed o tree

@@ -1,4 +1,4 @@
--- What the words and the bytes of the files decide.
+-- What the arguments and the bytes of the files decide.
 use Rattle.std.specs.Prelude.{ℕ, zero, suc, ◌+◌, ◌-◌, ◌^◌, min, ◌||◌, nat_lt, ⊤, List, [], ◌∷◌, length, slice_get, take, unwrap_or, Option, None, Some, Result, Ok, Err, IsOk, if◌then◌else◌}
 use Rattle.std.specs.List.{sum_by}
 use Rattle.size_core.specs.declared.fault.BadFile.{BadFile}
@@ -35,40 +35,45 @@ abbrev pub ◌>>=◌ : {A B : Type 0} → Result A Outcome → (A → Result B O
 (Ok x) >>= next = next x
 (Err end) >>= next = Err end
 
--- the most bytes of a configuration, of another file, and of all other files
+-- the most bytes of a configuration
 abbrev pub config_limit : Limits → ℕ
 config_limit limits = min limits.file (2 ^ 20)
 
+-- the most bytes of a file
 abbrev pub file_limit : Limits → ℕ
 file_limit limits = min limits.file (2 ^ 32 - 1)
 
+-- the most bytes of all files
 abbrev pub total_limit : Limits → ℕ
 total_limit limits = min limits.total (2 ^ 62)
 
+-- misused arguments end a run
 abbrev pub if_usage : Result Options UsageKind → Result Options Outcome
 if_usage (Ok options) = Ok options
 if_usage (Err kind) = Err (outcome.Usage kind)
 
+-- a fault of the configuration ends a run
 abbrev pub if_config : Result (List CustomSource) ConfigFault → Result (List CustomSource) Outcome
 if_config (Ok customs) = Ok customs
 if_config (Err (kind, offset)) = Err (outcome.Config kind offset)
 
--- the custom data sources of a configuration with this text, if the words name one
+-- the custom data sources of a configuration with this text, if the options name one
 abbrev pub customs_in : Limits → Option (List ℕ) → List ℕ → Result (List CustomSource) Outcome
 customs_in limits None text = Ok []
 customs_in limits (Some name) text = if nat_lt (config_limit limits) (length text) then Err (outcome.TooLong 0) else if_config (config text)
 
+-- a name that means no data source ends a run
 abbrev pub if_unknown : Result (List Chosen) ℕ → Result (List Chosen) Outcome
 if_unknown (Ok sources) = Ok sources
 if_unknown (Err number) = Err (outcome.UnknownSource number)
 
--- what is asked: the options, the custom data sources of the configuration, and the data sources that the names mean
+-- What is asked: the options, the custom data sources of the configuration, and the data sources of the names in `-d`.
 pub record Request : Type 0 where
   pub options : Options
   pub customs : List CustomSource
   pub sources : List Chosen
 
--- what the words, given as their options, and the configuration ask
+-- what the arguments, given as their options, and the configuration ask
 unfoldable pub asked : Limits → Result Options UsageKind → Contents → Result Request Outcome
 asked limits given contents = do
   options ← if_usage given
@@ -83,6 +88,7 @@ end_at i profile.TooManyClaims = outcome.TooManyClaims i
 end_at i profile.MappedTooLarge = outcome.MappedTooLarge
 end_at i profile.NoMemory = outcome.NoMemory
 
+-- a file that isn't counted ends a run
 abbrev pub if_viewed : ℕ → Result FileView ProfileAnswer → Result FileView Outcome
 if_viewed i (Ok file) = Ok file
 if_viewed i (Err answer) = Err (end_at i answer)
@@ -98,7 +104,7 @@ unfoldable pub counted_file : Limits → List Chosen → ℕ → ℕ → ℕ →
 counted_file limits sources i lengths mapped name file =
     if_short limits i lengths file (if_viewed i (viewed mapped limits.claims name file sources))
 
--- the files of these names, the first of which is file i, one after the other
+-- The files of these names, one after the other. The first is file i.
 abbrev pub counted_from : Limits → List Chosen → (ℕ → List ℕ) → ℕ → ℕ → ℕ → List (List ℕ) → Result (List FileView) Outcome
 counted_from limits sources files i lengths mapped [] = Ok []
 counted_from limits sources files i lengths mapped (name ∷ names) = do
@@ -128,11 +134,11 @@ abbrev pub if_sound : Result Binary BadFile → Result Binary Outcome
 if_sound (Ok binary) = Ok binary
 if_sound (Err bad) = Err (outcome.Bad 1 bad.fault bad.offset)
 
--- the first file as it stands before its debug file is read
+-- the first file, opened before its debug file is read
 unfoldable pub opened_first : Limits → List ℕ → Result Binary Outcome
 opened_first limits file = if_short limits 1 0 file (if_sound (opened file))
 
--- how a run ends where a file and its debug file, which are files 1 and 2, aren't counted
+-- How a run ends if a file and its debug file, which are files 1 and 2, aren't counted.
 abbrev pub end_of_pair : PairAnswer → Outcome
 end_of_pair (pair.Bad i bad) = outcome.Bad i bad.fault bad.offset
 end_of_pair pair.NoMatch = outcome.NoMatch
@@ -144,6 +150,7 @@ end_of_pair pair.NoMemory = outcome.NoMemory
 abbrev pub one_file : FileView → Sides
 one_file file = record { files = file ∷ []; bases = [] }
 
+-- a file that isn't counted with its debug file ends a run
 abbrev pub if_paired : Result FileView PairAnswer → Result Sides Outcome
 if_paired (Ok file) = Ok (one_file file)
 if_paired (Err answer) = Err (end_of_pair answer)
@@ -154,7 +161,7 @@ counted_pair limits sources name file debug = do
   binary ← opened_first limits file
   if_short limits 2 (length file) debug (if_paired (pair_viewed 0 limits.claims name file debug sources))
 
--- how a run ends where a place of the one file isn't explained
+-- how a run ends where a location of the one file isn't explained
 abbrev pub end_of_place : PlaceAnswer → Outcome
 end_of_place (explaining.Bad bad) = outcome.Bad 1 bad.fault bad.offset
 end_of_place explaining.PlaceOutside = outcome.PlaceOutside
@@ -162,16 +169,17 @@ end_of_place explaining.TooManyClaims = outcome.TooManyClaims 1
 end_of_place explaining.MappedTooLarge = outcome.MappedTooLarge
 end_of_place explaining.NoMemory = outcome.NoMemory
 
+-- a location that isn't explained ends a run
 abbrev pub if_explained : Result (List PlaceSource) PlaceAnswer → Result (List PlaceSource) Outcome
 if_explained (Ok sources) = Ok sources
 if_explained (Err answer) = Err (end_of_place answer)
 
--- a place of the file of this name, as the data sources asked explain it
+-- the explanation of a location of the file of this name by the data sources in `-d`
 unfoldable pub explained_file : Limits → List Chosen → Options → Place → List ℕ → List ℕ → Result (List PlaceSource) Outcome
 explained_file limits sources o place name file =
     if_short limits 1 0 file (if_explained (explained_place limits.claims o.limit place name file (named_sources o.sources sources)))
 
--- the first n of the files asked, and behind the last of them the first of the base files
+-- the first n of the files and then the base files
 abbrev pub counted_files : Limits → List Chosen → (ℕ → List ℕ) → Options → ℕ → Result Sides Outcome
 counted_files limits sources files o n =
     counted_sides limits sources files (take n (file_names o)) (take (n - length (file_names o)) o.bases)
@@ -180,25 +188,28 @@ counted_files limits sources files o n =
 abbrev pub first_name : Options → List ℕ
 first_name o = unwrap_or (slice_get (file_names o) 0) []
 
--- what a report shows: files as they are counted, or a place as data sources explain it
+-- what a report shows: files as they are counted, or a location as data sources explain it
 pub data Finding : Type 0 where
   Counted : Sides → Finding
   Explained : Place → List PlaceSource → Finding
 
+-- files that are counted are what a report shows
 abbrev pub as_counted : Result Sides Outcome → Result Finding Outcome
 as_counted (Ok sides) = Ok (Counted sides)
 as_counted (Err end) = Err end
 
+-- what data sources report of a location is what a report shows
 abbrev pub as_explained : Place → Result (List PlaceSource) Outcome → Result Finding Outcome
 as_explained place (Ok sources) = Ok (Explained place sources)
 as_explained place (Err end) = Err end
 
--- the place that is asked, or else the file with its debug file, or else the files and the base files
+-- the location to explain, or else the file with its debug file, or else the files and the base files
 abbrev pub found_by : Option Place → Option (List ℕ) → Limits → List Chosen → (ℕ → List ℕ) → Options → Result Finding Outcome
 found_by None None limits sources files o = as_counted (counted_sides limits sources files (file_names o) o.bases)
 found_by None (Some debug) limits sources files o = as_counted (counted_pair limits sources (first_name o) (files 1) (files 2))
 found_by (Some place) debug limits sources files o = as_explained place (explained_file limits sources o place (first_name o) (files 1))
 
+-- what the options ask, found in files with these bytes, or how the run ends
 unfoldable pub found : Limits → List Chosen → (ℕ → List ℕ) → Options → Result Finding Outcome
 found limits sources files o = found_by o.place o.debug limits sources files o
 
@@ -207,21 +218,22 @@ abbrev pub IsPairRead : Limits → List ℕ → ℕ → Type 0
 IsPairRead limits file zero = ⊤
 IsPairRead limits file (suc k) = IsOk (opened_first limits file)
 
--- The file at place k may be read: the files before it are counted, or, where it is a debug file, the file before it is
+-- The file with index k may be read: the files before it are counted, or, where it is a debug file, the file before it is
 -- opened.
 abbrev pub IsReadBy : Option (List ℕ) → Limits → List Chosen → (ℕ → List ℕ) → Options → ℕ → Type 0
 IsReadBy None limits sources files o k = IsOk (counted_files limits sources files o k)
 IsReadBy (Some debug) limits sources files o k = IsPairRead limits (files 1) k
 
+-- the file with index k may be read
 abbrev pub IsReadAt : Limits → List Chosen → (ℕ → List ℕ) → Options → ℕ → Type 0
 IsReadAt limits sources files o k = IsReadBy o.debug limits sources files o k
 
--- what a report is made of: what is asked, and what was found
+-- What a report is made of: what is asked, and what was found.
 pub record Found : Type 0 where
   pub request : Request
   pub finding : Finding
 
--- how a run over these bytes ends, or what its report is made of
+-- What the report of a run over these bytes is made of, or how the run ends without one.
 unfoldable pub verdict : Limits → Result Options UsageKind → Contents → Result Found Outcome
 verdict limits given contents = do
   r ← asked limits given contents

@@ -1,19 +1,20 @@
 //! The files of a run, read and counted one after the other.
 
-ghost use Rattle.std.specs.Prelude.{◌≡◌, ◌+◌, ◌-◌, ◌^◌, ◌<◌, ◌≤◌, ◌++◌, ◌∷◌, [], ℕ, List, Ok, Some, length, min, codes, slice_get, IfOk, IfSome, OnOk, IsErrOf, true};
-ghost use Rattle.outside.specs.Causes.{Rose};
-ghost use Rattle.outside.specs.Held.{IsHeld, IsLonger, IsTaken};
+ghost use Rattle.std.specs.Prelude.{◌≡◌, ◌+◌, ◌^◌, ◌<◌, ◌≤◌, ◌++◌, ◌∷◌, [], ℕ, List, Ok, length, codes, IfOk, OnOk, IsErrOf};
+ghost use Rattle.outside.specs.Held.{IsHeld, IsTaken};
 ghost use Rattle.size_model.specs.declared.view.FileView.{FileView as FileViewSpec};
 ghost use Rattle.elf_synth.specs.Made.{made};
-ghost use Rattle.bloaty_engine.specs.Answers.{ends_without, is_failed_read};
+ghost use Rattle.size_options.specs.Answers.{IsOneInput};
 ghost use Rattle.file_profile.specs.Counts.{filter_test};
+ghost use Rattle.bloaty_engine.specs.Devices.{Reads};
 ghost use Rattle.bloaty_engine.specs.Named.{AreHeld};
 ghost use Rattle.run_outcome.specs.Names.{file_names};
-ghost use Rattle.bloaty_engine.specs.Reading.{ReadsFirst};
-ghost use Rattle.bloaty_engine.specs.Steps.{EndsAs, EndsFiles, Finds, HasCounted, batch_of};
-ghost use Rattle.bloaty_engine.specs.Verdict.{counted_file, end_at, file_limit, total_limit};
+ghost use Rattle.bloaty_engine.specs.Reading.{reading_from};
+ghost use Rattle.bloaty_engine.specs.Steps.{EndsAs, EndsFiles, Finds, HasCounted, batch_of, batch_reading};
+ghost use Rattle.bloaty_engine.specs.Verdict.{counted_file, end_at, file_limit, first_name, total_limit};
 
 use crate::profile::profile_file;
+use crate::request::Run;
 use elf_synth::synth;
 use file_profile::{Plan, ProfileAnswer};
 use outside::{FileAnswer, Files};
@@ -24,6 +25,13 @@ use size_options::Options;
 use std::alloc::Global;
 use std::marker::Brand;
 use std::sync::ledger::{Blank, Ledger};
+
+/// How many files were counted, and how many bytes they have.
+#[derive(Drop)]
+pub struct Tally {
+    pub files: usize,
+    pub bytes: u64,
+}
 
 /// The most bytes of a file.
 pub fn file_limit(limits: &Limits) -> u64
@@ -39,7 +47,7 @@ pub fn total_limit(limits: &Limits) -> u64
     limits.total.min(1 << 62)
 }
 
-/// Reads file `number`, of which at most `limit` bytes are read.
+/// Reads file `number`: at most `limit` bytes.
 pub fn read_file<F: Files>(
     alloc: Global,
     files: &mut F,
@@ -47,18 +55,12 @@ pub fn read_file<F: Files>(
     number: usize,
     limit: u64,
 ) -> Result<Vec<u8>, Outcome>
-    ensures found { (bytes : List ℕ) × IsHeld (F.held files.old) name.now bytes × Finds number limit bytes result }
-    ensures failed { IsErrOf result (Outcome.ReadFailed number)
-        → Rose (F.faults files.old) (F.faults files.new) × IfSome (F.last_failed files.new) (λ n. n ≡ name.now) }
-    ensures asked { F.asked files.new ≡ F.asked files.old ++ name.now ∷ [] }
-    ensures taken { IfOk result
-        (λ v. IsTaken (F.held files.old) (length v.items) (F.taken files.old) (F.taken files.new)) }
-    ensures long { (i : ℕ) → IsErrOf result (Outcome.TooLong i)
-        → (i ≡ number) × IsLonger (F.held files.old) name.now limit (F.taken files.old) (F.taken files.new) }
-    ensures more { F.taken files.old ≤ F.taken files.new }
-    ensures held { F.held files.new ≡ F.held files.old }
-    ensures later { F.faults files.old ≤ F.faults files.new }
-    ensures uncounted { ends_without is_failed_read result ≡ true → F.faults files.new ≡ F.faults files.old }
+    ensures found { (bytes : List ℕ)
+        × IsHeld (F.held files.old) name.now bytes × Finds number limit bytes result }
+    ensures files { let reading = reading_from number (name.now ∷ []) (limit + 1) in
+        Reads F.Files reading result files.old files.new }
+    ensures taken { IfOk result (λ v.
+        IsTaken (F.held files.old) (length v.items) (F.taken files.old) (F.taken files.new)) }
 {
     match files.read(alloc, name, limit) {
         Ok(bytes) => Ok(bytes),
@@ -84,38 +86,57 @@ fn end_at(number: usize, answer: ProfileAnswer) -> Outcome
     }
 }
 
-// Counts file `number`. The blank opens a counter of steps that nothing reads.
-fn count_file<L: Ledger>(
-    alloc: Global,
-    plan: &Plan,
-    name: &Text,
-    file: &[u8],
+// A file that was read: its number, its name and its bytes.
+#[derive(Clone, Copy)]
+struct Input<'n, 'b> {
     number: usize,
+    name: &'n Text,
+    bytes: &'b [u8],
+}
+
+// Counts a file. The blank opens a counter of steps that nothing reads.
+fn count_file<L: Ledger>(
+    run: &Run,
+    plan: &Plan,
+    file: Input<'_, '_>,
     total: &mut Rollup,
-    limits: &Limits,
     blank: Blank,
 ) -> Result<(), Outcome>
     requires name { blank.name ≡ L.name }
     requires parts { blank.parts ≡ L.parts }
     requires some { 0 < blank.parts }
     requires depth { total.old.depth ≡ length plan.now.sources }
-    requires fits { length file.now ≤ file_limit limits.now }
-    requires lengths { total.old.lengths + length file.now ≤ total_limit limits.now }
+    requires fits { length file.bytes.now ≤ file_limit run.now.limits }
+    requires lengths { total.old.lengths + length file.bytes.now ≤ total_limit run.now.limits }
     ensures short { (i : ℕ) → IsErrOf result (Outcome.TooLong i) → ⊥ }
-    ensures ended { (lengths : ℕ) → lengths + length file.now ≤ total_limit limits.now
-        → EndsAs result (counted_file limits.now plan.now.sources number lengths total.old.mapped name.now file.now) }
+    ensures ended { (lengths : ℕ)
+        → lengths + length file.entry.bytes.now ≤ total_limit run.now.limits
+        → EndsAs result (counted_file run.now.limits plan.now.sources file.entry.number lengths
+        total.old.mapped file.entry.name.now file.entry.bytes.now) }
     ensures counted { OnOk result ((lengths : ℕ) (files : List FileViewSpec) (f : FileViewSpec)
-        → lengths + length file.now ≤ total_limit limits.now
-        → counted_file limits.now plan.now.sources number lengths total.old.mapped name.now file.now ≡ Ok f
+        → lengths + length file.entry.bytes.now ≤ total_limit run.now.limits
+        → counted_file run.now.limits plan.now.sources file.entry.number lengths
+        total.old.mapped file.entry.name.now file.entry.bytes.now ≡ Ok f
         → HasCounted (filter_test plan.now.filter) (length plan.now.sources) files total.old
-        → HasCounted (filter_test plan.now.filter) (length plan.now.sources) (files ++ f ∷ []) total.new) }
+        → HasCounted (filter_test plan.now.filter) (length plan.now.sources)
+        (files ++ f ∷ []) total.new) }
     ensures depth { total.new.depth ≡ total.old.depth }
-    ensures lengths { OnOk result (total.new.lengths ≡ total.old.lengths + length file.now) }
+    ensures lengths { OnOk result
+        (total.new.lengths ≡ total.old.lengths + length file.entry.bytes.now) }
 {
     let mut steps = Steps::<L>::begin(blank);
-    match profile_file(alloc, plan, name.as_str(), file, total, limits, &mut steps) {
+    let name = file.name.as_str();
+    match profile_file(
+        run.alloc,
+        plan,
+        name,
+        file.bytes,
+        total,
+        &run.limits,
+        &mut steps,
+    ) {
         Ok(()) => Ok(()),
-        Err(answer) => Err(end_at(number, answer)),
+        Err(answer) => Err(end_at(file.number, answer)),
     }
 }
 
@@ -129,80 +150,89 @@ pub fn file_count(options: &Options) -> usize
     }
 }
 
-/// Reads and counts the files of these names, each let go before the next is read. `before` is how many files stand before
-/// the first of them, whose number is the next, and `lengths` how many bytes the files before have, and then these as well.
+/// The name of the one file.
+pub fn first_name(options: &Options) -> &str
+    requires { IsOneInput options.now.synth options.now.files }
+    ensures { result.now ≡ first_name options.now }
+{
+    match options.synth {
+        Some(_) => "synth",
+        None => options.files.get(0).as_str(),
+    }
+}
+
+/// Reads and counts the files of these names, and adds them to `tally`, which has the files before them. Each file's
+/// memory is freed before the next is read.
 pub fn count_files<F: Files>(
-    alloc: Global,
-    names: &Names,
-    before: usize,
+    run: &Run,
     plan: &Plan,
+    names: &Names,
     files: &mut F,
-    limits: &Limits,
-    lengths: &mut u64,
+    tally: &mut Tally,
 ) -> Result<Rollup, Outcome>
     requires few { length plan.now.sources ≤ 8 }
-    requires numbers { before + length names.now < 2 ^ 64 }
-    requires room { lengths.old ≤ total_limit limits.now }
-    ensures counted { let batch = batch_of before lengths.old names.now in
+    requires numbers { tally.old.files + length names.now < 2 ^ 64 }
+    requires room { tally.old.bytes ≤ total_limit run.now.limits }
+    ensures counted { let batch = batch_of tally.old.files tally.old.bytes names.now in
         (bytes : ℕ → List ℕ) × AreHeld (F.held files.old) batch.first batch.names bytes
-        × EndsFiles limits.now plan.now.sources (filter_test plan.now.filter) batch bytes result }
-    ensures lengths { IfOk result (λ t. lengths.new ≡ lengths.old + t.lengths) }
-    ensures room { lengths.new ≤ total_limit limits.now }
-    ensures failed { (k : ℕ) → IsErrOf result (Outcome.ReadFailed (before + 1 + k))
-        → Rose (F.faults files.old) (F.faults files.new)
-        × IfSome (F.last_failed files.new) (λ n. slice_get names.now k ≡ Some n) }
-    ensures asked { ReadsFirst (F.asked files.old) (F.asked files.new) names.now }
-    ensures all { OnOk result (F.asked files.new ≡ F.asked files.old ++ names.now) }
-    ensures taken { IfOk result (λ t. IsTaken (F.held files.old) t.lengths (F.taken files.old) (F.taken files.new)) }
-    ensures long { (i : ℕ) → IsErrOf result (Outcome.TooLong i)
-        → (before < i)
-        × IsTaken (F.held files.old) (min (file_limit limits.now) (total_limit limits.now - lengths.old) + 1)
-        (F.taken files.old) (F.taken files.new) }
-    ensures held { F.held files.new ≡ F.held files.old }
-    ensures later { F.faults files.old ≤ F.faults files.new }
-    ensures uncounted { ends_without is_failed_read result ≡ true → F.faults files.new ≡ F.faults files.old }
+        × EndsFiles run.now.limits plan.now.sources (filter_test plan.now.filter)
+        batch bytes result }
+    ensures files { let batch = batch_of tally.old.files tally.old.bytes names.now in
+        Reads F.Files (batch_reading run.now.limits batch) result files.old files.new }
+    ensures tally { IfOk result (λ t. (tally.new.files ≡ tally.old.files + length names.now)
+        × (tally.new.bytes ≡ tally.old.bytes + t.lengths)) }
+    ensures room { tally.new.bytes ≤ total_limit run.now.limits }
+    ensures taken { IfOk result (λ t.
+        IsTaken (F.held files.old) t.lengths (F.taken files.old) (F.taken files.new)) }
 {
-    let mut total = Rollup::new(alloc, plan.depth());
+    let before = tally.files;
+    let mut total = Rollup::new(run.alloc, plan.depth());
     for k in 0..names.len() {
         let number = before + 1 + k;
         let name = names.get(k);
-        let limit = file_limit(limits).min(total_limit(limits) - *lengths);
-        let file = read_file(alloc, files, name.as_str(), number, limit)?;
+        let limit = file_limit(&run.limits).min(total_limit(&run.limits) - tally.bytes);
+        let file = read_file(run.alloc, files, name.as_str(), number, limit)?;
         let blank = Blank::new(1);
-        count_file::<Brand>(alloc, plan, name, &file, number, &mut total, limits, blank)?;
-        *lengths += file.len() as u64;
+        let input = Input {
+            number,
+            name,
+            bytes: &file,
+        };
+        count_file::<Brand>(run, plan, input, &mut total, blank)?;
+        tally.bytes += file.len() as u64;
     }
+    tally.files = before + names.len();
     Ok(total)
 }
 
-/// Counts the made file of `n` functions, and adds its length to `lengths`.
-pub fn count_made(
-    alloc: Global,
-    n: u32,
-    plan: &Plan,
-    limits: &Limits,
-    lengths: &mut u64,
-) -> Result<Rollup, Outcome>
+/// Counts the synthetic file of `n` functions, the first file, and adds it to `tally`.
+pub fn count_made(run: &Run, plan: &Plan, n: u32, tally: &mut Tally) -> Result<Rollup, Outcome>
     requires number { n ≤ 1_000_000 }
     requires few { length plan.now.sources ≤ 8 }
-    requires none { lengths.old ≡ 0 }
-    ensures counted { EndsFiles limits.now plan.now.sources (filter_test plan.now.filter)
+    requires none { tally.old ≡ record { files = 0; bytes = 0 } }
+    ensures counted { EndsFiles run.now.limits plan.now.sources (filter_test plan.now.filter)
         (batch_of 0 0 (codes "synth" ∷ [])) (λ i. made n) result }
-    ensures lengths { IfOk result (λ t. lengths.new ≡ t.lengths) }
-    ensures made { OnOk result (lengths.new ≡ length (made n)) }
-    ensures room { lengths.new ≤ total_limit limits.now }
+    ensures tally { IfOk result (λ t. (tally.new.files ≡ 1) × (tally.new.bytes ≡ t.lengths)
+        × (t.lengths ≡ length (made n))) }
+    ensures room { tally.new.bytes ≤ total_limit run.now.limits }
     ensures unread { (i : ℕ) → IsErrOf result (Outcome.ReadFailed i) → ⊥ }
     ensures long { (i : ℕ) → IsErrOf result (Outcome.TooLong i) → i ≡ 1 }
 {
-    let mut total = Rollup::new(alloc, plan.depth());
-    let file = synth(alloc, n)?;
-    let limit = file_limit(limits).min(total_limit(limits));
+    let mut total = Rollup::new(run.alloc, plan.depth());
+    let file = synth(run.alloc, n)?;
+    let limit = file_limit(&run.limits).min(total_limit(&run.limits));
     if file.len() as u64 > limit {
         return Err(Outcome::TooLong(1));
     }
-    let name = Text::of(alloc, "synth")?;
+    let name = Text::of(run.alloc, "synth")?;
     let blank = Blank::new(1);
-    count_file::<Brand>(alloc, plan, &name, &file, 1, &mut total, limits, blank)?;
-    *lengths = file.len() as u64;
+    let input = Input {
+        number: 1,
+        name: &name,
+        bytes: &file,
+    };
+    count_file::<Brand>(run, plan, input, &mut total, blank)?;
+    tally.files = 1;
+    tally.bytes = file.len() as u64;
     Ok(total)
 }

@@ -1,4 +1,4 @@
-//! The whole run: words, files and outputs, from the options to the report.
+//! The whole run, from the command line to the report. `bloaty` is the entry point; its contract is in run.rt.
 #![tactic(auto)]
 
 mod files;

@@ -1,30 +1,28 @@
 //! A file with its debug file.
 
-ghost use Rattle.std.specs.Prelude.{◌≡◌, ◌-◌, ◌^◌, ◌<◌, ◌≤◌, ◌+◌, ◌++◌, ◌∷◌, [], ℕ, List, None, Some, length, min, slice_get, IfOk, IfSome, OnOk, IsErrOf, true};
-ghost use Rattle.outside.specs.Causes.{Rose};
+ghost use Rattle.std.specs.Prelude.{◌≡◌, ◌^◌, ◌<◌, ◌≤◌, ◌∷◌, [], ℕ, List, None, Some, length, min, IfOk};
 ghost use Rattle.outside.specs.Held.{IsHeld, IsTaken};
 ghost use Rattle.data_sources.specs.Opened.{opened};
-ghost use Rattle.size_options.specs.Answers.{KeepsLimits};
+ghost use Rattle.size_options.specs.Answers.{IsOneInput, KeepsLimits};
 ghost use Rattle.file_profile.specs.Counts.{filter_test};
-ghost use Rattle.bloaty_engine.specs.Answers.{ends_without, is_failed_read};
-ghost use Rattle.bloaty_engine.specs.Named.{AreFiles, AreHeld};
-ghost use Rattle.run_outcome.specs.Names.{file_names, name_at, other_names};
+ghost use Rattle.bloaty_engine.specs.Devices.{Reads};
+ghost use Rattle.bloaty_engine.specs.Named.{AreInputs};
+ghost use Rattle.run_outcome.specs.Names.{other_names};
 ghost use Rattle.bloaty_engine.specs.PairSteps.{EndsFirst, EndsPair, EndsPaired};
-ghost use Rattle.bloaty_engine.specs.Reading.{IsOverLimit, ReadsFirst, files_to_read};
-ghost use Rattle.bloaty_engine.specs.Reports.{EndsFinding};
-ghost use Rattle.bloaty_engine.specs.Steps.{EndsAs};
-ghost use Rattle.bloaty_engine.specs.Verdict.{end_of_pair, file_limit, if_sound, opened_first, total_limit};
+ghost use Rattle.bloaty_engine.specs.Reading.{files_to_read, reading_for};
+ghost use Rattle.bloaty_engine.specs.Reports.{EndsFinding, IsPlanned};
+ghost use Rattle.bloaty_engine.specs.Steps.{EndsAs, batch_of, batch_reading};
+ghost use Rattle.bloaty_engine.specs.Verdict.{end_of_pair, file_limit, first_name, if_sound, total_limit};
 
-use crate::files::{file_limit, read_file, total_limit};
+use crate::files::{file_limit, first_name, read_file, total_limit};
+use crate::request::Run;
 use crate::sizes::report_of;
 use data_sources::open_binary;
 use file_profile::{PairAnswer, Plan, profile_pair};
 use outside::Files;
 use rollup::Rollup;
 use run_outcome::Outcome;
-use size_core::{BadFile, Limits, Steps, Text};
-use size_options::Options;
-use std::alloc::Global;
+use size_core::{BadFile, Steps, Text};
 use std::marker::Brand;
 use std::sync::ledger::{Blank, Ledger};
 
@@ -62,28 +60,35 @@ fn check_format(file: &[u8]) -> Result<(), Outcome>
 
 // Counts a file with its debug file, which were read. The blank opens a counter of steps that nothing reads.
 fn count_opened<L: Ledger>(
-    alloc: Global,
-    name: &Text,
+    run: &Run,
+    plan: &Plan,
     file: &[u8],
     debug: &[u8],
-    plan: &Plan,
-    limits: &Limits,
     blank: Blank,
 ) -> Result<Rollup, Outcome>
     requires name { blank.name ≡ L.name }
     requires parts { blank.parts ≡ L.parts }
     requires some { 0 < blank.parts }
+    requires one { IsOneInput run.now.options.synth run.now.options.files }
     requires few { length plan.now.sources ≤ 8 }
-    requires fits { length file.now ≤ file_limit limits.now }
-    requires debug_fits { length debug.now ≤ file_limit limits.now }
-    requires lengths { length file.now ≤ total_limit limits.now }
-    ensures { EndsPaired limits.now plan.now.sources (filter_test plan.now.filter) name.now file.now debug.now result }
+    requires fits { length file.now ≤ file_limit run.now.limits }
+    requires debug_fits { length debug.now ≤ file_limit run.now.limits }
+    requires lengths { length file.now ≤ total_limit run.now.limits }
+    ensures { EndsPaired run.now.limits plan.now.sources (filter_test plan.now.filter)
+        (first_name run.now.options) file.now debug.now result }
 {
-    let mut total = Rollup::new(alloc, plan.depth());
+    let mut total = Rollup::new(run.alloc, plan.depth());
     let mut steps = Steps::<L>::begin(blank);
-    let name = name.as_str();
+    let name = first_name(&run.options);
     match profile_pair(
-        alloc, plan, name, file, debug, &mut total, limits, &mut steps,
+        run.alloc,
+        plan,
+        name,
+        file,
+        debug,
+        &mut total,
+        &run.limits,
+        &mut steps,
     ) {
         Ok(()) => Ok(total),
         Err(answer) => Err(end_of_pair(answer)),
@@ -91,90 +96,64 @@ fn count_opened<L: Ledger>(
 }
 
 // Reads the file, and checks its format.
-fn read_first<F: Files>(
-    alloc: Global,
-    name: &Text,
-    files: &mut F,
-    limits: &Limits,
-) -> Result<Vec<u8>, Outcome>
-    ensures found { (bytes : List ℕ) × IsHeld (F.held files.old) name.now bytes × EndsFirst limits.now bytes result }
-    ensures failed { (k : ℕ) → IsErrOf result (Outcome.ReadFailed (k + 1))
-        → (k ≡ 0) × Rose (F.faults files.old) (F.faults files.new)
-        × IfSome (F.last_failed files.new) (λ n. n ≡ name.now) }
-    ensures asked { F.asked files.new ≡ F.asked files.old ++ name.now ∷ [] }
-    ensures taken { IfOk result
-        (λ v. IsTaken (F.held files.old) (length v.items) (F.taken files.old) (F.taken files.new)) }
-    ensures long { (i : ℕ) → IsErrOf result (Outcome.TooLong i)
-        → IsOverLimit limits.now None i (F.held files.old) (F.taken files.old) (F.taken files.new) }
-    ensures room { IfOk result (λ v. length v.items ≤ min (file_limit limits.now) (total_limit limits.now)) }
-    ensures held { F.held files.new ≡ F.held files.old }
-    ensures later { F.faults files.old ≤ F.faults files.new }
-    ensures uncounted { ends_without is_failed_read result ≡ true → F.faults files.new ≡ F.faults files.old }
+fn read_first<F: Files>(run: &Run, files: &mut F) -> Result<Vec<u8>, Outcome>
+    requires { IsOneInput run.now.options.synth run.now.options.files }
+    ensures found { (bytes : List ℕ) × IsHeld (F.held files.old) (first_name run.now.options) bytes
+        × EndsFirst run.now.limits bytes result }
+    ensures files { let batch = batch_of 0 0 (first_name run.now.options ∷ []) in
+        Reads F.Files (batch_reading run.now.limits batch) result files.old files.new }
+    ensures taken { IfOk result (λ v.
+        IsTaken (F.held files.old) (length v.items) (F.taken files.old) (F.taken files.new)) }
+    ensures room { IfOk result (λ v.
+        length v.items ≤ min (file_limit run.now.limits) (total_limit run.now.limits)) }
 {
-    let limit = file_limit(limits).min(total_limit(limits));
-    let file = read_file(alloc, files, name.as_str(), 1, limit)?;
+    let limit = file_limit(&run.limits).min(total_limit(&run.limits));
+    let file = read_file(run.alloc, files, first_name(&run.options), 1, limit)?;
     check_format(&file)?;
     Ok(file)
 }
 
 // Reads and counts a file with its debug file.
 fn count_pair<F: Files>(
-    alloc: Global,
-    name: &Text,
-    debug: &Text,
+    run: &Run,
     plan: &Plan,
+    debug: &Text,
     files: &mut F,
-    limits: &Limits,
 ) -> Result<Rollup, Outcome>
-    requires { length plan.now.sources ≤ 8 }
-    ensures counted { (own : List ℕ) × (other : List ℕ) × IsHeld (F.held files.old) name.now own
+    requires few { length plan.now.sources ≤ 8 }
+    requires one { IsOneInput run.now.options.synth run.now.options.files }
+    ensures counted { (own : List ℕ) × (other : List ℕ)
+        × IsHeld (F.held files.old) (first_name run.now.options) own
         × IsHeld (F.held files.old) debug.now other
-        × EndsPair limits.now plan.now.sources (filter_test plan.now.filter) name.now own other result }
-    ensures failed { (k : ℕ) → IsErrOf result (Outcome.ReadFailed (k + 1))
-        → Rose (F.faults files.old) (F.faults files.new)
-        × IfSome (F.last_failed files.new) (λ n. slice_get (name.now ∷ debug.now ∷ []) k ≡ Some n) }
-    ensures asked { ReadsFirst (F.asked files.old) (F.asked files.new) (name.now ∷ debug.now ∷ []) }
-    ensures all { OnOk result (F.asked files.new ≡ F.asked files.old ++ name.now ∷ debug.now ∷ []) }
-    ensures long { (i : ℕ) → IsErrOf result (Outcome.TooLong i)
-        → IsOverLimit limits.now None i (F.held files.old) (F.taken files.old) (F.taken files.new) }
-    ensures later { F.faults files.old ≤ F.faults files.new }
-    ensures uncounted { ends_without is_failed_read result ≡ true → F.faults files.new ≡ F.faults files.old }
+        × EndsPair run.now.limits plan.now.sources (filter_test plan.now.filter)
+        (first_name run.now.options) own other result }
+    ensures files { let batch = batch_of 0 0 (first_name run.now.options ∷ debug.now ∷ []) in
+        Reads F.Files (batch_reading run.now.limits batch) result files.old files.new }
 {
-    let file = read_first(alloc, name, files, limits)?;
-    let limit = file_limit(limits).min(total_limit(limits) - file.len() as u64);
-    let other = read_file(alloc, files, debug.as_str(), 2, limit)?;
+    let file = read_first(run, files)?;
+    let limit = file_limit(&run.limits).min(total_limit(&run.limits) - file.len() as u64);
+    let other = read_file(run.alloc, files, debug.as_str(), 2, limit)?;
     let blank = Blank::new(1);
-    count_opened::<Brand>(alloc, name, &file, &other, plan, limits, blank)
+    count_opened::<Brand>(run, plan, &file, &other, blank)
 }
 
 /// Reads and counts the file with its debug file, and makes the report of its sizes.
 pub fn pair_report<F: Files>(
-    alloc: Global,
-    options: &Options,
-    debug: &Text,
+    run: &Run,
     plan: &Plan,
+    debug: &Text,
     files: &mut F,
-    limits: &Limits,
 ) -> Result<Vec<u8>, Outcome>
-    requires limits { KeepsLimits options.now }
-    requires depth { length options.now.sources ≡ length plan.now.sources }
-    requires filter { plan.now.filter ≡ options.now.filter }
-    requires debug { options.now.debug ≡ Some debug.now }
-    requires no_place { options.now.place ≡ None }
-    ensures found { (bytes : ℕ → List ℕ) × AreFiles (F.held files.old) options.now.synth options.now.files bytes
-        × AreHeld (F.held files.old) (length (file_names options.now) + 1) (other_names options.now) bytes
-        × EndsFinding limits.now plan.now.sources bytes options.now result }
-    ensures failed { (k : ℕ) → IsErrOf result (Outcome.ReadFailed (k + 1))
-        → Rose (F.faults files.old) (F.faults files.new)
-        × IfSome (F.last_failed files.new) (λ n. name_at options.now (k + 1) ≡ Some n) }
-    ensures asked { ReadsFirst (F.asked files.old) (F.asked files.new) (files_to_read options.now) }
-    ensures all { OnOk result (F.asked files.new ≡ F.asked files.old ++ files_to_read options.now) }
-    ensures long { (i : ℕ) → IsErrOf result (Outcome.TooLong i)
-        → IsOverLimit limits.now options.now.synth i (F.held files.old) (F.taken files.old) (F.taken files.new) }
-    ensures later { F.faults files.old ≤ F.faults files.new }
-    ensures uncounted { ends_without is_failed_read result ≡ true → F.faults files.new ≡ F.faults files.old }
+    requires limits { KeepsLimits run.now.options }
+    requires planned { IsPlanned run.now.options plan.now }
+    requires debug { run.now.options.debug ≡ Some debug.now }
+    requires no_place { run.now.options.place ≡ None }
+    ensures found { (bytes : ℕ → List ℕ)
+        × AreInputs (F.held files.old) run.now.options (other_names run.now.options) bytes
+        × EndsFinding run.now.limits plan.now.sources bytes run.now.options result }
+    ensures files { let o = run.now.options in
+        Reads F.Files (reading_for run.now.limits o (files_to_read o)) result files.old files.new }
 {
-    let name = options.files.get(0);
-    let total = count_pair(alloc, name, debug, plan, files, limits)?;
-    Ok(report_of(alloc, options, &total)?)
+    let total = count_pair(run, plan, debug, files)?;
+    Ok(report_of(run.alloc, &run.options, &total)?)
 }

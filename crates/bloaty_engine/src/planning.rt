@@ -1,11 +1,12 @@
 //! The plan of a run, from its options and its configuration.
 
-ghost use Rattle.std.specs.Prelude.{◌≡◌, ◌<◌, ◌≤◌, ◌+◌, ◌^◌, None, Some, Ok, All, length, map, slice_get, IfSome, IfOk, IfErr, true, option_map};
+ghost use Rattle.std.specs.Prelude.{◌≡◌, ◌<◌, ◌+◌, ◌^◌, None, Some, Ok, All, length, map, slice_get, IfSome, IfOk, IfErr, option_map};
 ghost use Rattle.std.specs.Option.{option_copied};
 ghost use Rattle.custom_rewrites.specs.Pattern.{IsPattern};
+ghost use Rattle.bloaty_engine.specs.Devices.{Plans};
 ghost use Rattle.file_profile.specs.Choices.{IsChoice, as_chosen, chosen_in, rewrite_lists};
 ghost use Rattle.file_profile.specs.Patterns.{AreRead, rewrites_of};
-ghost use Rattle.file_profile.specs.Plans.{HasCause, HasFilterCause, HasNameCause, HasRewriteCause, IsPlan, KeepsLast, answers_without_refusal};
+ghost use Rattle.file_profile.specs.Plans.{HasCause, HasFilterCause, HasNameCause, HasRewriteCause, IsPlan};
 ghost use Rattle.file_profile.specs.Sources.{chosen_named, chosen_sources, custom_named};
 
 use config_text::CustomSource;
@@ -15,11 +16,12 @@ use size_core::{Names, Source, Text};
 use size_options::Options;
 use std::alloc::Global;
 
-// The place of the first custom data source of a name.
+// The index of the first custom data source of a name.
 fn custom_place(custom: &[CustomSource], name: &[u8]) -> Option<usize>
     ensures none { result ≡ None → custom_named custom.now name.now ≡ None }
     ensures some { IfSome result
-        (λ place. IfSome (slice_get custom.now place) (λ c. custom_named custom.now name.now ≡ Some (as_chosen c))) }
+        (λ place. IfSome (slice_get custom.now place)
+        (λ c. custom_named custom.now name.now ≡ Some (as_chosen c))) }
     ensures within { IfSome result (λ place. place < length custom.now) }
 {
     for i in 0..custom.len() {
@@ -32,7 +34,8 @@ fn custom_place(custom: &[CustomSource], name: &[u8]) -> Option<usize>
 
 // The data source of a name.
 fn choice_of(custom: &[CustomSource], name: &[u8]) -> Option<Choice>
-    ensures chosen { option_map (chosen_in (rewrite_lists custom.now)) result ≡ chosen_named custom.now name.now }
+    ensures chosen { option_map (chosen_in (rewrite_lists custom.now)) result
+        ≡ chosen_named custom.now name.now }
     ensures place { IfSome result (IsChoice (length custom.now)) }
 {
     if let Some(base) = Source::named(name) {
@@ -77,11 +80,9 @@ fn filter_of<P: Patterns>(
 ) -> Result<Option<LabelPattern>, PlanAnswer>
     ensures same { IfOk result (λ made. made ≡ option_copied filter.entry) }
     ensures read { IfOk result (λ _. IfSome (option_copied filter.entry) IsPattern) }
-    ensures cause { IfErr result (HasFilterCause (option_copied filter.entry) (P.refused patterns.old)
-        (P.refused patterns.new) (P.last_refused patterns.new)) }
-    ensures kept { KeepsLast (P.last_refused patterns.old) (P.last_refused patterns.new) result }
-    ensures rises { P.refused patterns.old ≤ P.refused patterns.new }
-    ensures uncounted { answers_without_refusal result ≡ true → P.refused patterns.new ≡ P.refused patterns.old }
+    ensures cause { IfErr result (HasFilterCause (option_copied filter.entry)
+        (P.refused patterns.old) (P.refused patterns.new) (P.last_refused patterns.new)) }
+    ensures patterns { Plans P.Patterns result patterns.old patterns.new }
 {
     let Some(text) = filter else {
         return Ok(None);
@@ -104,11 +105,9 @@ fn rewrites_from<P: Patterns>(
     requires { first + length source.now.rewrites < 2 ^ 64 }
     ensures same { IfOk result (λ made. made ≡ source.now.rewrites) }
     ensures read { IfOk result (λ _. AreRead source.now.rewrites) }
-    ensures cause { IfErr result (HasRewriteCause first source.now.rewrites (P.refused patterns.old)
-        (P.refused patterns.new) (P.last_refused patterns.new)) }
-    ensures kept { KeepsLast (P.last_refused patterns.old) (P.last_refused patterns.new) result }
-    ensures rises { P.refused patterns.old ≤ P.refused patterns.new }
-    ensures uncounted { answers_without_refusal result ≡ true → P.refused patterns.new ≡ P.refused patterns.old }
+    ensures cause { IfErr result (HasRewriteCause first source.now.rewrites
+        (P.refused patterns.old) (P.refused patterns.new) (P.last_refused patterns.new)) }
+    ensures patterns { Plans P.Patterns result patterns.old patterns.new }
 {
     match Rewrites::build(alloc, source, patterns) {
         Ok(made) => Ok(made),
@@ -118,7 +117,7 @@ fn rewrites_from<P: Patterns>(
     }
 }
 
-// The rewrites of each custom data source, asked or not; their patterns are numbered from 1.
+// The rewrites of each custom data source, whether `-d` names it or not. Their patterns are numbered from 1.
 fn rewrites_of<P: Patterns>(
     alloc: Global,
     custom: &[CustomSource],
@@ -126,11 +125,9 @@ fn rewrites_of<P: Patterns>(
 ) -> Result<Vec<Rewrites>, PlanAnswer>
     ensures same { IfOk result (λ made. made.items ≡ rewrite_lists custom.now) }
     ensures read { IfOk result (λ _. AreRead (rewrites_of custom.now)) }
-    ensures cause { IfErr result (HasRewriteCause 1 (rewrites_of custom.now) (P.refused patterns.old)
-        (P.refused patterns.new) (P.last_refused patterns.new)) }
-    ensures kept { KeepsLast (P.last_refused patterns.old) (P.last_refused patterns.new) result }
-    ensures rises { P.refused patterns.old ≤ P.refused patterns.new }
-    ensures uncounted { answers_without_refusal result ≡ true → P.refused patterns.new ≡ P.refused patterns.old }
+    ensures cause { IfErr result (HasRewriteCause 1 (rewrites_of custom.now)
+        (P.refused patterns.old) (P.refused patterns.new) (P.last_refused patterns.new)) }
+    ensures patterns { Plans P.Patterns result patterns.old patterns.new }
 {
     let mut all = Vec::new(alloc);
     let mut first = 1usize;
@@ -145,8 +142,8 @@ fn rewrites_of<P: Patterns>(
     Ok(all)
 }
 
-/// What the options ask of each file. A name means the built-in data source of that name, or else the first custom one.
-/// Pattern 0 is the filter, and the rewrites of all custom data sources, asked or not, are those from 1 on.
+/// What the options ask of each file. A name means the built-in data source of that name, or else the first custom one
+/// of that name. Pattern 0 is the filter, and the patterns from 1 on are the rewrites of all custom data sources.
 ///
 /// # Errors
 ///
@@ -159,11 +156,9 @@ pub fn plan<P: Patterns>(
     patterns: &mut P,
 ) -> Result<Plan, PlanAnswer>
     ensures plan { IfOk result (IsPlan options.now.sources options.now.filter custom.now) }
-    ensures cause { IfErr result (HasCause options.now.sources options.now.filter custom.now (P.refused patterns.old)
-        (P.refused patterns.new) (P.last_refused patterns.new)) }
-    ensures kept { KeepsLast (P.last_refused patterns.old) (P.last_refused patterns.new) result }
-    ensures rises { P.refused patterns.old ≤ P.refused patterns.new }
-    ensures uncounted { answers_without_refusal result ≡ true → P.refused patterns.new ≡ P.refused patterns.old }
+    ensures cause { IfErr result (HasCause options.now.sources options.now.filter custom.now
+        (P.refused patterns.old) (P.refused patterns.new) (P.last_refused patterns.new)) }
+    ensures patterns { Plans P.Patterns result patterns.old patterns.new }
 {
     let choices = choices_of(alloc, &options.sources, custom)?;
     let filter = filter_of(alloc, options.filter.as_ref(), patterns)?;

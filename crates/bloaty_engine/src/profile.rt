@@ -35,11 +35,13 @@ pub fn profile_file<L: Ledger>(
     requires depth { total.old.depth ≡ length plan.now.sources }
     requires lengths { total.old.lengths + length file.now ≤ 2 ^ 62 }
 
-    // The first of the file's faults and limits decides, want of memory aside.
-    ensures answer { Answers result (viewed total.old.mapped limits.now.claims name.now file.now plan.now.sources) }
+    // The first of the file's faults and limits decides, except that memory may run out.
+    ensures answer { Answers result
+        (viewed total.old.mapped limits.now.claims name.now file.now plan.now.sources) }
     ensures unchanged { OnErr result (total.new ≡ total.old) }
 
-    // The paths of which a test holds, as that a path is this one or begins so, grow by the bytes that have one.
+    // For each test of paths (as that a path is this one, or begins so): the sizes of the paths that pass it grow by
+    // the numbers of bytes whose path does.
     ensures file { OnOk result ((f : FileViewSpec) (test : List (List ℕ) → Bool)
         → viewed total.old.mapped limits.now.claims name.now file.now plan.now.sources ≡ Ok f
         → file_where test total.new.rows

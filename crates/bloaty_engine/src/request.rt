@@ -1,11 +1,10 @@
-//! What a run asks: its options, its configuration, and its plan.
+//! What a run has at hand and what it asks: its options and limits, its configuration, and its plan.
 
-ghost use Rattle.std.specs.Prelude.{◌≡◌, ◌<◌, ◌≤◌, ◌++◌, ℕ, List, Some, IfOk, IfErr, IfSome, IsErrOf, true};
-ghost use Rattle.outside.specs.Causes.{Rose};
-ghost use Rattle.bloaty_engine.specs.Answers.{ends_without, is_failed_read, is_refused_pattern};
+ghost use Rattle.std.specs.Prelude.{◌≡◌, ℕ, List, IfOk, IfErr};
+ghost use Rattle.bloaty_engine.specs.Devices.{Builds, Reads};
 ghost use Rattle.bloaty_engine.specs.Named.{IsText};
 ghost use Rattle.file_profile.specs.Plans.{IsPlan};
-ghost use Rattle.bloaty_engine.specs.Reading.{IsOverLimit, config_names};
+ghost use Rattle.bloaty_engine.specs.Reading.{config_names, reading_for};
 ghost use Rattle.bloaty_engine.specs.Steps.{EndsConfig, EndsPlan};
 ghost use Rattle.bloaty_engine.specs.Verdict.{config_limit};
 
@@ -20,6 +19,14 @@ use size_core::Limits;
 use size_options::Options;
 use std::alloc::Global;
 
+/// What a run has at hand: its memory, its options and its limits.
+#[derive(Drop)]
+pub struct Run {
+    pub alloc: Global,
+    pub options: Options,
+    pub limits: Limits,
+}
+
 // The most bytes of a configuration.
 fn config_limit(limits: &Limits) -> u64
     ensures { result ≡ config_limit limits.now }
@@ -28,30 +35,24 @@ fn config_limit(limits: &Limits) -> u64
 }
 
 /// The custom data sources of the configuration, if the options name one.
-pub fn customs_of<F: Files>(
-    alloc: Global,
-    options: &Options,
-    files: &mut F,
-    limits: &Limits,
-) -> Result<Vec<CustomSource>, Outcome>
-    ensures read { (text : List ℕ) × IsText (F.held files.old) options.now.config text
-        × EndsConfig limits.now options.now.config text result }
-    ensures failed { IsErrOf result (Outcome.ReadFailed 0)
-        → Rose (F.faults files.old) (F.faults files.new)
-        × IfSome (F.last_failed files.new) (λ n. options.now.config ≡ Some n) }
-    ensures asked { F.asked files.new ≡ F.asked files.old ++ config_names options.now.config }
-    ensures long { (i : ℕ) → IsErrOf result (Outcome.TooLong i)
-        → IsOverLimit limits.now options.now.synth i (F.held files.old) (F.taken files.old) (F.taken files.new) }
-    ensures more { F.taken files.old ≤ F.taken files.new }
-    ensures held { F.held files.new ≡ F.held files.old }
-    ensures later { F.faults files.old ≤ F.faults files.new }
-    ensures uncounted { ends_without is_failed_read result ≡ true → F.faults files.new ≡ F.faults files.old }
+pub fn customs_of<F: Files>(run: &Run, files: &mut F) -> Result<Vec<CustomSource>, Outcome>
+    ensures read { (text : List ℕ) × IsText (F.held files.old) run.now.options.config text
+        × EndsConfig run.now.limits run.now.options.config text result }
+    ensures files { let names = config_names run.now.options.config in
+        let reading = reading_for run.now.limits run.now.options names in
+        Reads F.Files reading result files.old files.new }
 {
-    let Some(name) = &options.config else {
-        return Ok(Vec::new(alloc));
+    let Some(name) = &run.options.config else {
+        return Ok(Vec::new(run.alloc));
     };
-    let text = read_file(alloc, files, name.as_str(), 0, config_limit(limits))?;
-    match parse(alloc, &text) {
+    let text = read_file(
+        run.alloc,
+        files,
+        name.as_str(),
+        0,
+        config_limit(&run.limits),
+    )?;
+    match parse(run.alloc, &text) {
         Ok(customs) => Ok(customs),
         Err(ConfigAnswer::Bad(kind, offset)) => Err(Outcome::Config(kind, offset)),
         Err(ConfigAnswer::NoMemory) => Err(Outcome::NoMemory),
@@ -60,21 +61,16 @@ pub fn customs_of<F: Files>(
 
 /// What the options ask of each file, with these custom data sources.
 pub fn plan_of<P: Patterns>(
-    alloc: Global,
-    options: &Options,
+    run: &Run,
     customs: &[CustomSource],
     patterns: &mut P,
 ) -> Result<Plan, Outcome>
-    ensures plan { IfOk result (IsPlan options.now.sources options.now.filter customs.now) }
-    ensures ends { IfErr result
-        (EndsPlan options.now.sources options.now.filter customs.now (P.last_refused patterns.new)) }
-    ensures refused { (i : ℕ) → IsErrOf result (Outcome.PatternTooBig i)
-        → P.refused patterns.old < P.refused patterns.new }
-    ensures rises { P.refused patterns.old ≤ P.refused patterns.new }
-    ensures uncounted { ends_without is_refused_pattern result ≡ true
-        → P.refused patterns.new ≡ P.refused patterns.old }
+    ensures plan { IfOk result (IsPlan run.now.options.sources run.now.options.filter customs.now) }
+    ensures ends { let last = P.last_refused patterns.new in
+        IfErr result (EndsPlan run.now.options.sources run.now.options.filter customs.now last) }
+    ensures patterns { Builds P.Patterns result patterns.old patterns.new }
 {
-    match plan(alloc, options, customs, patterns) {
+    match plan(run.alloc, &run.options, customs, patterns) {
         Ok(plan) => Ok(plan),
         Err(PlanAnswer::UnknownSource(i)) => Err(Outcome::UnknownSource(i)),
         Err(PlanAnswer::PatternSyntax(i)) => Err(Outcome::PatternSyntax(i)),

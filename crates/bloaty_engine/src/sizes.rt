@@ -34,7 +34,8 @@ fn append(
 /// The report over the sizes of all files.
 pub fn report_of(alloc: Global, options: &Options, total: &Rollup) -> Result<Vec<u8>, NoMemory>
     requires { length options.now.sources ≡ total.now.depth }
-    ensures { IfOk result (λ v. v.items ≡ printed options.now (row_tree (row_options options.now) total.now)) }
+    ensures { IfOk result (λ v.
+        v.items ≡ printed options.now (row_tree (row_options options.now) total.now)) }
 {
     let options_of_rows = RowOptions {
         limit: options.limit,

@@ -1,4 +1,4 @@
--- Numbers in base 128, read from their last byte on.
+-- Numbers in base 128, decoded from their last byte to their first.
 use Rattle.std.proofs.Common.{◌≡◌, ℕ, suc, ◌+◌, ◌*◌, ◌%◌, ◌^◌, ◌<◌, ◌≤◌, true, false, Bool, List, [], ◌∷◌, length, get_or, drop, Option, Some, None, refl, sym, ap, subst, drop-cons, arith}
 use Rattle.std.specs.Prelude.{ℤ, pos, ◌+ℤ◌, ◌*ℤ◌, ◌-ℤ◌, nat_lt, FitsSigned, if◌then◌else◌}
 use Rattle.std.specs.Int.{w64}
@@ -14,7 +14,7 @@ below b h = grind (arith, common_steps)
 above : (b : ℕ) → 128 ≤ b → nat_lt b 128 ≡ false
 above b h = grind (arith, common_steps)
 
--- a list with no byte below 128 spells no number
+-- Bytes without one below 128 encode no LEB128 number.
 pub leb-none : (bytes : List ℕ) → ((k : ℕ) → k < length bytes → 128 ≤ get_or bytes k 0) → leb bytes ≡ None
 unfolding leb
 leb-none [] high = refl
@@ -41,7 +41,7 @@ unsigned-more bytes i j len next high value after one lt large h w =
     let h' : IsUnsigned (leb (drop (suc i) bytes)) len high = subst (λ n. IsUnsigned (leb (drop n bytes)) len high) after h in
     rw (drop-cons bytes i 0 lt, above _ large, one) (more (leb (drop (suc i) bytes)) (get_or bytes i 0) len high value h' w)
 
--- a digit below a signed number
+-- A signed number with one more digit below it.
 scaled : (negative : Bool) (d n m p : ℕ) → p ≡ 128 * m
     → (if negative then pos (d + 128 * n) else pos (d + 128 * n) -ℤ pos p) ≡ pos d +ℤ pos 128 *ℤ (if negative then pos n else pos n -ℤ pos m)
 scaled true d n m p e = omega (arith, ints)

@@ -1,4 +1,4 @@
--- What stands in a window stands in the file, at its place.
+-- The bytes of a window are the bytes of the file at the window's offset.
 use Rattle.std.proofs.Common.{◌≡◌, ℕ, zero, suc, ◌+◌, ◌-◌, ◌*◌, ◌%◌, ◌<◌, ◌≤◌, ◌==◌, Bool, true, false, List, [], ◌∷◌, length, get_or, take, drop, Option, Some, None, refl, sym, ap, ◌∙◌, arith}
 use Rattle.std.proofs.lemmas.List.{get_or-take, get_or-drop, drop-drop, drop-take}
 use Rattle.std.proofs.lemmas.List.Quantifiers.{position-Some}
@@ -31,14 +31,14 @@ unfolding field
 field-window bytes start len at w Little some fits = same_sum _ _ (byte_len w - 1) (λ i le. ap (byte_worth i) (cell bytes start len at i (omega arith)))
 field-window bytes start len at w Big some fits = same_sum _ _ (byte_len w - 1) (λ i le. ap (byte_worth (byte_len w - 1 - i)) (cell bytes start len at i (omega arith)))
 
--- the bytes after a place of a window are bytes after its place in the file
+-- The bytes from an offset of a window on are bytes of the file, from its offset there on.
 rest_of : (bytes : List ℕ) (start len at : ℕ) → at ≤ len → drop at (take len (drop start bytes)) ≡ take (len - at) (drop (start + at) bytes)
 rest_of bytes start len at le =
     let whole : len ≡ at + (len - at) = omega arith in
     let cut : drop at (take (at + (len - at)) (drop start bytes)) ≡ take (len - at) (drop at (drop start bytes)) = drop-take at (len - at) (drop start bytes) in
     ap (λ n. drop at (take n (drop start bytes))) whole ∙ cut ∙ ap (take (len - at)) (drop-drop at start bytes)
 
--- what passes first in a front of a list passes first in the list
+-- The first item of the first n items that passes is the first item of the list that passes.
 in_front : (p : ℕ → Bool) (xs : List ℕ) (n i : ℕ) → position p (take n xs) ≡ Some i → (i < n) × (position p xs ≡ Some i)
 in_front p xs n i h =
     let there = position-Some p (take n xs) i 0 h in
@@ -57,14 +57,14 @@ text_at_found ys n (Some m) t h is =
     let cut : take m (take n ys) ≡ take m ys = grind (arith, common_steps, there.0) in
     rw there.1 (ap (λ (x : List ℕ). Some x) (sym cut) ∙ is)
 
--- a text that is found in a window is the text that is found in the file
+-- A text in a window is the same text in the file.
 pub text-window : (bytes : List ℕ) (start len at : ℕ) (t : List ℕ) → at ≤ len → text (take len (drop start bytes)) at ≡ Some t → text bytes (start + at) ≡ Some t
 unfolding text
 text-window bytes start len at t le h =
     let e = rest_of bytes start len at le in
     text_at_found (drop (start + at) bytes) (len - at) (position (λ b. b == 0) (take (len - at) (drop (start + at) bytes))) t refl (rw e at h)
 
--- a number that a front of the bytes begins with is the one that the bytes begin with
+-- A LEB128 number at the start of the first n bytes is the one at the start of all bytes.
 leb_in_front : (ys : List ℕ) (n : ℕ) (x : ℕ × ℕ) → leb (take n ys) ≡ Some x → (leb ys ≡ Some x) × (0 < x.1) × (x.1 ≤ n)
 unfolding leb
 leb_in_front ys zero x h = cc
@@ -86,13 +86,13 @@ leb_in_front (y ∷ ys) (suc n) x h = ends (λ z is. leb_in_front ys n z is) (na
         let fits : z.1 ≤ n = front.2 in
         (rw front.0 e, omega arith, omega arith)
 
--- a LEB128 number that is found in a window is the one that is found in the file
+-- A LEB128 number in a window is the same number in the file.
 pub uleb-window : (bytes : List ℕ) (start len at : ℕ) (x : ℕ × ℕ) → at ≤ len → uleb (take len (drop start bytes)) at ≡ Some x → uleb bytes (start + at) ≡ Some x
 uleb-window bytes start len at x le h =
     let e = rest_of bytes start len at le in
     (leb_in_front (drop (start + at) bytes) (len - at) x (rw e at h)).0
 
--- a signed LEB128 number, too
+-- A signed LEB128 number in a window is the same number in the file.
 pub sleb-window : (bytes : List ℕ) (start len at : ℕ) (x : ℤ × ℕ) → at ≤ len → sleb (take len (drop start bytes)) at ≡ Some x → sleb bytes (start + at) ≡ Some x
 sleb-window bytes start len at x le h = there (uleb (take len (drop start bytes)) at) refl h
   where

@@ -1,4 +1,4 @@
-//! A window of a file, and a place in it.
+//! A window of a file, and a position in it.
 
 ghost use Rattle.std.specs.Prelude.{◌≡◌, ◌+◌, ◌-◌, ◌^◌, ◌<◌, ◌≤◌, length, is_ok, IfOk, OnErr, drop};
 ghost use Rattle.std.specs.Int.{w8, w16, w32, w64};
@@ -15,10 +15,11 @@ use crate::order::Order;
 use size_core::{BadFile, Fault};
 use std::marker::Model;
 
-/// A window of a file, and a place in it. `base` is the file offset of the window's first byte, and `at`
-/// counts the bytes of the window before the place.
+/// A window of a file, and a position in it. `base` is the file offset of the window's first byte, and `at`
+/// is the number of bytes of the window before the position.
 ///
-/// Each fault of a call stands at the place as the call began, and after a fault the cursor is unchanged.
+/// Each fault has the file offset of the position at the start of the call. After a fault the cursor is
+/// unchanged.
 #[derive(Drop)]
 pub struct Cursor<'a> {
     base: u64,
@@ -38,7 +39,8 @@ impl<'a> Model for Cursor<'a> {
 }
 
 impl<'a> Cursor<'a> {
-    /// The window of these bytes of a file, whose first stands at the file offset `base`, at its beginning.
+    /// Returns a cursor at the start of a window. `bytes` are the bytes of the window, and `base` is the
+    /// file offset of the first.
     pub fn new(base: u64, bytes: &'a [u8]) -> Cursor<'a>
         requires { base + length bytes.now < 2 ^ 63 }
         ensures { result ≡ record { base = base; bytes = bytes.now; at = 0 } }
@@ -46,7 +48,7 @@ impl<'a> Cursor<'a> {
         Cursor { base, bytes, at: 0 }
     }
 
-    /// The same window at the same place.
+    /// Returns a cursor over the same window, at the same position.
     pub fn fork(&self) -> Cursor<'a>
         ensures { result ≡ self.now }
     {
@@ -57,7 +59,7 @@ impl<'a> Cursor<'a> {
         }
     }
 
-    /// The place's offset in the file.
+    /// Returns the file offset of the position.
     pub fn place(&self) -> u64
         ensures value { result ≡ place_of self.now }
         ensures fits { result < 2 ^ 63 }
@@ -65,7 +67,7 @@ impl<'a> Cursor<'a> {
         self.base + self.at
     }
 
-    /// How many bytes of the window stand after the place.
+    /// Returns how many bytes of the window follow the position.
     pub fn left(&self) -> u64
         ensures value { result + self.now.at ≡ length self.now.bytes }
         ensures fits { place_of self.now + result < 2 ^ 63 }
@@ -73,14 +75,14 @@ impl<'a> Cursor<'a> {
         self.bytes.len() as u64 - self.at
     }
 
-    /// The bytes of the window that stand after the place.
+    /// Returns the bytes of the window that follow the position.
     pub fn rest(&self) -> &'a [u8]
         ensures { result.now ≡ drop self.now.at self.now.bytes }
     {
         &self.bytes[self.at as usize..]
     }
 
-    /// A fault at the place.
+    /// Returns a fault at the position.
     fn fault(&self, fault: Fault) -> BadFile
         ensures { result ≡ record { fault = fault; offset = place_of self.now } }
     {
@@ -90,8 +92,8 @@ impl<'a> Cursor<'a> {
         }
     }
 
-    /// The window of `len` bytes from `start` of this window on, at its beginning. Truncated where these
-    /// bytes don't lie in this window.
+    /// Returns a cursor at the start of a window of `len` bytes, from byte `start` of this window on.
+    /// Truncated where these bytes don't lie in this window.
     pub fn sub(&self, start: u64, len: u64) -> Result<Cursor<'a>, BadFile>
         ensures { result ≡ sub_window self.now start len }
     {
@@ -107,7 +109,7 @@ impl<'a> Cursor<'a> {
         })
     }
 
-    /// The window of the next `len` bytes, which are passed. Truncated where fewer are left.
+    /// Returns a cursor over the next `len` bytes, and moves past them. Truncated where fewer are left.
     pub fn take(&mut self, len: u64) -> Result<Cursor<'a>, BadFile>
         ensures value { result ≡ sub_window self.old self.old.at len }
         ensures after { self.new ≡ moved self.old (is_ok result) len }
@@ -117,7 +119,7 @@ impl<'a> Cursor<'a> {
         Ok(window)
     }
 
-    /// Passes `count` bytes. Truncated where fewer are left.
+    /// Moves past `count` bytes. Truncated where fewer are left.
     pub fn skip(&mut self, count: u64) -> Result<(), BadFile>
         ensures value { result ≡ skipped self.old count }
         ensures after { self.new ≡ moved self.old (is_ok result) count }
@@ -129,7 +131,7 @@ impl<'a> Cursor<'a> {
         Ok(())
     }
 
-    /// A byte. Truncated where none is left.
+    /// Reads one byte. Truncated where none is left.
     pub fn u8(&mut self) -> Result<u8, BadFile>
         ensures value { result ≡ whole (num self.old.bytes self.old.at w8 Little) (place_of self.old) }
         ensures after { self.new ≡ moved self.old (is_ok result) 1 }
@@ -142,7 +144,7 @@ impl<'a> Cursor<'a> {
         Ok(value)
     }
 
-    /// A number of two bytes. Truncated where fewer are left.
+    /// Reads a number of two bytes. Truncated where fewer are left.
     pub fn u16(&mut self, order: Order) -> Result<u16, BadFile>
         ensures value { result ≡ whole (num self.old.bytes self.old.at w16 order) (place_of self.old) }
         ensures after { self.new ≡ moved self.old (is_ok result) 2 }
@@ -155,7 +157,7 @@ impl<'a> Cursor<'a> {
         Ok(value)
     }
 
-    /// A number of four bytes. Truncated where fewer are left.
+    /// Reads a number of four bytes. Truncated where fewer are left.
     pub fn u32(&mut self, order: Order) -> Result<u32, BadFile>
         ensures value { result ≡ whole (num self.old.bytes self.old.at w32 order) (place_of self.old) }
         ensures after { self.new ≡ moved self.old (is_ok result) 4 }
@@ -168,7 +170,7 @@ impl<'a> Cursor<'a> {
         Ok(value)
     }
 
-    /// A number of eight bytes. Truncated where fewer are left.
+    /// Reads a number of eight bytes. Truncated where fewer are left.
     pub fn u64(&mut self, order: Order) -> Result<u64, BadFile>
         ensures value { result ≡ whole (num self.old.bytes self.old.at w64 order) (place_of self.old) }
         ensures after { self.new ≡ moved self.old (is_ok result) 8 }
@@ -181,8 +183,8 @@ impl<'a> Cursor<'a> {
         Ok(value)
     }
 
-    /// An unsigned LEB128 number, in any spelling. Truncated where no byte with a clear top bit is left, and
-    /// BadLeb where there is one and the number is above 2^64 - 1.
+    /// Reads an unsigned LEB128 number of any length (DWARF 5, section 7.6). Truncated where no byte with a
+    /// clear top bit is left, and BadLeb where there is one and the number is above 2^64 - 1.
     pub fn uleb(&mut self) -> Result<u64, BadFile>
         ensures value { result ≡ unsigned_value (uleb self.old.bytes self.old.at) (place_of self.old) }
         ensures after { self.new ≡ moved self.old (is_ok result) (leb_len (uleb self.old.bytes self.old.at)) }
@@ -198,8 +200,9 @@ impl<'a> Cursor<'a> {
         Ok(value)
     }
 
-    /// A signed LEB128 number, in any spelling. Truncated where no byte with a clear top bit is left, and
-    /// BadLeb where there is one and the number is below -2^63 or above 2^63 - 1.
+    /// Reads a signed LEB128 number of any length (DWARF 5, section 7.6). Truncated where no byte with a
+    /// clear top bit is left, and BadLeb where there is one and the number is below -2^63 or above 2^63 -
+    /// 1.
     pub fn sleb(&mut self) -> Result<i64, BadFile>
         ensures value { result ≡ signed_value (sleb self.old.bytes self.old.at) (place_of self.old) }
         ensures after { self.new ≡ moved self.old (is_ok result) (leb_len (sleb self.old.bytes self.old.at)) }
@@ -215,7 +218,8 @@ impl<'a> Cursor<'a> {
         Ok(value)
     }
 
-    /// The bytes before the next zero byte, which is passed. Truncated where there is none.
+    /// Returns the bytes before the next zero byte, and moves past that byte. Truncated where there is no
+    /// zero byte.
     #[tactic(auto, unfolding(crate::specs::Numbers::text))]
     pub fn cstr(&mut self) -> Result<&'a [u8], BadFile>
         ensures value { Gives (λ t. t.now) result (whole (text self.old.bytes self.old.at) (place_of self.old)) }

@@ -1,7 +1,7 @@
 //! LEB128 numbers: digits in base 128, the lowest first (DWARF 5, section 7.6).
 //!
-//! A spelling of any length is read from its last digit on, so that a long one of a small number needs no
-//! care of its own.
+//! A number is decoded from its last byte to its first, so a small number with many redundant bytes needs
+//! no special case.
 
 ghost use Rattle.std.specs.Prelude.{◌≡◌, ℕ, ℤ, pos, ◌+ℤ◌, ◌*ℤ◌, ◌+◌, ◌*◌, ◌%◌, ◌^◌, ◌<◌, ◌≤◌, length, slice_index, MatchOption, FitsSigned};
 ghost use Rattle.std.specs.Int.{w64};
@@ -9,7 +9,7 @@ ghost use Rattle.std.specs.Option.{SomeIff};
 ghost use Rattle.byte_cursor.specs.Numbers.{leb, signed};
 ghost use Rattle.byte_cursor.specs.Spelled.{IsUnsigned, IsSigned};
 
-/// Where the first byte with a clear top bit is.
+/// Returns the index of the first byte with a clear top bit.
 pub fn last_digit(bytes: &[u8]) -> Option<usize>
     ensures { MatchOption result (leb bytes.now ≡ None)
         (λ i. (i < length bytes.now) × (slice_index bytes.now i < 128)
@@ -23,7 +23,8 @@ pub fn last_digit(bytes: &[u8]) -> Option<usize>
     None
 }
 
-/// The number with the low digit of this byte below the digits above it, where it fits.
+/// Returns the number with the low seven bits of `byte` as its lowest digit and `high` above it. `None`
+/// where it doesn't fit 64 bits.
 fn with_digit(high: Option<u64>, byte: u8) -> Option<u64>
     ensures { (x : ℕ) → SomeIff high (x < 2 ^ 64) x
         → SomeIff result (byte % 128 + 128 * x < 2 ^ 64) (byte % 128 + 128 * x) }
@@ -34,7 +35,7 @@ fn with_digit(high: Option<u64>, byte: u8) -> Option<u64>
     }
 }
 
-/// The number that the bytes up to the one at `last` spell, where it fits.
+/// Returns the unsigned number in the bytes up to index `last`. `None` where it doesn't fit 64 bits.
 pub fn unsigned(bytes: &[u8], last: usize) -> Option<u64>
     requires within { last < length bytes.now }
     requires end { slice_index bytes.now last < 128 }
@@ -50,7 +51,7 @@ pub fn unsigned(bytes: &[u8], last: usize) -> Option<u64>
     value
 }
 
-/// The last digit of a signed number, which has its sign.
+/// Returns the value of the last digit of a signed number, which has the sign.
 fn signed_digit(byte: u8) -> i64
     requires { byte < 128 }
     ensures { result ≡ signed byte 1 byte }
@@ -62,7 +63,8 @@ fn signed_digit(byte: u8) -> i64
     }
 }
 
-/// The signed number with the low digit of this byte below the digits above it, where it fits.
+/// Returns the signed number with the low seven bits of `byte` as its lowest digit and `high` above it.
+/// `None` where it doesn't fit 64 bits.
 fn with_signed_digit(high: Option<i64>, byte: u8) -> Option<i64>
     ensures { (z : ℤ) → SomeIff high (FitsSigned w64 z) z
         → SomeIff result (FitsSigned w64 (pos (byte % 128) +ℤ pos 128 *ℤ z)) (pos (byte % 128) +ℤ pos 128 *ℤ z) }
@@ -71,7 +73,7 @@ fn with_signed_digit(high: Option<i64>, byte: u8) -> Option<i64>
     scaled.checked_add((byte % 128) as i64)
 }
 
-/// The signed number that the bytes up to the one at `last` spell, where it fits.
+/// Returns the signed number in the bytes up to index `last`. `None` where it doesn't fit 64 bits.
 pub fn signed(bytes: &[u8], last: usize) -> Option<i64>
     requires within { last < length bytes.now }
     requires end { slice_index bytes.now last < 128 }

@@ -1,5 +1,5 @@
-//! Bounded reading of bytes: a window of a file with a place in it, and numbers and texts that stand in
-//! tables. Nothing here takes memory.
+//! Bounded reading of bytes: a window of a file with a position in it, and numbers and texts at given
+//! offsets of a table. Nothing here allocates memory.
 #![tactic(auto)]
 
 mod cursor;
@@ -10,6 +10,3 @@ mod order;
 pub use cursor::Cursor;
 pub use numbers::{text_at, u8_at, u16_at, u32_at, u64_at};
 pub use order::Order;
-
-#[cfg(test)]
-mod tests;

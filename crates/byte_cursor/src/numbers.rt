@@ -1,4 +1,4 @@
-//! Numbers and texts in bytes that are known to hold them.
+//! Reads numbers and texts from bytes that are known to hold them.
 
 ghost use Rattle.std.specs.Prelude.{◌≡◌, ◌+◌, ◌≤◌, length, ◌==◌, position};
 ghost use Rattle.std.specs.Int.{w8, w16, w32, w64};
@@ -9,7 +9,7 @@ ghost use Rattle.byte_cursor.specs.declared.order.Order.TheVariants.{Little};
 use crate::order::Order;
 use memchr::memchr;
 
-/// The byte at an index.
+/// Returns the byte at an index.
 #[tactic(auto, unfolding(crate::specs::Numbers::field))]
 pub fn u8_at(bytes: &[u8], at: usize) -> u8
     requires { at + 1 ≤ length bytes.now }
@@ -19,7 +19,7 @@ pub fn u8_at(bytes: &[u8], at: usize) -> u8
     rest[0]
 }
 
-/// The number in the two bytes from an index on.
+/// Returns the number in the two bytes from an index on.
 #[tactic(auto, unfolding(crate::specs::Numbers::field))]
 pub fn u16_at(bytes: &[u8], at: usize, order: Order) -> u16
     requires { at + 2 ≤ length bytes.now }
@@ -33,7 +33,7 @@ pub fn u16_at(bytes: &[u8], at: usize, order: Order) -> u16
     }
 }
 
-/// The number in the four bytes from an index on.
+/// Returns the number in the four bytes from an index on.
 #[tactic(auto, unfolding(crate::specs::Numbers::field))]
 pub fn u32_at(bytes: &[u8], at: usize, order: Order) -> u32
     requires { at + 4 ≤ length bytes.now }
@@ -47,7 +47,7 @@ pub fn u32_at(bytes: &[u8], at: usize, order: Order) -> u32
     }
 }
 
-/// The number in the eight bytes from an index on.
+/// Returns the number in the eight bytes from an index on.
 #[tactic(auto, unfolding(crate::specs::Numbers::field))]
 pub fn u64_at(bytes: &[u8], at: usize, order: Order) -> u64
     requires { at + 8 ≤ length bytes.now }
@@ -63,7 +63,7 @@ pub fn u64_at(bytes: &[u8], at: usize, order: Order) -> u64
     }
 }
 
-/// Where the first zero byte is.
+/// Returns the index of the first zero byte.
 #[tactic(auto, using(crate::proofs::Zeros::first_is))]
 fn first_zero(bytes: &[u8]) -> Option<usize>
     ensures { result ≡ position (λ b. b == 0) bytes.now }
@@ -71,8 +71,8 @@ fn first_zero(bytes: &[u8]) -> Option<usize>
     memchr(0, bytes)
 }
 
-/// The bytes from an index on that stand before the next zero byte. `None` where no zero byte follows, as
-/// at an index past the end.
+/// Returns the bytes from an index on, up to the next zero byte. `None` where no zero byte follows, and
+/// where the index is past the end.
 #[tactic(auto, unfolding(crate::specs::Numbers::text))]
 pub fn text_at(bytes: &[u8], at: usize) -> Option<&[u8]>
     ensures { option_copied result ≡ text bytes.now at }

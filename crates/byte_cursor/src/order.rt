@@ -1,4 +1,4 @@
-//! The order of a number's bytes.
+//! The byte order of a number.
 
 /// Which byte of a number comes first.
 #[derive(Clone, Copy, Debug, PartialEq, Eq, Hash)]

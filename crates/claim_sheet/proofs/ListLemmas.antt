@@ -12,7 +12,7 @@ module _ {A : Type 0} (f : A → List LabelledClaim) where
   pub none_left : (s : Sheet) (xs : List A) → xs ≡ [] → adding s (flat_map f xs) ≡ s
   none_left s xs none = rw none (adding_none s)
 
--- a loop over a list of which contracts see another shape
+-- a loop over a list whose items contracts see through a view
 module _ {A B : Type 0} (shown : A → B) (f : B → List LabelledClaim) where
   pub shown_goes : (s t : Sheet) (xs : List A) (i : ℕ) (x : A) → i < length xs → t ≡ adding s (f (shown (get_or xs i x)))
       → adding t (flat_map f (drop (i + 1) (map shown xs))) ≡ adding s (flat_map f (drop i (map shown xs)))

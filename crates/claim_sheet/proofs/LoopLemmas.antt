@@ -1,4 +1,4 @@
--- Loops over numbers, and over a list, that add what each gives.
+-- Loops over numbers or a list that add the claims of each item.
 use Rattle.std.proofs.Common.{◌≡◌, ℕ, suc, ◌+◌, ◌-◌, ◌<◌, ◌≤◌, true, false, List, [], ◌∷◌, ◌++◌, length, Result, Ok, Err, refl, sym, ap, ◌∙◌, arith}
 use Rattle.std.specs.List.{flat_map}
 use Rattle.std.specs.Prelude.{IsOkAnd}
@@ -70,7 +70,7 @@ module _ {A : Type 0} (f : A → Reading) where
   unfolding read_list
   read_list_stops s x xs b e = read_bad s (f x) (read_list f xs) b e
 
--- a fault of the first reading, or of the one behind it, is that of both
+-- two readings one after the other have the fault of the first, or else that of the second
 pub joined_front : (r q : Reading) (b : BadFile) → r ≡ Err b → joined r q ≡ Err b
 unfolding joined
 joined_front r q b e = rw e refl
@@ -83,7 +83,7 @@ joined_later s t (Err c) q b e bad = cc e
 pub joined_claims : (s t u : Sheet) (r : Reading) (xs : List LabelledClaim) → adding_read s r ≡ Ok t → u ≡ adding t xs → adding_read s (joined r (Ok xs)) ≡ Ok u
 joined_claims s t u r xs e made = read_joined s t r (Ok xs) e ∙ ap Ok (sym made)
 
--- what a sheet that began empty holds in the end
+-- the claims of a sheet that began empty
 same-sheet : (t u : Sheet) (r : Result Sheet BadFile) → r ≡ Ok t → r ≡ Ok u → t ≡ u
 same-sheet t u r e f = cc (e, f)
 
@@ -105,7 +105,7 @@ ended-past e s t xs started empty begun made past =
     let same = ended e s t xs begun made in
     let more = (adding_ends e xs started).past (sym (ap (λ (u : Sheet). u.over) same) ∙ past) in omega (arith, ap length empty)
 
--- one that takes each claim
+-- a sheet that takes every claim
 pub all_kept : (pool : List (List ℕ)) (limit : ℕ) (s t : Sheet) (r : Reading) → s ≡ fresh pool limit → adding_read s r ≡ Ok t → t.over ≡ false → r ≡ Ok t.made
 all_kept pool limit s t (Ok xs) begun e within = ap Ok (sym (ended-kept (fresh pool limit) s t xs refl refl begun e within ∙ all_taken xs))
 all_kept pool limit s t (Err b) begun e within = cc e
@@ -118,7 +118,7 @@ too_many pool limit s t (Err b) begun e past = cc e
 pub same_limit : (pool : List (List ℕ)) (limit : ℕ) (s t : Sheet) (r : Reading) → s ≡ fresh pool limit → adding_read s r ≡ Ok t → t.limit ≡ limit
 same_limit pool limit s t r begun e = ended-limit (fresh pool limit) s t r begun e
 
--- and one that takes those on addresses alone
+-- a sheet that takes only claims on addresses
 pub addresses_kept : (pool : List (List ℕ)) (limit : ℕ) (s t : Sheet) (r : Reading) → s ≡ fresh_on_addresses pool limit → adding_read s r ≡ Ok t → t.over ≡ false → read_on_addresses r ≡ Ok t.made
 addresses_kept pool limit s t (Ok xs) begun e within = ap Ok (sym (ended-kept (fresh_on_addresses pool limit) s t xs refl refl begun e within))
 addresses_kept pool limit s t (Err b) begun e within = cc e

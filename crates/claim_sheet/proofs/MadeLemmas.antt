@@ -22,7 +22,7 @@ kept-texts old new (c ∷ claims) kept numbered =
     let tail = kept-texts old new claims kept (λ k d lt. numbered (suc k) d (omega arith)) in
     rw (head, tail) refl
 
--- one more claim, under a label that the pool has by now
+-- a claim is added, with a label that is in the pool by then
 texts-added : (old new : List (List ℕ)) (claims : List Claim) (c : Claim) (label : List ℕ) → KeepsLabels old new → AreNumbered old claims → slice_get new c.label ≡ Some label
     → texts new (claims ++ c ∷ []) ≡ texts old claims ++ (record { side = c.side; vm = c.vm; file = c.file; label = label }) ∷ []
 texts-added old new claims c label kept numbered named =
@@ -52,14 +52,14 @@ added-numbered : (pool new : List (List ℕ)) (claims : List Claim) (c : Claim) 
 added-numbered pool new claims c label kept numbered named =
     All-push (λ c. c.label < length new) claims c (still-numbered pool new claims kept numbered) (slice_get_within new c.label label named)
 
--- the first labels stay the first
+-- the first labels don't change
 pub same-first : (first : ℕ) (old new : List (List ℕ)) → first ≤ length old → KeepsLabels old new → take first new ≡ take first old
 same-first first old new within kept = rw kept.is (take-append-le first old kept.more within)
 
 pub keeps-first : (first : ℕ) (pool : List (List ℕ)) → KeepsLabels (take first pool) pool
 keeps-first first pool = record { more = drop first pool; is = sym (take-append-drop first pool) }
 
--- a label that the pool lacked has the last number
+-- a label that the pool didn't have gets the next number
 some-same : (x y : List ℕ) → Some x ≡ Some y → y ≡ x
 some-same x y e = cc
 
@@ -76,7 +76,20 @@ found-last [] label (suc i) lacks at = cc
 found-last (x ∷ xs) label zero lacks at = absurd (differs x label (has_label xs label) lacks at)
 found-last (x ∷ xs) label (suc i) lacks at = ap suc (found-last xs label i (later (bytes_eq label x) (has_label xs label) lacks) at)
 
--- no label is new but that of the claim
+-- a label that the pool has doesn't change it
+or-true : (b : Bool) → (b || true) ≡ true
+or-true true = refl
+or-true false = refl
+
+has-there : (pool : List (List ℕ)) (label : List ℕ) (i : ℕ) → slice_get pool i ≡ Some label → has_label pool label ≡ true
+has-there [] label i at = cc
+has-there (x ∷ xs) label zero at = let same : bytes_eq label x ≡ true = (bytes_eq-Decides label x).1 (some-same x label at) in rw same refl
+has-there (x ∷ xs) label (suc i) at = rw (has-there xs label i at) (or-true (bytes_eq label x))
+
+pub label_there : (pool : List (List ℕ)) (label : List ℕ) (i : ℕ) → slice_get pool i ≡ Some label → pool ≡ with_label pool label
+label_there pool label i at = rw (has-there pool label i at) refl
+
+-- only the label of the claim is new
 used-before : (first : ℕ) (pool : List (List ℕ)) (claims : List Claim) (c : Claim) → AreUsed first pool claims → (k : ℕ) → first ≤ k → k < length pool → Contains (map (λ c. c.label) (claims ++ c ∷ [])) k
 used-before first pool claims c used k low high =
     subst (λ (ls : List ℕ). Contains ls k) (sym (map-append (λ c. c.label) claims (c ∷ []))) (Contains-append_left (map (λ c. c.label) claims) (c.label ∷ []) k (used k low high))
@@ -94,7 +107,7 @@ used-choice false first pool claims c label is at used = λ k low high. elim (ca
   | inr le ↦ used-here claims c k (found-last pool label c.label is at ∙ omega (arith, length-append pool (label ∷ [])))
 ]
 
--- a claim was added under a label that the pool has by now
+-- the three facts about a claim that was added
 pub record Pushes (pool new : List (List ℕ)) (claims after : List Claim) (c : Claim) (label : List ℕ) : Type 0 where
   pub kept : KeepsLabels pool new
   pub made : texts new after ≡ texts pool claims ++ (record { side = c.side; vm = c.vm; file = c.file; label = label }) ∷ []

@@ -1,9 +1,10 @@
-//! Claims that are made one after the other, under the labels of a pool and up to a limit: what the rooms of the
-//! formats stand on. It knows no format.
+//! A sheet collects the claims of one data source on one file, in order and up to a limit. The labels of the claims
+//! are numbered in a pool that all files share. The claims crates of the formats write on a sheet; the sheet knows no
+//! format.
 #![tactic(auto)]
 
 mod labels;
-mod making;
+mod push;
 mod reach;
 mod sheet;
 mod stop;
@@ -12,6 +13,3 @@ pub use labels::{Wrap, append};
 pub use reach::{Reach, span};
 pub use sheet::{ClaimSheet, TooMany};
 pub use stop::Stop;
-
-#[cfg(test)]
-mod tests;

@@ -1,11 +1,11 @@
-//! What a claim covers.
+//! The bytes and addresses that a claim covers.
 
 ghost use Rattle.std.specs.Prelude.{◌≡◌};
 ghost use Rattle.claim_sheet.specs.Reaches.{is_empty, span, in_file, in_memory, in_both, of_load, of_addresses};
 
 use size_core::{Load, Side, Span};
 
-/// The bytes that a claim covers.
+/// The bytes of the file and the virtual addresses that a claim covers.
 #[derive(Clone, Copy, Debug, PartialEq, Eq)]
 pub struct Reach {
     pub side: Side,
@@ -19,7 +19,7 @@ const NO_SPAN: Span = Span {
     len: 0,
 };
 
-/// A span, which is 0, 0, 0 where it is empty.
+/// Returns a span. All empty spans are equal: space, start and length are 0.
 pub fn span(space: u32, start: u64, len: u64) -> Span
     ensures { result ≡ span space start len }
 {
@@ -31,7 +31,7 @@ pub fn span(space: u32, start: u64, len: u64) -> Span
 }
 
 impl Reach {
-    /// Bytes of the file.
+    /// Covers bytes of the file only.
     pub fn in_file(file: Span) -> Reach
         ensures { result ≡ in_file file }
     {
@@ -42,7 +42,7 @@ impl Reach {
         }
     }
 
-    /// Virtual addresses.
+    /// Covers virtual addresses only.
     pub fn in_memory(vm: Span) -> Reach
         ensures { result ≡ in_memory vm }
     {
@@ -53,7 +53,7 @@ impl Reach {
         }
     }
 
-    /// Virtual addresses and bytes of the file.
+    /// Covers virtual addresses and bytes of the file.
     pub fn in_both(vm: Span, file: Span) -> Reach
         ensures { result ≡ in_both vm file }
     {
@@ -64,7 +64,8 @@ impl Reach {
         }
     }
 
-    /// The part of a file of `len` bytes that a load takes, up to the file's end, and the load's addresses.
+    /// Covers what a load maps: its addresses, and its bytes in a file of `len` bytes. Bytes after the end of the file
+    /// are left out.
     pub fn of_load(len: u64, load: &Load) -> Reach
         ensures { result ≡ of_load len load.now }
     {
@@ -76,14 +77,14 @@ impl Reach {
         )
     }
 
-    /// The addresses of a load.
+    /// Covers the addresses of a load only.
     pub fn of_addresses(load: &Load) -> Reach
         ensures { result ≡ of_addresses load.now }
     {
         Reach::in_memory(span(load.space, load.vaddr, load.memsz))
     }
 
-    /// Whether there is no byte.
+    /// Returns whether neither a byte nor an address is covered.
     pub fn is_empty(&self) -> bool
         ensures { result ≡ is_empty self.now }
     {

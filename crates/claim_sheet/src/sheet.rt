@@ -1,33 +1,33 @@
-//! A sheet of claims.
+//! The sheet that collects claims.
 
-ghost use Rattle.std.specs.Prelude.{◌≡◌, ◌≤◌, true, false, length, OnOk, OnErr, IfOk, MatchResult};
+ghost use Rattle.std.specs.Prelude.{◌≡◌, ◌≤◌, true, false, length, OnErr, IfOk, MatchResult};
+ghost use Rattle.claim_sheet.specs.Adds.{Adds};
 ghost use Rattle.claim_sheet.specs.Made.{AreNumbered, AreUsed, KeepsLabels, texts};
 ghost use Rattle.claim_sheet.specs.Reaches.{claim_on, claim_on_some, wrapped};
-ghost use Rattle.claim_sheet.specs.Sheets.{adding, fresh, fresh_on_addresses, is_taken};
+ghost use Rattle.claim_sheet.specs.Sheets.{fresh, fresh_on_addresses, is_taken};
 
 use crate::labels::Wrap;
-use crate::making::push_wrapped;
+use crate::push::push_wrapped;
 use crate::reach::Reach;
 use size_core::{Claim, LabelPool, NoMemory, Side};
 use std::alloc::Global;
 use std::marker::Model;
 use std::mem::replace;
 
-/// There were more claims than the limit.
+/// A source makes more claims than the limit.
 #[derive(Clone, Copy, Debug, PartialEq, Eq)]
 pub struct TooMany;
 
-/// The claims made so far, with the pool of their labels and the most that there may be. Past that they are no
-/// more kept.
+/// The claims made so far, up to a limit. After the limit, claims and labels are dropped, and `finish` fails.
 #[derive(Drop)]
 pub struct ClaimSheet {
     alloc: Global,
     pool: LabelPool,
-    // How many labels the pool had at first.
+    // The number of labels that the pool had when the sheet began.
     first: usize,
     claims: Vec<Claim>,
     limit: u64,
-    // Whether only the claims on addresses alone are taken.
+    // Whether claims that cover bytes of the file are dropped.
     addresses_only: bool,
     over: bool,
 }
@@ -44,7 +44,7 @@ impl Model for ClaimSheet {
     ghost invariant = { λ s. IsSheet s.pool s.first s.claims.items s.limit };
 }
 
-// Whether a sheet that takes all claims, or only those on addresses alone, takes one on this side.
+// Returns whether a sheet takes a claim on this side.
 fn is_taken(addresses_only: bool, side: Side) -> bool
     ensures { result ≡ is_taken addresses_only side }
 {
@@ -55,7 +55,7 @@ fn is_taken(addresses_only: bool, side: Side) -> bool
 }
 
 impl ClaimSheet {
-    /// A sheet with no claims, which takes each. It has the pool's labels until it is finished.
+    /// Returns an empty sheet that takes every claim. It owns the pool's labels until `finish` gives them back.
     pub fn begin(alloc: Global, pool: &mut LabelPool, limit: u64) -> ClaimSheet
         ensures { result ≡ fresh pool.old limit }
     {
@@ -72,8 +72,8 @@ impl ClaimSheet {
         }
     }
 
-    /// A sheet with no claims, which takes those on addresses alone: the others are left out, with their labels, and
-    /// don't count. It has the pool's labels until it is finished.
+    /// Returns an empty sheet that takes only claims on addresses without bytes of the file. It drops the others with
+    /// their labels, and doesn't count them. It owns the pool's labels until `finish` gives them back.
     pub fn begin_on_addresses(alloc: Global, pool: &mut LabelPool, limit: u64) -> ClaimSheet
         ensures { result ≡ fresh_on_addresses pool.old limit }
     {
@@ -82,11 +82,10 @@ impl ClaimSheet {
         sheet
     }
 
-    /// Adds the claim on these bytes under this label, where there is a byte and the sheet takes it.
+    /// Adds a claim. A claim that covers nothing is dropped.
     pub fn add(&mut self, reach: Reach, wrap: Wrap, label: &[u8]) -> Result<(), NoMemory>
-        ensures made { OnOk result (self.new ≡ adding self.old (claim_on reach (wrapped wrap label.now))) }
+        ensures adds { Adds result self.old self.new (claim_on reach (wrapped wrap label.now)) }
         ensures same { OnErr result (self.new ≡ self.old) }
-        ensures kept { self.new.pool ≡ self.old.pool }
     {
         if reach.is_empty() {
             return Ok(());
@@ -108,7 +107,7 @@ impl ClaimSheet {
         )
     }
 
-    /// The same, where there is something to claim.
+    /// Adds a claim if there is something to cover.
     #[tactic(auto, using(crate::proofs::SheetLemmas::adding_none))]
     pub fn add_some(
         &mut self,
@@ -116,9 +115,8 @@ impl ClaimSheet {
         wrap: Wrap,
         label: &[u8],
     ) -> Result<(), NoMemory>
-        ensures made { OnOk result (self.new ≡ adding self.old (claim_on_some reach (wrapped wrap label.now))) }
+        ensures adds { Adds result self.old self.new (claim_on_some reach (wrapped wrap label.now)) }
         ensures same { OnErr result (self.new ≡ self.old) }
-        ensures kept { self.new.pool ≡ self.old.pool }
     {
         match reach {
             Some(reach) => self.add(reach, wrap, label),
@@ -126,8 +124,8 @@ impl ClaimSheet {
         }
     }
 
-    /// Gives the pool its labels back, and with them those of the claims: the claims, or that there were more than
-    /// the limit. No other label is new in the pool.
+    /// Returns the claims, or TooMany if there were more than the limit. The pool gets its labels back, and the labels
+    /// of the claims with them. It gets no other label.
     pub fn finish(self, pool: &mut LabelPool) -> Result<Vec<Claim>, TooMany>
         ensures claims { IfOk result (λ v. texts pool.new v.items ≡ self.made) }
         ensures numbered { IfOk result (λ v. AreNumbered pool.new v.items) }

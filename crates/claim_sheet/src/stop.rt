@@ -1,4 +1,4 @@
-//! Why the claims of a group were not all made.
+//! Why a walk over a file stopped before all claims were added.
 
 ghost use Rattle.std.specs.Prelude.{◌≡◌};
 ghost use Rattle.claim_sheet.specs.declared.stop.Stop.TheVariants.{Bad, NoMemory as OutOfMemory};
@@ -6,13 +6,13 @@ ghost use Rattle.claim_sheet.specs.declared.stop.Stop.TheVariants.{Bad, NoMemory
 use size_core::{BadFile, NoMemory};
 use thiserror::Error;
 
-/// Why the claims of a group were not all made.
+/// Why a walk over a file stopped before all claims were added.
 #[derive(Clone, Copy, Debug, PartialEq, Eq, Error)]
 pub enum Stop {
-    /// The first fault of the group's records.
+    /// The first fault of the records that were read.
     #[error("bad file")]
     Bad(BadFile),
-    /// There was not enough memory.
+    /// Out of memory.
     #[error("out of memory")]
     NoMemory,
 }

@@ -1,4 +1,4 @@
--- What a reader's answers say of the sources.
+-- What a reader's results say about the sources.
 use Rattle.std.proofs.Common.{◌≡◌, ◌∙◌, ℕ, ◌+◌, ◌<◌, nat_lt, arith, if◌then◌else◌, List, ◌∷◌, Bool, true, false, Result, Ok, Err, refl, sym, ap}
 use Rattle.config_text.specs.declared.config.CustomSource.{CustomSource}
 use Rattle.config_text.specs.declared.config.ConfigKind.{ConfigKind}
@@ -7,7 +7,7 @@ use Rattle.config_text.specs.declared.config.ConfigAnswer.{ConfigAnswer}
 use Rattle.config_text.specs.declared.config.ConfigAnswer.TheVariants.{Bad, NoMemory}
 use Rattle.config_text.specs.Tokens.{Quoted, Placed, Between, spelled, joined, quoted_before, Place, ahead, tokens}
 use Rattle.config_text.specs.Grammar.{Fault, ◌>>=◌, bad, Field, Draft, Opening, InRewrite, rewrite_begun, Colon, Value, Separated, level_of, with_value}
-use Rattle.config_text.specs.Config.{sources_from, sources_after, sources_behind}
+use Rattle.config_text.specs.Config.{sources_from, sources_after, sources_after_value}
 use Rattle.config_text.specs.declared.draft.SourceParts.{SourceParts}
 use Rattle.config_text.specs.Drafts.{in_source}
 use Rattle.std.proofs.lemmas.Bool.Decides.{nat_tests}
@@ -40,19 +40,19 @@ value_fails p (Bad kind quote) h field d =
 value_fails p NoMemory h field d = tt
 
 given : (ts : List Placed) (field : Field) (r : Result Draft Fault)
-    → sources_after ts (r >>= λ d. Ok (Separated (level_of field), d)) ≡ sources_behind ts field r
+    → sources_after ts (r >>= λ d. Ok (Separated (level_of field), d)) ≡ sources_after_value ts field r
 given ts field (Ok d) = refl
 given ts field (Err e) = refl
 
 pub value_given : (p new : Place) (v : List ℕ) → ahead p ≡ (p.at, Quoted v) ∷ ahead new → (field : Field) (d : Draft)
-    → sources_from (ahead p) (Value field) d ≡ sources_behind (ahead new) field (with_value field d p.at v)
+    → sources_from (ahead p) (Value field) d ≡ sources_after_value (ahead new) field (with_value field d p.at v)
 value_given p new v is field d =
     ap (λ (ts : List Placed). sources_from ts (Value field) d) is ∙ given (ahead new) field (with_value field d p.at v)
 
 counted : (begun : ℕ) → begun < 64 → nat_lt begun 64 ≡ true
 counted begun lt = grind (arith, nat_tests)
 
--- a rewrite that isn't one too many begins
+-- A rewrite that isn't one too many begins.
 pub rewrite_goes_on : (ts : List Placed) (sources : List CustomSource) (begun at : ℕ) (parts : SourceParts) → begun < 64
     → sources_after ts (rewrite_begun (in_source sources begun parts) at) ≡ sources_from ts (Opening InRewrite) (in_source sources (begun + 1) parts)
 rewrite_goes_on ts sources begun at parts lt =

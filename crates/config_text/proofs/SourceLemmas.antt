@@ -25,7 +25,7 @@ level_at (Brace level) = level
 level_at (Colon field) = level_of field
 level_at (Value field) = level_of field
 
--- sources that are begun and not closed, and rewrites
+-- The number of open sources.
 abbrev open_sources : Level → ℕ
 open_sources InFile = 0
 open_sources InSource = 1
@@ -65,7 +65,7 @@ Keeps (Err e) = Unit {0}
 below : (n : ℕ) → nat_lt n 64 ≡ true → n < 64
 below n h = grind (arith, nat_tests)
 
--- an item of a list with one more at its end
+-- An item of a list with one more at its end.
 push_at : {X : Type 0} (xs : List X) (x s : X) (k : ℕ) → slice_get (xs ++ x ∷ []) k ≡ Some s
     → ((k ≤ length xs) × (slice_get xs k ≡ Some s)) ⊎ ((k ≡ length xs) × (s ≡ x))
 push_at [] x s zero at = inr (refl, cc)
@@ -185,7 +185,7 @@ keeps_item InRewrite d at End s = tt
 keeps_brace : (level : Level) (d : Draft) (at : ℕ) (t : Token) → Sound level d → Keeps (at_brace level d at t)
 keeps_brace level d at t s = chosen Keeps (is_the_mark 123 t) _ _ (λ _. s) (λ _. tt)
 
--- what a value leaves
+-- A value keeps the rules.
 abbrev KeepsValue : Field → Result Draft Fault → Type 0
 KeepsValue field read = Keeps (read >>= λ d. Ok (Separated (level_of field), d))
 
@@ -281,7 +281,7 @@ nothing_sound = record {
   replacement = tt;
 }
 
--- the sources of a text keep the rules
+-- The sources of a text follow the rules.
 pub config_sound : (text : List ℕ) (sources : List CustomSource) → config text ≡ Ok sources → AreSources sources
 unfolding config
 config_sound text sources is = subst KeepsRules is (keeps_from (tokens 0 text) (Item InFile) nothing nothing_sound)

@@ -1,4 +1,4 @@
--- What the next bytes of a text spell.
+-- The tokens of the next bytes.
 use Rattle.std.proofs.Common.{◌≡◌, ◌∙◌, ◌<◌, ◌≤◌, ◌+◌, ◌-◌, ◌==◌, ◌&&◌, subst, ℕ, zero, suc, List, [], ◌∷◌, ◌++◌, Bool, true, false, not, Option, Some, None, Err, refl, sym, ap, ap₂, take, drop, length, get_or, arith, if◌then◌else◌, append_assoc}
 use Rattle.std.proofs.lemmas.List.{append-nil}
 use Rattle.std.proofs.lemmas.Grind.{common_steps}
@@ -9,7 +9,7 @@ use Rattle.config_text.specs.Grammar.{Field, Draft, is_the_mark, at_value, bad, 
 use Rattle.config_text.specs.Config.{sources_from, sources_after}
 use Rattle.config_text.specs.Reads.{begins_token, begins_string, begins_name, Stands}
 
--- a choice by a test
+-- A choice by a test.
 pub chosen : {A : Type 0} (P : A → Type 0) (b : Bool) (x y : A) → (b ≡ true → P x) → (b ≡ false → P y) → P (if b then x else y)
 chosen P true x y first second = first refl
 chosen P false x y first second = second refl
@@ -22,7 +22,7 @@ if_true : {A : Type 0} (b : Bool) (x y : A) → b ≡ true → (if b then x else
 if_true true x y is = refl
 if_true false x y is = cc
 
--- a name ends before the first byte that can't stand in it
+-- A name ends before the first byte that it can't contain.
 pub word_spelled : (bytes : List ℕ) (k start at : ℕ) (name : List ℕ) → k ≤ length bytes
     → ((i : ℕ) → i < k → is_in_word (get_or bytes i 0) ≡ true) → (k < length bytes → is_in_word (get_or bytes k 0) ≡ false)
     → spelled bytes (InWord start name) at ≡ (start, Word (name ++ take k bytes)) ∷ spelled (drop k bytes) Between (at + k)
@@ -50,7 +50,7 @@ word_stands test holds (c ∷ cs) start name at =
     chosen P (is_in_word c) _ _ (λ _. word_stands test holds cs start (name ++ c ∷ []) (at + 1))
     (λ _. record { token = Word name; behind = joined (spelled (c ∷ cs) Between at); is = refl; holds = holds name })
 
--- a test that holds of each token with this first byte holds of the token
+-- A test that holds of each token with this first byte holds of the token.
 module _ (test : Token → Bool) (value_holds : (v : List ℕ) → test (Quoted v) ≡ true) (broken_holds : (q : ℕ) → test (Broken q) ≡ true) where
   string_stands : (cs : List ℕ) (quote start : ℕ) (value : List ℕ) (at : ℕ)
       → Stands test start (spelled cs (InString quote start value) at) × Stands test start (spelled cs (InEscape quote start value) at)
@@ -90,7 +90,7 @@ module _ (test : Token → Bool) (value_holds : (v : List ℕ) → test (Quoted 
       let P : List Placed → Type 0 = λ (xs : List Placed). Stands test start (joined xs) in
       subst P (sym s.is) (before_stands start s.token (joined s.behind) s.holds)
 
--- a byte of no gap
+-- A byte that is part of a token.
 byte_stands : (test : Token → Bool) (at c : ℕ) (cs : List ℕ) → is_blank c ≡ false → (c == 35) ≡ false → (is_mark c ≡ true → test (Mark c) ≡ true)
     → (begins_word c ≡ true → (n : List ℕ) → test (Word n) ≡ true) → (is_quote c ≡ true → (v : List ℕ) → test (Quoted v) ≡ true)
     → (is_quote c ≡ true → (q : ℕ) → test (Broken q) ≡ true) → test Stray ≡ true → Stands test at (joined (spelled (c ∷ cs) Between at))
@@ -109,7 +109,7 @@ both_parts true b h = cc
 both_parts false true h = cc
 both_parts false false h = (refl, refl)
 
--- a test that holds of each token that the first byte can begin holds of the token
+-- A test that holds of each token that the first byte can begin holds of the token.
 pub first_stands : (test : Token → Bool) (at : ℕ) (rest : List ℕ) → begins_token rest ≡ true
     → (rest ≡ [] → test End ≡ true) → ((c : ℕ) (cs : List ℕ) → rest ≡ c ∷ cs → is_mark c ≡ true → test (Mark c) ≡ true)
     → (begins_name rest ≡ true → (n : List ℕ) → test (Word n) ≡ true) → (begins_string rest ≡ true → (v : List ℕ) → test (Quoted v) ≡ true)
@@ -124,7 +124,7 @@ first_stands test at (c ∷ cs) begins end_holds mark_holds word_holds value_hol
 rest_taken : (c : ℕ) (cs : List ℕ) → take (length (c ∷ cs) - 1) (drop 1 (c ∷ cs)) ≡ cs
 rest_taken c cs = grind (arith, common_steps)
 
--- the parts of a slice that isn't empty
+-- The parts of a slice that isn't empty.
 pub slice_parts : (s tail : List ℕ) → 0 < length s → tail ≡ take (length s - 1) (drop 1 s) → s ≡ get_or s 0 0 ∷ tail
 slice_parts [] tail some is = absurd (omega arith)
 slice_parts (c ∷ cs) tail some is = ap (λ (t : List ℕ). c ∷ t) (sym (is ∙ rest_taken c cs))
@@ -176,7 +176,7 @@ quoted_again at next v more ((q, Mark byte) ∷ ts) = refl
 quoted_again at next v more ((q, Stray) ∷ ts) = refl
 quoted_again at next v more ((q, End) ∷ ts) = refl
 
--- a string and what stands behind it
+-- A string and the bytes after it.
 pub string_ahead : (old new after : Place) (v : List ℕ) → spelled old.rest Between old.at ≡ (old.at, Quoted v) ∷ spelled new.rest Between new.at
     → spelled after.rest Between after.at ≡ spelled new.rest Between new.at → ahead old ≡ quoted_before old.at v (ahead after)
 unfolding tokens
@@ -190,7 +190,7 @@ is_no_string (Mark byte) = true
 is_no_string Stray = true
 is_no_string End = true
 
--- no string stands first
+-- The next token isn't a string.
 no_string_ahead : (at : ℕ) (rest : List ℕ) → begins_token rest ≡ true → begins_string rest ≡ false → Stands is_no_string at (tokens at rest)
 no_string_ahead at rest begins other =
     first_stands is_no_string at rest begins (λ _. refl) (λ c cs is mark. refl) (λ _ n. refl) (λ e v. cc) (λ e q. cc) refl
@@ -204,7 +204,7 @@ quoted_before_other start v at (Mark byte) ts other = refl
 quoted_before_other start v at Stray ts other = refl
 quoted_before_other start v at End ts other = refl
 
--- a value ends where no string follows it
+-- A value ends where no string follows it.
 pub value_ends : (start : ℕ) (v : List ℕ) (p : Place) → begins_token p.rest ≡ true → begins_string p.rest ≡ false
     → quoted_before start v (ahead p) ≡ (start, Quoted v) ∷ ahead p
 value_ends start v p begins other =
@@ -220,7 +220,7 @@ other_value field d at (Mark byte) other = refl
 other_value field d at Stray other = refl
 other_value field d at End other = refl
 
--- a value is missing where no string begins
+-- A value is missing where no string begins.
 pub value_missing : (field : Field) (d : Draft) (p : Place) → begins_token p.rest ≡ true → begins_string p.rest ≡ false
     → sources_from (ahead p) (Value field) d ≡ Err (Syntax, p.at)
 value_missing field d p begins other =
@@ -228,12 +228,12 @@ value_missing field d p begins other =
     ap (λ (ts : List Placed). sources_from ts (Value field) d) s.is
     ∙ ap (sources_after s.behind) (other_value field d p.at s.token s.holds)
 
--- a string behind a value can't be read
+-- A string after a value can't be read.
 pub value_broken : (start quote at : ℕ) (v : List ℕ) (p : Place) → ahead p ≡ (at, Broken quote) ∷ []
     → quoted_before start v (ahead p) ≡ (start, Broken quote) ∷ []
 value_broken start quote at v p is = ap (quoted_before start v) is
 
--- blanks change no token
+-- Blanks change no token.
 pub same_ahead : (old new : Place) → spelled new.rest Between new.at ≡ spelled old.rest Between old.at → ahead new ≡ ahead old
 unfolding tokens
 same_ahead old new same = ap joined same
@@ -242,7 +242,7 @@ pub broken_ahead : (p : Place) (quote : ℕ) → spelled p.rest Between p.at ≡
 unfolding tokens
 broken_ahead p quote is = ap joined is
 
--- a mark that stands first
+-- The next token is a mark.
 pub mark_ahead : (old new : Place) (at c : ℕ) (rest tail : List ℕ) → record { at = at; rest = rest } ≡ new
     → spelled new.rest Between new.at ≡ spelled old.rest Between old.at → begins_token new.rest ≡ true
     → rest ≡ c ∷ tail → is_mark c ≡ true → ahead old ≡ (at, Mark c) ∷ ahead (record { at = at + 1; rest = tail })
@@ -253,7 +253,7 @@ mark_ahead old new at c rest tail view same begins is mark =
     ap joined (sym here
     ∙ if_false (is_blank c) _ _ parts.0 ∙ if_false (c == 35) _ _ parts.1 ∙ if_true (is_mark c) _ _ mark)
 
--- another token that stands first
+-- The next token is another one.
 pub other_ahead : (test : Token → Bool) (old new : Place) (at : ℕ) (rest : List ℕ) → record { at = at; rest = rest } ≡ new
     → spelled new.rest Between new.at ≡ spelled old.rest Between old.at → begins_token new.rest ≡ true
     → (rest ≡ [] → test End ≡ true) → ((c : ℕ) (cs : List ℕ) → rest ≡ c ∷ cs → is_mark c ≡ true → test (Mark c) ≡ true)
@@ -265,7 +265,7 @@ other_ahead test old new at rest view same begins end_holds mark_holds word_hold
     let P : List Placed → Type 0 = Stands test at in
     subst P here (first_stands test at rest (ap (λ (p : Place). begins_token p.rest) view ∙ begins) end_holds mark_holds word_holds value_holds broken_holds stray_holds)
 
--- another token than a mark stands first
+-- The next token isn't this mark.
 pub none_ahead : (byte : ℕ) (old new : Place) (at : ℕ) (rest : List ℕ) → record { at = at; rest = rest } ≡ new
     → spelled new.rest Between new.at ≡ spelled old.rest Between old.at → begins_token new.rest ≡ true
     → ((c : ℕ) (cs : List ℕ) → rest ≡ c ∷ cs → c ≡ byte → ⊥)
@@ -280,7 +280,7 @@ none_ahead byte old new at rest view same begins other =
           (λ _ n. refl) (λ _ v. refl) (λ _ q. refl) refl),
     )
 
--- the name that stands first
+-- The next token is a name.
 pub word_ahead : (p : Place) (at : ℕ) (rest name tail : List ℕ) (len : ℕ) → record { at = at; rest = rest } ≡ p → begins_name p.rest ≡ true
     → len ≤ length rest → ((k : ℕ) → k < len → is_in_word (get_or rest k 0) ≡ true) → (len < length rest → is_in_word (get_or rest len 0) ≡ false)
     → name ≡ take len rest → tail ≡ drop len rest → ahead p ≡ (p.at, Word name) ∷ ahead (record { at = at + len; rest = tail })

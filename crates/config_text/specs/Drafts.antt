@@ -1,4 +1,4 @@
--- What is read so far, as the parser holds it.
+-- Drafts, as the parser holds them.
 use Rattle.std.specs.Prelude.{◌≡◌, ◌<◌, ◌≤◌, ℕ, Bool, true, false, List, [], ◌∷◌, length, Result, Ok, Err, if◌then◌else◌}
 use Rattle.config_text.specs.declared.config.CustomSource.{CustomSource}
 use Rattle.config_text.specs.declared.config.ConfigAnswer.{ConfigAnswer}
@@ -11,37 +11,37 @@ use Rattle.config_text.specs.Reads.{Stands, is_other}
 use Rattle.config_text.specs.declared.reader.Next.{Next}
 use Rattle.config_text.specs.declared.reader.Next.TheVariants as next
 
--- between sources
+-- A draft between sources.
 abbrev pub in_file : List CustomSource → ℕ → Draft
 in_file sources begun = record { sources = sources; begun = begun; source = no_source; rewrite = no_rewrite }
 
--- in a source
+-- A draft in a source.
 abbrev pub in_source : List CustomSource → ℕ → SourceParts → Draft
 in_source sources begun parts = record { sources = sources; begun = begun; source = parts; rewrite = no_rewrite }
 
--- in a rewrite
+-- A draft in a rewrite.
 abbrev pub in_rewrite : Draft → RewriteParts → Draft
 in_rewrite d parts = record d { rewrite = parts }
 
--- the reading goes on with the source that begins, or ends
+-- The sources where another source begins, or where the text ends.
 abbrev pub goes_on : List Placed → Draft → Bool → Result (List CustomSource) Fault
 goes_on ts d begins = (if begins then sources_from ts (Opening InSource) d else Ok d.sources)
 
--- the next token is what was found
+-- The next token is the one that was found.
 abbrev pub Shows : Next → Place → Place → Type 0
 Shows (next.Word at name) old new = ahead old ≡ (at, Word name.now) ∷ ahead new
 Shows (next.Mark at byte) old new = ahead old ≡ (at, Mark byte) ∷ ahead new
 Shows (next.End at) old new = ahead old ≡ (at, End) ∷ []
 Shows (next.Other at) old new = Stands is_other at (ahead old)
 
--- a name is passed, and nothing comes back
+-- The rest gets no longer, and it gets shorter where a name or a mark is read.
 abbrev pub LeavesLess : Next → Place → Place → Type 0
 LeavesLess (next.Word at name) old new = length new.rest < length old.rest
 LeavesLess (next.Mark at byte) old new = length new.rest < length old.rest
 LeavesLess (next.End at) old new = length new.rest ≤ length old.rest
 LeavesLess (next.Other at) old new = length new.rest ≤ length old.rest
 
--- a source begins only where a name is passed
+-- A source begins only where a name is read.
 abbrev pub PassesName : Result Bool ConfigAnswer → Place → Place → Type 0
 PassesName (Ok true) old new = length new.rest < length old.rest
 PassesName (Ok false) old new = Unit {0}

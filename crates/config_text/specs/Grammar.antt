@@ -1,4 +1,4 @@
--- The grammar of a configuration, token by token: what may stand next, and what each token does.
+-- The grammar of a configuration, token by token: what may come next, and what each token does.
 --
 --   file    = { source }
 --   source  = "custom_data_source" [":"] "{" { field } "}" [sep]
@@ -20,63 +20,67 @@ use Rattle.config_text.specs.declared.draft.SourceParts.{SourceParts}
 use Rattle.config_text.specs.declared.draft.RewriteParts.{RewriteParts}
 use Rattle.config_text.specs.Tokens.{Token, Word, Quoted, Mark, Broken, Stray, End}
 
--- a fault and its offset
+-- A fault and its offset in bytes.
 abbrev pub Fault : Type 0
 Fault = ConfigKind × ℕ
 
--- what is read, and what goes on with it, unless there is a fault
+-- A reading, and then a reading that depends on its value. The first fault ends it.
 infixl 10 ◌>>=◌
 abbrev pub ◌>>=◌ : {A B : Type 0} → Result A Fault → (A → Result B Fault) → Result B Fault
 (Ok x) >>= f = f x
 (Err e) >>= f = Err e
 
+-- A fault of this kind at an offset.
 abbrev pub bad : {X : Type 0} → ConfigKind → ℕ → Result X Fault
 bad kind at = Err (kind, at)
 
--- what is read so far: the sources, how many rewrites were begun in the whole text, and the parts of the
--- source and of the rewrite that aren't closed
+-- What was read of a configuration: its sources, how many rewrites began in the whole text, and the fields
+-- of the open source and of the open rewrite.
 pub record Draft : Type 0 where
   pub sources : List CustomSource
   pub begun : ℕ
   pub source : SourceParts
   pub rewrite : RewriteParts
 
+-- A source without fields.
 abbrev pub no_source : SourceParts
 no_source = record { name = None; base = None; rewrites = [] }
 
+-- A rewrite without fields.
 abbrev pub no_rewrite : RewriteParts
 no_rewrite = record { pattern = None; replacement = None }
 
--- what a block stands in
+-- The block that a token is in.
 pub data Level : Type 0 where
   InFile : Level
   InSource : Level
   InRewrite : Level
 
--- a field with a value
+-- A field with a value.
 pub data Field : Type 0 where
   Name : Field
   Base : Field
   Pattern : Field
   Replacement : Field
 
--- what may stand next
+-- What may come next.
 pub data Awaited : Type 0 where
-  -- a source, a field or a part, or the end of the block
+  -- A source, a field or a part, or the end of the block.
   Item : Level → Awaited
-  -- the same, or a separator before it
+  -- The same, or a separator before it.
   Separated : Level → Awaited
-  -- the colon or the brace that begin this block, or the brace alone
+  -- The colon or the brace at the start of this block, or only the brace.
   Opening : Level → Awaited
   Brace : Level → Awaited
-  -- the colon, or the value, of a field
+  -- The colon of a field, or its value.
   Colon : Field → Awaited
   Value : Field → Awaited
 
--- what may stand next, and what is read so far
+-- What may come next, and what was read.
 abbrev pub State : Type 0
 State = Awaited × Draft
 
+-- The block that a field belongs to.
 abbrev pub level_of : Field → Level
 level_of Name = InSource
 level_of Base = InSource
@@ -85,42 +89,50 @@ level_of Replacement = InRewrite
 
 -- VALUES
 
--- the name is free: not empty, without a comma, no built-in source's and no other's
+-- The name can be used: it isn't empty, has no comma, and is the name of no built-in source and of none of
+-- these.
 abbrev pub is_free : List CustomSource → List ℕ → Bool
 is_free sources name = not (length name == 0) && not (list_any (λ c. c == 44) name)
     && not (is_some (source_named name)) && not (list_any (λ s. bytes_eq s.name name) sources)
 
--- each backslash (92) is followed by a digit or a backslash
+-- Each backslash (92) is followed by a digit or a backslash.
 abbrev pub is_replacement : List ℕ → Bool
 is_replacement [] = true
 is_replacement (c ∷ []) = not (c == 92)
 is_replacement (c ∷ d ∷ rest) =
     if c == 92 then (is_ascii_digit d || d == 92) && is_replacement rest else is_replacement (d ∷ rest)
 
+-- The value where it is UTF-8, or the fault NotUtf8.
 abbrev pub text_read : ℕ → List ℕ → Result (List ℕ) Fault
 text_read at value = if is_utf8 value then Ok value else bad NotUtf8 at
 
+-- The name of a source: the value where it can be used, or its fault.
 abbrev pub name_read : List CustomSource → ℕ → List ℕ → Result (List ℕ) Fault
 name_read sources at value = text_read at value >>= λ name. if is_free sources name then Ok name else bad BadName at
 
+-- The data source, or the fault BadBase where there is none.
 abbrev pub base_found : ℕ → Option Source → Result Source Fault
 base_found at (Some base) = Ok base
 base_found at None = bad BadBase at
 
+-- The base of a source: the built-in data source whose name is the value, or the fault of the value.
 abbrev pub base_read : ℕ → List ℕ → Result Source Fault
 base_read at value = text_read at value >>= λ name. base_found at (source_named name)
 
+-- The replacement: the value where each backslash is followed by a digit or a backslash, or its fault.
 abbrev pub replacement_read : ℕ → List ℕ → Result (List ℕ) Fault
 replacement_read at value =
     text_read at value >>= λ text. if is_replacement text then Ok text else bad BadReplacement at
 
+-- The draft with these fields of the open source.
 abbrev pub with_source : Draft → SourceParts → Draft
 with_source d parts = record d { source = parts }
 
+-- The draft with these fields of the open rewrite.
 abbrev pub with_rewrite : Draft → RewriteParts → Draft
 with_rewrite d parts = record d { rewrite = parts }
 
--- what is read with the value of a field
+-- The draft with the value of a field, or the fault of the value.
 abbrev pub with_value : Field → Draft → ℕ → List ℕ → Result Draft Fault
 with_value Name d at value =
     name_read d.sources at value >>= λ name. Ok (with_source d (record d.source { name = Some name }))
@@ -133,22 +145,22 @@ with_value Replacement d at value =
 
 -- NAMES
 
--- a name that begins a source
+-- The state after a name between sources, which begins a source.
 abbrev pub source_begun : Draft → ℕ → List ℕ → Result State Fault
 source_begun d at name =
     if bytes_eq name (codes "custom_data_source") then
     (if nat_lt (length d.sources) 64 then Ok (Opening InSource, d) else bad TooMany at)
     else bad UnknownField at
 
--- a field that stands once, of which `given` is what was read before
+-- The state after the name of a field that can be given once. given is its earlier value.
 abbrev pub once : {X : Type 0} → Option X → Field → Draft → ℕ → Result State Fault
 once given field d at = if is_some given then bad RepeatedField at else Ok (Colon field, d)
 
--- the name of a rewrite
+-- The state after the name of a rewrite.
 abbrev pub rewrite_begun : Draft → ℕ → Result State Fault
 rewrite_begun d at = if nat_lt d.begun 64 then Ok (Opening InRewrite, record d { begun = d.begun + 1 }) else bad TooMany at
 
--- a name in a source
+-- The state after a name in a source.
 abbrev pub field_begun : Draft → ℕ → List ℕ → Result State Fault
 field_begun d at name =
     if bytes_eq name (codes "name") then once d.source.name Name d at
@@ -156,7 +168,7 @@ field_begun d at name =
     else if bytes_eq name (codes "rewrite") then rewrite_begun d at
     else bad UnknownField at
 
--- a name in a rewrite
+-- The state after a name in a rewrite.
 abbrev pub part_begun : Draft → ℕ → List ℕ → Result State Fault
 part_begun d at name =
     if bytes_eq name (codes "pattern") then once d.rewrite.pattern Pattern d at
@@ -165,33 +177,39 @@ part_begun d at name =
 
 -- ENDS OF BLOCKS
 
+-- The source with these fields, or the fault MissingField.
 abbrev pub source_made : ℕ → Option (List ℕ) → Option Source → List Rewrite → Result CustomSource Fault
 source_made at (Some name) (Some base) rewrites = Ok (record { name = name; base = base; rewrites = rewrites })
 source_made at (Some name) None rewrites = bad MissingField at
 source_made at None base rewrites = bad MissingField at
 
+-- The rewrite with these fields, or the fault MissingField.
 abbrev pub rewrite_made : ℕ → Option (List ℕ) → Option (List ℕ) → Result Rewrite Fault
 rewrite_made at (Some pattern) (Some replacement) = Ok (record { pattern = pattern; replacement = replacement })
 rewrite_made at (Some pattern) None = bad MissingField at
 rewrite_made at None replacement = bad MissingField at
 
+-- The draft with one more source, and no open one.
 abbrev pub source_closed : Draft → CustomSource → Draft
 source_closed d made = record d { sources = d.sources ++ made ∷ []; source = no_source }
 
+-- The draft with one more rewrite in the open source, and no open one.
 abbrev pub rewrite_closed : Draft → Rewrite → Draft
 rewrite_closed d made = record d { source = record d.source { rewrites = d.source.rewrites ++ made ∷ [] }; rewrite = no_rewrite }
 
--- the closing brace of a source, or of a rewrite
+-- The state after the closing brace of a source.
 abbrev pub source_ended : Draft → ℕ → Result State Fault
 source_ended d at =
     source_made at d.source.name d.source.base d.source.rewrites >>= λ made. Ok (Separated InFile, source_closed d made)
 
+-- The state after the closing brace of a rewrite.
 abbrev pub rewrite_ended : Draft → ℕ → Result State Fault
 rewrite_ended d at =
     rewrite_made at d.rewrite.pattern d.rewrite.replacement >>= λ made. Ok (Separated InSource, rewrite_closed d made)
 
 -- TOKENS
 
+-- The token is this mark.
 abbrev pub is_the_mark : ℕ → Token → Bool
 is_the_mark byte (Mark found) = found == byte
 is_the_mark byte (Word name) = false
@@ -200,10 +218,11 @@ is_the_mark byte (Broken quote) = false
 is_the_mark byte Stray = false
 is_the_mark byte End = false
 
+-- The token is a comma or a semicolon.
 abbrev pub is_separator : Token → Bool
 is_separator t = is_the_mark 44 t || is_the_mark 59 t
 
--- a token where an item or the end of a block may stand
+-- The state after a token where an item or the end of a block may come.
 abbrev pub at_item : Level → Draft → ℕ → Token → Result State Fault
 at_item InFile d at (Word name) = source_begun d at name
 at_item InFile d at End = Ok (Item InFile, d)
@@ -215,17 +234,17 @@ at_item InRewrite d at (Word name) = part_begun d at name
 at_item InRewrite d at (Mark byte) = if byte == 125 then rewrite_ended d at else bad Syntax at
 at_item InRewrite d at _ = bad Syntax at
 
--- a token where the brace of a block has to stand
+-- The state after a token where the brace of a block has to come.
 abbrev pub at_brace : Level → Draft → ℕ → Token → Result State Fault
 at_brace level d at t = if is_the_mark 123 t then Ok (Item level, d) else bad Syntax at
 
--- a token where a value has to stand
+-- The state after a token where a value has to come.
 abbrev pub at_value : Field → Draft → ℕ → Token → Result State Fault
 at_value field d at (Quoted value) = with_value field d at value >>= λ read. Ok (Separated (level_of field), read)
 at_value field d at (Broken quote) = bad BadString quote
 at_value field d at _ = bad Syntax at
 
--- what a token does, by what may stand there
+-- The state after a token, by what may come there.
 abbrev pub at_token : Awaited → Draft → ℕ → Token → Result State Fault
 at_token (Item level) d at t = at_item level d at t
 at_token (Separated level) d at t = if is_separator t then Ok (Item level, d) else at_item level d at t

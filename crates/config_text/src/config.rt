@@ -1,4 +1,4 @@
-//! What a configuration holds, and what can be wrong with its text.
+//! A configuration, and the faults of its text.
 
 ghost use Rattle.config_text.specs.declared.config.ConfigAnswer.TheVariants.{NoMemory as OutOfMemory};
 ghost use Rattle.std.specs.Prelude.{◌≡◌};
@@ -7,55 +7,57 @@ use size_core::{Bytes, List, Source, Text};
 use std::alloc::{AllocError, AllocFailed};
 use thiserror::Error;
 
-/// A data source of the configuration's own: the claims of its base, with each label rewritten.
+/// A custom data source: the claims of its base, with each label rewritten.
 #[derive(Debug, Drop)]
 pub struct CustomSource {
-    /// Its name: not empty, without a comma, and no other source's.
+    /// Its name. It isn't empty, has no comma, and is the name of no other data source.
     pub name: Text,
     /// The built-in data source whose claims it has.
     pub base: Source,
-    /// Its rewrites, the first of which that applies decides.
+    /// Its rewrites. The first one that applies decides.
     pub rewrites: RewriteList,
 }
 
-/// What takes the place of a label in which a pattern is found.
+/// A rewrite of the labels in which a pattern is found.
 #[derive(Debug, Drop)]
 pub struct Rewrite {
     /// A regular expression.
     pub pattern: Text,
-    /// The new label, in which `\0` to `\9` stand for a group of the match and `\\` for a backslash.
+    /// The new label. `\0` to `\9` are replaced by a group of the match, and `\\` by a backslash.
     pub replacement: Bytes,
 }
 
-/// Rewrites in the order of the text.
+/// Rewrites in text order.
 pub type RewriteList = List<Rewrite>;
 
 /// What is wrong with a configuration.
 #[derive(Clone, Copy, Debug, PartialEq, Eq, Hash)]
 pub enum ConfigKind {
-    /// A token that the grammar doesn't allow there, or the text ends. At the token, or the text's length.
+    /// A token that the grammar doesn't allow here, or the end of the text. At the token, or at the text's
+    /// length.
     Syntax,
-    /// A string that doesn't end on its line, or has an unknown escape. At its quote.
+    /// A string that doesn't end on its line, or has an unknown escape. At its opening quote.
     BadString,
     /// A value that isn't UTF-8. At its first quote.
     NotUtf8,
-    /// A name where a field's name may stand that is none. At the name.
+    /// A name that is no field's name. At the name.
     UnknownField,
-    /// A field that stands once is begun again. At the name.
+    /// A field that can be given once is given again. At the name.
     RepeatedField,
     /// A source or a rewrite ends without one of its fields. At the `}`.
     MissingField,
-    /// The name of a source is empty, has a comma, is built in, or was used before. At its first quote.
+    /// The name of a source is empty, has a comma, is that of a built-in source, or was used before. At its
+    /// first quote.
     BadName,
-    /// The base is no built-in data source. At its first quote.
+    /// The base isn't a built-in data source. At its first quote.
     BadBase,
     /// A backslash of a replacement isn't followed by a digit or a backslash. At its first quote.
     BadReplacement,
-    /// A 65th source, or a 65th rewrite of the whole text, is begun. At the name.
+    /// A 65th source begins, or a 65th rewrite of the whole text. At the name.
     TooMany,
 }
 
-/// Why there is no configuration.
+/// Why no configuration is returned.
 #[derive(Clone, Copy, Debug, PartialEq, Eq, Hash, Error)]
 pub enum ConfigAnswer {
     /// The first fault of the text, and its offset in bytes.

@@ -1,4 +1,4 @@
-//! What was read so far of a source and of a rewrite.
+//! The fields of a source and of a rewrite, as far as they were read.
 
 ghost use Rattle.std.specs.Prelude.{◌≡◌};
 ghost use Rattle.config_text.specs.Grammar.{source_made, rewrite_made, no_source, no_rewrite};
@@ -8,7 +8,7 @@ use crate::config::{ConfigAnswer, ConfigKind, CustomSource, Rewrite, RewriteList
 use size_core::{Bytes, Source, Text};
 use std::alloc::Global;
 
-/// The fields of a source that were read so far.
+/// The fields of a source that were read.
 #[derive(Drop)]
 pub(crate) struct SourceParts {
     pub(crate) name: Option<Text>,
@@ -16,21 +16,21 @@ pub(crate) struct SourceParts {
     pub(crate) rewrites: RewriteList,
 }
 
-/// The fields of a rewrite that were read so far.
+/// The fields of a rewrite that were read.
 #[derive(Drop)]
 pub(crate) struct RewriteParts {
     pub(crate) pattern: Option<Text>,
     pub(crate) replacement: Option<Bytes>,
 }
 
-/// A field is missing where the brace at this offset closes its block.
-fn missing(at: usize) -> ConfigAnswer
+/// Returns the fault MissingField at the closing brace, which is at offset `at`.
+fn missing_field(at: usize) -> ConfigAnswer
     ensures { result ≡ ConfigAnswer.Bad ConfigKind.MissingField at }
 {
     ConfigAnswer::Bad(ConfigKind::MissingField, at as u64)
 }
 
-/// No field of a source.
+/// Returns a source without fields.
 pub(crate) fn no_source(alloc: Global) -> SourceParts
     ensures { result ≡ no_source }
 {
@@ -41,7 +41,7 @@ pub(crate) fn no_source(alloc: Global) -> SourceParts
     }
 }
 
-/// No field of a rewrite.
+/// Returns a rewrite without fields.
 pub(crate) fn no_rewrite() -> RewriteParts
     ensures { result ≡ no_rewrite }
 {
@@ -51,7 +51,7 @@ pub(crate) fn no_rewrite() -> RewriteParts
     }
 }
 
-/// The source that the brace at this offset closes.
+/// Returns the source whose closing brace is at offset `at`. MissingField where a field is missing.
 pub(crate) fn close_source(parts: SourceParts, at: usize) -> Result<CustomSource, ConfigAnswer>
     ensures { Gives (λ s. s) result (source_made at parts.name parts.base parts.rewrites) }
 {
@@ -66,11 +66,11 @@ pub(crate) fn close_source(parts: SourceParts, at: usize) -> Result<CustomSource
             base,
             rewrites,
         }),
-        _ => Err(missing(at)),
+        _ => Err(missing_field(at)),
     }
 }
 
-/// The rewrite that the brace at this offset closes.
+/// Returns the rewrite whose closing brace is at offset `at`. MissingField where a field is missing.
 pub(crate) fn close_rewrite(parts: RewriteParts, at: usize) -> Result<Rewrite, ConfigAnswer>
     ensures { Gives (λ r. r) result (rewrite_made at parts.pattern parts.replacement) }
 {
@@ -83,6 +83,6 @@ pub(crate) fn close_rewrite(parts: RewriteParts, at: usize) -> Result<Rewrite, C
             pattern,
             replacement,
         }),
-        _ => Err(missing(at)),
+        _ => Err(missing_field(at)),
     }
 }

@@ -1,5 +1,5 @@
-//! The configuration: custom data sources and their rewrites, in a profile of the text format of protocol
-//! messages (Protocol Buffers, Text Format Language Specification).
+//! The configuration: custom data sources and their rewrites, in a subset of the text format of Protocol
+//! Buffers (Protocol Buffers, Text Format Language Specification).
 #![tactic(auto)]
 
 mod config;
@@ -10,6 +10,3 @@ mod values;
 
 pub use config::{ConfigAnswer, ConfigKind, CustomSource, Rewrite, RewriteList};
 pub use parser::parse;
-
-#[cfg(test)]
-mod tests;

@@ -1,9 +1,9 @@
-//! The grammar of a configuration.
+//! Parses a configuration.
 
 ghost use Rattle.std.specs.Prelude.{◌≡◌, ◌≤◌, ◌∷◌, ◌++◌, [], ℕ, List, length, IfOk, OnOk};
 ghost use Rattle.config_text.specs.declared.config.CustomSource.{CustomSource as Source};
 ghost use Rattle.config_text.specs.Tokens.{ahead};
-ghost use Rattle.config_text.specs.Grammar.{Draft, Separated, Item, Opening, InFile, InSource, InRewrite, field_begun, rewrite_begun, part_begun, no_rewrite, rewrite_closed};
+ghost use Rattle.config_text.specs.Grammar.{Draft, Separated, Item, Opening, InFile, InSource, InRewrite, Name, Base, Pattern, Replacement, once, field_begun, rewrite_begun, part_begun, no_rewrite, rewrite_closed};
 ghost use Rattle.config_text.specs.Config.{config, sources_from, sources_after};
 ghost use Rattle.config_text.specs.Sources.{AreSources};
 ghost use Rattle.config_text.specs.Drafts.{in_file, in_source, in_rewrite, goes_on, PassesName};
@@ -15,21 +15,61 @@ use crate::reader::{Next, Reader};
 use crate::values::{base_of, name_of, replacement_of, text_of};
 use std::alloc::Global;
 
-/// The most custom sources of a configuration.
+/// The maximum number of custom sources in a configuration.
 const MOST_SOURCES: usize = 64;
 
-/// The most rewrites of a configuration, of all its sources.
+/// The maximum number of rewrites in a configuration, over all sources.
 const MOST_REWRITES: usize = 64;
 
-/// A fault at an offset.
-fn bad(kind: ConfigKind, at: usize) -> ConfigAnswer
+/// Returns a fault at an offset.
+fn fault_at(kind: ConfigKind, at: usize) -> ConfigAnswer
     ensures { result ≡ ConfigAnswer.Bad kind at }
 {
     ConfigAnswer::Bad(kind, at as u64)
 }
 
-/// A part of a rewrite: the name at this offset, and the value that follows.
-fn part(
+/// Reads the pattern of a rewrite, after its name at offset `at`.
+fn read_pattern(
+    alloc: Global,
+    reader: &mut Reader<'_>,
+    at: usize,
+    parts: &mut RewriteParts,
+) -> Result<(), ConfigAnswer>
+    ensures carries { (d : Draft) → Carries result
+        (sources_after (ahead reader.old) (once parts.old.pattern Pattern (in_rewrite d parts.old) at))
+        (λ _. sources_from (ahead reader.new) (Separated InRewrite) (in_rewrite d parts.new)) }
+    ensures left { OnOk result (length reader.new.rest ≤ length reader.old.rest) }
+{
+    if parts.pattern.is_some() {
+        return Err(fault_at(ConfigKind::RepeatedField, at));
+    }
+    let value = reader.value(alloc)?;
+    parts.pattern = Some(text_of(alloc, &value)?);
+    Ok(())
+}
+
+/// Reads the replacement of a rewrite, after its name at offset `at`.
+fn read_replacement(
+    alloc: Global,
+    reader: &mut Reader<'_>,
+    at: usize,
+    parts: &mut RewriteParts,
+) -> Result<(), ConfigAnswer>
+    ensures carries { (d : Draft) → Carries result
+        (sources_after (ahead reader.old) (once parts.old.replacement Replacement (in_rewrite d parts.old) at))
+        (λ _. sources_from (ahead reader.new) (Separated InRewrite) (in_rewrite d parts.new)) }
+    ensures left { OnOk result (length reader.new.rest ≤ length reader.old.rest) }
+{
+    if parts.replacement.is_some() {
+        return Err(fault_at(ConfigKind::RepeatedField, at));
+    }
+    let value = reader.value(alloc)?;
+    parts.replacement = Some(replacement_of(alloc, &value)?);
+    Ok(())
+}
+
+/// Reads a field of a rewrite. `name` is its name, at offset `at`.
+fn read_part(
     alloc: Global,
     reader: &mut Reader<'_>,
     at: usize,
@@ -42,26 +82,16 @@ fn part(
     ensures left { OnOk result (length reader.new.rest ≤ length reader.old.rest) }
 {
     if name == b"pattern".as_slice() {
-        if parts.pattern.is_some() {
-            return Err(bad(ConfigKind::RepeatedField, at));
-        }
-        let value = reader.value(alloc)?;
-        parts.pattern = Some(text_of(alloc, &value)?);
-        return Ok(());
+        return read_pattern(alloc, reader, at, parts);
     }
     if name == b"replacement".as_slice() {
-        if parts.replacement.is_some() {
-            return Err(bad(ConfigKind::RepeatedField, at));
-        }
-        let value = reader.value(alloc)?;
-        parts.replacement = Some(replacement_of(alloc, &value)?);
-        return Ok(());
+        return read_replacement(alloc, reader, at, parts);
     }
-    Err(bad(ConfigKind::UnknownField, at))
+    Err(fault_at(ConfigKind::UnknownField, at))
 }
 
-/// The block of a rewrite.
-fn rewrite(alloc: Global, reader: &mut Reader<'_>) -> Result<Rewrite, ConfigAnswer>
+/// Reads the block of a rewrite.
+fn read_rewrite(alloc: Global, reader: &mut Reader<'_>) -> Result<Rewrite, ConfigAnswer>
     ensures carries { (d : Draft) → Carries result
         (sources_from (ahead reader.old) (Opening InRewrite) (in_rewrite d no_rewrite))
         (λ made. sources_from (ahead reader.new) (Separated InSource) (rewrite_closed d made)) }
@@ -71,18 +101,18 @@ fn rewrite(alloc: Global, reader: &mut Reader<'_>) -> Result<Rewrite, ConfigAnsw
     let mut parts = no_rewrite();
     'parts: loop {
         match reader.next() {
-            Next::Word(at, name) => part(alloc, reader, at, name, &mut parts)?,
+            Next::Word(at, name) => read_part(alloc, reader, at, name, &mut parts)?,
             Next::Mark(at, b'}') => return close_rewrite(parts, at),
             Next::Mark(at, _) | Next::End(at) | Next::Other(at) => {
-                return Err(bad(ConfigKind::Syntax, at));
+                return Err(fault_at(ConfigKind::Syntax, at));
             }
         }
         reader.skip_separator();
     }
 }
 
-/// A rewrite of a source, behind the name at this offset.
-fn one_more_rewrite(
+/// Reads a rewrite of a source, after its name at offset `at`.
+fn add_rewrite(
     alloc: Global,
     reader: &mut Reader<'_>,
     at: usize,
@@ -95,16 +125,57 @@ fn one_more_rewrite(
     ensures left { OnOk result (length reader.new.rest ≤ length reader.old.rest) }
 {
     if *begun >= MOST_REWRITES {
-        return Err(bad(ConfigKind::TooMany, at));
+        return Err(fault_at(ConfigKind::TooMany, at));
     }
     *begun += 1;
-    let made = rewrite(alloc, reader)?;
+    let made = read_rewrite(alloc, reader)?;
     parts.rewrites.push(made)?;
     Ok(())
 }
 
-/// A field of a source behind these: the name at this offset, and what follows.
-fn field(
+/// Reads the name of a source, after the field's name at offset `at`.
+fn read_name(
+    alloc: Global,
+    reader: &mut Reader<'_>,
+    at: usize,
+    sources: &[CustomSource],
+    parts: &mut SourceParts,
+) -> Result<(), ConfigAnswer>
+    ensures carries { (begun : ℕ) → Carries result
+        (sources_after (ahead reader.old) (once parts.old.name Name (in_source sources.now begun parts.old) at))
+        (λ _. sources_from (ahead reader.new) (Separated InSource) (in_source sources.now begun parts.new)) }
+    ensures left { OnOk result (length reader.new.rest ≤ length reader.old.rest) }
+{
+    if parts.name.is_some() {
+        return Err(fault_at(ConfigKind::RepeatedField, at));
+    }
+    let value = reader.value(alloc)?;
+    parts.name = Some(name_of(alloc, sources, &value)?);
+    Ok(())
+}
+
+/// Reads the base of a source, after the field's name at offset `at`.
+fn read_base(
+    alloc: Global,
+    reader: &mut Reader<'_>,
+    at: usize,
+    parts: &mut SourceParts,
+) -> Result<(), ConfigAnswer>
+    ensures carries { (sources : List Source) (begun : ℕ) → Carries result
+        (sources_after (ahead reader.old) (once parts.old.base Base (in_source sources begun parts.old) at))
+        (λ _. sources_from (ahead reader.new) (Separated InSource) (in_source sources begun parts.new)) }
+    ensures left { OnOk result (length reader.new.rest ≤ length reader.old.rest) }
+{
+    if parts.base.is_some() {
+        return Err(fault_at(ConfigKind::RepeatedField, at));
+    }
+    let value = reader.value(alloc)?;
+    parts.base = Some(base_of(&value)?);
+    Ok(())
+}
+
+/// Reads a field of a source. `name` is its name, at offset `at`.
+fn read_field(
     alloc: Global,
     reader: &mut Reader<'_>,
     at: usize,
@@ -119,29 +190,19 @@ fn field(
     ensures left { OnOk result (length reader.new.rest ≤ length reader.old.rest) }
 {
     if name == b"name".as_slice() {
-        if parts.name.is_some() {
-            return Err(bad(ConfigKind::RepeatedField, at));
-        }
-        let value = reader.value(alloc)?;
-        parts.name = Some(name_of(alloc, sources, &value)?);
-        return Ok(());
+        return read_name(alloc, reader, at, sources, parts);
     }
     if name == b"base_data_source".as_slice() {
-        if parts.base.is_some() {
-            return Err(bad(ConfigKind::RepeatedField, at));
-        }
-        let value = reader.value(alloc)?;
-        parts.base = Some(base_of(&value)?);
-        return Ok(());
+        return read_base(alloc, reader, at, parts);
     }
     if name == b"rewrite".as_slice() {
-        return one_more_rewrite(alloc, reader, at, begun, parts);
+        return add_rewrite(alloc, reader, at, begun, parts);
     }
-    Err(bad(ConfigKind::UnknownField, at))
+    Err(fault_at(ConfigKind::UnknownField, at))
 }
 
-/// The block of a source behind these.
-fn source(
+/// Reads the block of a source.
+fn read_source(
     alloc: Global,
     reader: &mut Reader<'_>,
     sources: &[CustomSource],
@@ -156,17 +217,19 @@ fn source(
     let mut parts = no_source(alloc);
     'fields: loop {
         match reader.next() {
-            Next::Word(at, name) => field(alloc, reader, at, name, sources, begun, &mut parts)?,
+            Next::Word(at, name) => read_field(
+                alloc, reader, at, name, sources, begun, &mut parts,
+            )?,
             Next::Mark(at, b'}') => return close_source(parts, at),
             Next::Mark(at, _) | Next::End(at) | Next::Other(at) => {
-                return Err(bad(ConfigKind::Syntax, at));
+                return Err(fault_at(ConfigKind::Syntax, at));
             }
         }
         reader.skip_separator();
     }
 }
 
-/// Whether another source begins behind these. It does not where the text ends.
+/// Returns whether another source begins, and not where the text ends.
 fn begins_source(reader: &mut Reader<'_>, sources: &[CustomSource]) -> Result<bool, ConfigAnswer>
     ensures carries { (begun : ℕ) → Carries result
         (sources_from (ahead reader.old) (Item InFile) (in_file sources.now begun))
@@ -176,23 +239,23 @@ fn begins_source(reader: &mut Reader<'_>, sources: &[CustomSource]) -> Result<bo
     match reader.next() {
         Next::Word(at, name) if name == b"custom_data_source".as_slice() => {
             if sources.len() >= MOST_SOURCES {
-                return Err(bad(ConfigKind::TooMany, at));
+                return Err(fault_at(ConfigKind::TooMany, at));
             }
             Ok(true)
         }
-        Next::Word(at, _) => Err(bad(ConfigKind::UnknownField, at)),
+        Next::Word(at, _) => Err(fault_at(ConfigKind::UnknownField, at)),
         Next::End(_) => Ok(false),
-        Next::Mark(at, _) | Next::Other(at) => Err(bad(ConfigKind::Syntax, at)),
+        Next::Mark(at, _) | Next::Other(at) => Err(fault_at(ConfigKind::Syntax, at)),
     }
 }
 
-/// The custom sources of a configuration's text, in its order: exactly those that the grammar reads in it.
+/// Returns the custom sources of a configuration, in text order.
 ///
 /// # Errors
 ///
-/// Bad gives the first fault of the text that is met from its first byte on, and the fault's offset in
-/// bytes. A name is checked for UnknownField, RepeatedField and TooMany in this order, and a value, as soon as
-/// its last string is read, for NotUtf8 before the faults of its field. NoMemory stands for want of memory.
+/// Bad has the first fault of the text, from its first byte on, and the fault's offset in bytes. A name is
+/// checked for UnknownField, RepeatedField and TooMany, in this order. A value is checked when its last
+/// string is read, for NotUtf8 before the faults of its field. NoMemory where memory runs out.
 #[tactic(auto, unfolding(crate::specs::Config::config), using(crate::proofs::SourceLemmas::config_sound))]
 pub fn parse(alloc: Global, text: &[u8]) -> Result<Vec<CustomSource>, ConfigAnswer>
     ensures read { Gives (λ v. v.items) result (config text.now) }
@@ -202,7 +265,7 @@ pub fn parse(alloc: Global, text: &[u8]) -> Result<Vec<CustomSource>, ConfigAnsw
     let mut sources = Vec::new(alloc);
     let mut begun = 0;
     'sources: while begins_source(&mut reader, sources.as_slice())? {
-        let made = source(alloc, &mut reader, sources.as_slice(), &mut begun)?;
+        let made = read_source(alloc, &mut reader, sources.as_slice(), &mut begun)?;
         sources.push(made)?;
         reader.skip_separator();
     }

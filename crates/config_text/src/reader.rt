@@ -1,10 +1,10 @@
-//! Reading the tokens of a text.
+//! Reads the tokens of a text.
 
 ghost use Rattle.std.specs.Prelude.{◌≡◌, ◌+◌, ◌<◌, ◌≤◌, ◌^◌, [], ◌∷◌, ℕ, true, false, length, slice_index, IfOk, IfErr, OnOk};
 ghost use Rattle.config_text.specs.declared.config.ConfigKind.TheVariants.{BadString, Syntax};
 ghost use Rattle.config_text.specs.Tokens.{ahead, escaped, is_blank, is_in_word, begins_word, is_mark, is_quote, spelled, Between, InString, Word, Quoted};
 ghost use Rattle.config_text.specs.Grammar.{Draft, Field, Level, Item, Separated, Opening, Colon, level_of, with_value};
-ghost use Rattle.config_text.specs.Config.{sources_from, sources_behind};
+ghost use Rattle.config_text.specs.Config.{sources_from, sources_after_value};
 ghost use Rattle.config_text.specs.Outcomes.{Carries};
 ghost use Rattle.config_text.specs.Drafts.{Shows, LeavesLess};
 ghost use Rattle.config_text.specs.Reads.{begins_token, begins_name, begins_string, gap_after, Passes, IsBroken, IsRead};
@@ -33,7 +33,7 @@ pub(crate) struct Value {
     pub(crate) bytes: Vec<u8>,
 }
 
-/// What is left of a text, and the offset at which it begins.
+/// The rest of a text, and the offset at which it begins.
 #[derive(Drop)]
 pub(crate) struct Reader<'a> {
     at: usize,
@@ -51,43 +51,43 @@ impl<'a> Model for Reader<'a> {
     ghost invariant = { λ r. r.at + length r.rest.now < 2 ^ 64 };
 }
 
-/// Whether the byte stands between tokens: space, tab, carriage return or line feed.
+/// Returns whether the byte can be between tokens: space, tab, carriage return or line feed.
 fn is_blank(byte: u8) -> bool
     ensures { result ≡ is_blank byte }
 {
     byte == b' ' || byte == b'\t' || byte == b'\r' || byte == b'\n'
 }
 
-/// Whether a name may begin with the byte.
+/// Returns whether a name can begin with the byte.
 fn begins_word(byte: u8) -> bool
     ensures { result ≡ begins_word byte }
 {
     byte.is_ascii_alphabetic() || byte == b'_'
 }
 
-/// Whether the byte may stand in a name.
+/// Returns whether a name can contain the byte.
 fn is_in_word(byte: u8) -> bool
     ensures { result ≡ is_in_word byte }
 {
     begins_word(byte) || byte.is_ascii_digit()
 }
 
-/// Whether the byte is one of `: { } , ;`.
+/// Returns whether the byte is one of `: { } , ;`.
 fn is_mark(byte: u8) -> bool
     ensures { result ≡ is_mark byte }
 {
     byte == b':' || byte == b'{' || byte == b'}' || byte == b',' || byte == b';'
 }
 
-/// Whether a string may begin with the byte.
+/// Returns whether the byte is a quote, which begins a string.
 fn is_quote(byte: u8) -> bool
     ensures { result ≡ is_quote byte }
 {
     byte == b'"' || byte == b'\''
 }
 
-/// What a byte behind a backslash stands for.
-fn escaped(byte: u8) -> Option<u8>
+/// Returns the byte that an escape is replaced by. `byte` is the one after the backslash.
+fn unescape(byte: u8) -> Option<u8>
     ensures { result ≡ escaped byte }
 {
     if byte == b'n' {
@@ -103,7 +103,7 @@ fn escaped(byte: u8) -> Option<u8>
     }
 }
 
-/// Whether a comment goes on behind the byte. None where the byte is part of a token.
+/// Returns whether the bytes after this one are in a comment. `None` where the byte is part of a token.
 fn gap_after(in_comment: bool, byte: u8) -> Option<bool>
     ensures { result ≡ gap_after in_comment byte }
 {
@@ -118,7 +118,7 @@ fn gap_after(in_comment: bool, byte: u8) -> Option<bool>
     }
 }
 
-/// How many bytes of a name stand first.
+/// Returns how many of the first bytes belong to a name.
 fn word_len(bytes: &[u8]) -> usize
     ensures within { result ≤ length bytes.now }
     ensures inside { (k : ℕ) → k < result → is_in_word (slice_index bytes.now k) ≡ true }
@@ -132,16 +132,16 @@ fn word_len(bytes: &[u8]) -> usize
     bytes.len()
 }
 
-/// The string that begins at this offset can't be read.
-fn broken(start: usize) -> ConfigAnswer
+/// Returns the fault BadString of the string at offset `start`.
+fn bad_string(start: usize) -> ConfigAnswer
     ensures { result ≡ ConfigAnswer.Bad BadString start }
 {
     ConfigAnswer::Bad(ConfigKind::BadString, start as u64)
 }
 
-/// The string that begins at this offset, from the byte behind its quote on: what it stands for, and the
-/// place behind it.
-fn quoted(
+/// Reads the string at offset `start`, from the byte after its quote on. Returns its value, and the reader
+/// after it.
+fn parse_string(
     alloc: Global,
     quote: u8,
     start: usize,
@@ -159,14 +159,14 @@ fn quoted(
         match rest {
             [byte, after @ ..] if *byte == quote => return Ok((value, at + 1, after)),
             [b'\\', code, after @ ..] => {
-                let Some(byte) = escaped(*code) else {
-                    return Err(broken(start));
+                let Some(byte) = unescape(*code) else {
+                    return Err(bad_string(start));
                 };
                 value.push(byte)?;
                 rest = after;
                 at += 2;
             }
-            [] | [b'\\'] | [b'\n', ..] => return Err(broken(start)),
+            [] | [b'\\'] | [b'\n', ..] => return Err(bad_string(start)),
             [byte, after @ ..] => {
                 value.push(*byte)?;
                 rest = after;
@@ -177,21 +177,21 @@ fn quoted(
 }
 
 impl<'a> Reader<'a> {
-    /// The whole text.
+    /// Returns a reader of the whole text.
     pub(crate) fn new(text: &'a [u8]) -> Reader<'a>
         ensures { result ≡ record { at = 0; rest = text.now } }
     {
         Reader { at: 0, rest: text }
     }
 
-    /// A token that the grammar doesn't allow here.
-    fn syntax(&self) -> ConfigAnswer
+    /// Returns the fault Syntax at the next token.
+    fn syntax_error(&self) -> ConfigAnswer
         ensures { result ≡ ConfigAnswer.Bad Syntax self.now.at }
     {
         ConfigAnswer::Bad(ConfigKind::Syntax, self.at as u64)
     }
 
-    /// Passes blanks and comments.
+    /// Skips blanks and comments.
     fn skip_gap(&mut self)
         ensures same { spelled self.new.rest Between self.new.at ≡ spelled self.old.rest Between self.old.at }
         ensures left { length self.new.rest ≤ length self.old.rest }
@@ -212,7 +212,7 @@ impl<'a> Reader<'a> {
         self.rest = rest;
     }
 
-    /// Passes the byte if it is the next token, a mark.
+    /// Skips the mark `byte`, and returns whether it is the next token.
     fn mark(&mut self, byte: u8) -> bool
         requires { is_mark byte ≡ true }
         ensures passes { Passes byte result self.old self.new }
@@ -229,7 +229,7 @@ impl<'a> Reader<'a> {
         }
     }
 
-    /// Passes a separator, if one stands here.
+    /// Skips a separator, if it is the next token.
     pub(crate) fn skip_separator(&mut self)
         ensures separated { (level : Level) (d : Draft) → sources_from (ahead self.old) (Separated level) d
             ≡ sources_from (ahead self.new) (Item level) d }
@@ -240,7 +240,7 @@ impl<'a> Reader<'a> {
         }
     }
 
-    /// Passes the brace that opens a block, and a colon before it.
+    /// Skips the opening brace of a block, and a colon before it.
     pub(crate) fn open_block(&mut self) -> Result<(), ConfigAnswer>
         ensures opened { (level : Level) (d : Draft) → Carries result (sources_from (ahead self.old) (Opening level) d)
             (λ _. sources_from (ahead self.new) (Item level) d) }
@@ -248,12 +248,12 @@ impl<'a> Reader<'a> {
     {
         self.mark(b':');
         if !self.mark(b'{') {
-            return Err(self.syntax());
+            return Err(self.syntax_error());
         }
         Ok(())
     }
 
-    /// The name that begins here.
+    /// Reads the name at the start of the rest.
     fn word(&mut self) -> &'a [u8]
         requires { begins_name self.old.rest ≡ true }
         ensures word { ahead self.old ≡ (self.old.at, Word result.now) ∷ ahead self.new }
@@ -266,7 +266,8 @@ impl<'a> Reader<'a> {
         name
     }
 
-    /// The next token. A quote is not passed, and neither is a byte that begins no token.
+    /// Returns the next token and moves past it. A quote is not skipped, and neither is a byte that begins
+    /// no token.
     pub(crate) fn next(&mut self) -> Next<'a>
         ensures shows { Shows result self.old self.new }
         ensures left { LeavesLess result self.old self.new }
@@ -285,7 +286,7 @@ impl<'a> Reader<'a> {
         }
     }
 
-    /// The string that begins here.
+    /// Reads the string at the start of the rest.
     fn string(&mut self, alloc: Global) -> Result<Vec<u8>, ConfigAnswer>
         requires { begins_string self.old.rest ≡ true }
         ensures ok { IfOk result (λ v. spelled self.old.rest Between self.old.at
@@ -296,16 +297,16 @@ impl<'a> Reader<'a> {
         let start = self.at;
         match self.rest {
             [quote, rest @ ..] => {
-                let (value, at, rest) = quoted(alloc, *quote, start, rest)?;
+                let (value, at, rest) = parse_string(alloc, *quote, start, rest)?;
                 self.at = at;
                 self.rest = rest;
                 Ok(value)
             }
-            [] => Err(broken(start)),
+            [] => Err(bad_string(start)),
         }
     }
 
-    /// Whether a string begins here.
+    /// Returns whether the rest begins with a string.
     fn is_at_quote(&self) -> bool
         ensures { result ≡ begins_string self.now.rest }
     {
@@ -315,7 +316,7 @@ impl<'a> Reader<'a> {
         }
     }
 
-    /// The strings that follow one another from here on, joined.
+    /// Reads consecutive strings, and returns them concatenated.
     fn strings(&mut self, alloc: Global) -> Result<Vec<u8>, ConfigAnswer>
         requires { begins_string self.old.rest ≡ true }
         ensures ok { IfOk result (λ v. ahead self.old ≡ (self.old.at, Quoted v.items) ∷ ahead self.new) }
@@ -332,18 +333,18 @@ impl<'a> Reader<'a> {
         Ok(value)
     }
 
-    /// The colon and the value of a field.
+    /// Reads the colon and the value of a field.
     pub(crate) fn value(&mut self, alloc: Global) -> Result<Value, ConfigAnswer>
         ensures value { (field : Field) (d : Draft) → Carries result (sources_from (ahead self.old) (Colon field) d)
-            (λ v. sources_behind (ahead self.new) field (with_value field d v.at v.bytes.items)) }
+            (λ v. sources_after_value (ahead self.new) field (with_value field d v.at v.bytes.items)) }
         ensures left { OnOk result (length self.new.rest ≤ length self.old.rest) }
     {
         if !self.mark(b':') {
-            return Err(self.syntax());
+            return Err(self.syntax_error());
         }
         self.skip_gap();
         if !self.is_at_quote() {
-            return Err(self.syntax());
+            return Err(self.syntax_error());
         }
         let at = self.at as u64;
         let bytes = self.strings(alloc)?;

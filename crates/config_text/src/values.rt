@@ -12,14 +12,14 @@ use size_core::{Bytes, Source, Text};
 use std::alloc::Global;
 use std::str;
 
-/// The fault of a value.
+/// Returns the fault of a value, at its first quote.
 fn fault(kind: ConfigKind, value: &Value) -> ConfigAnswer
     ensures { result ≡ ConfigAnswer.Bad kind value.now.at }
 {
     ConfigAnswer::Bad(kind, value.at)
 }
 
-/// The value as a text. NotUtf8 where it is none.
+/// Returns the value as text. NotUtf8 where it isn't UTF-8.
 fn utf8(value: &Value) -> Result<&str, ConfigAnswer>
     ensures { Gives (λ s. s.now) result (text_read value.now.at value.now.bytes.items) }
 {
@@ -29,7 +29,7 @@ fn utf8(value: &Value) -> Result<&str, ConfigAnswer>
     }
 }
 
-/// The value as a text of its own.
+/// Returns a copy of the value as text. NotUtf8 where it isn't UTF-8.
 pub(crate) fn text_of(alloc: Global, value: &Value) -> Result<Text, ConfigAnswer>
     ensures { Gives (λ t. t) result (text_read value.now.at value.now.bytes.items) }
 {
@@ -37,21 +37,22 @@ pub(crate) fn text_of(alloc: Global, value: &Value) -> Result<Text, ConfigAnswer
     Ok(text)
 }
 
-/// Whether a comma stands in the name.
+/// Returns whether the name has a comma.
 fn has_comma(name: &[u8]) -> bool
     ensures { result ≡ list_any (λ c. c == 44) name.now }
 {
     name.iter().any(|byte| *byte == b',')
 }
 
-/// Whether one of these has the name.
+/// Returns whether one of the sources has the name.
 fn is_used(sources: &[CustomSource], name: &[u8]) -> bool
     ensures { result ≡ list_any (λ s. bytes_eq s.name name.now) sources.now }
 {
     sources.iter().any(|source| source.name.as_slice() == name)
 }
 
-/// Whether the name is not empty, has no comma, and names no built-in source and none of these.
+/// Returns whether the name can be used: it isn't empty, has no comma, and is the name of no built-in
+/// source and of none of these.
 fn is_free(sources: &[CustomSource], name: &[u8]) -> bool
     ensures { result ≡ is_free sources.now name.now }
 {
@@ -64,7 +65,8 @@ fn is_free(sources: &[CustomSource], name: &[u8]) -> bool
     !is_used(sources, name)
 }
 
-/// The name of a source behind these.
+/// Returns the name of a source that comes after these. NotUtf8 where it isn't UTF-8, and BadName where it
+/// can't be used.
 pub(crate) fn name_of(
     alloc: Global,
     sources: &[CustomSource],
@@ -80,7 +82,8 @@ pub(crate) fn name_of(
     Ok(name)
 }
 
-/// The built-in source of a name.
+/// Returns the built-in source with this name. NotUtf8 where it isn't UTF-8, and BadBase where there is no
+/// such source.
 pub(crate) fn base_of(value: &Value) -> Result<Source, ConfigAnswer>
     ensures { Gives (λ s. s) result (base_read value.now.at value.now.bytes.items) }
 {
@@ -91,7 +94,7 @@ pub(crate) fn base_of(value: &Value) -> Result<Source, ConfigAnswer>
     }
 }
 
-/// Whether each backslash is followed by a digit or a backslash.
+/// Returns whether each backslash is followed by a digit or a backslash.
 fn is_replacement(bytes: &[u8]) -> bool
     ensures { result ≡ is_replacement bytes.now }
 {
@@ -106,7 +109,8 @@ fn is_replacement(bytes: &[u8]) -> bool
     }
 }
 
-/// The bytes of a replacement.
+/// Returns the bytes of a replacement. NotUtf8 where they aren't UTF-8, and BadReplacement where a
+/// backslash is followed by another byte.
 pub(crate) fn replacement_of(alloc: Global, value: &Value) -> Result<Bytes, ConfigAnswer>
     ensures { Gives (λ b. b) result (replacement_read value.now.at value.now.bytes.items) }
 {

@@ -1,4 +1,4 @@
--- Rewrites made one after the other.
+-- Rewrites compiled one after the other.
 use Rattle.std.proofs.Common.{◌≡◌, ◌∙◌, ◌<◌, ◌≤◌, ◌+◌, ℕ, List, [], ◌∷◌, ◌++◌, All, Some, map, take, length, slice_get, sym, ap, ap₂, arith}
 use Rattle.std.proofs.lemmas.List.{take_more, map-append}
 use Rattle.std.proofs.lemmas.List.Elements.{All-push}
@@ -9,7 +9,7 @@ use Rattle.custom_rewrites.specs.Rewriting.{HasCause, HasOneCause}
 use Rattle.custom_rewrites.specs.declared.rewriting.RewriteAnswer.{RewriteAnswer}
 use Rattle.custom_rewrites.specs.declared.rewriting.RewriteAnswer.TheVariants.{PatternSyntax, PatternTooBig, NoMemory}
 
--- the cause of an answer at one rewrite is its cause in the whole source
+-- The cause of an error at one rewrite is its cause in the whole data source.
 pub cause_at : (rewrites : List Rewrite) (at : ℕ) (r : Rewrite) → slice_get rewrites at ≡ Some r → All (λ q. IsPattern q.pattern) (take at rewrites)
     → (first before after : ℕ) (start old new : List ℕ) → first ≤ before → old ≡ start
     → (e : RewriteAnswer) → HasOneCause r.pattern at before after old new e → HasCause rewrites first after start new e

@@ -46,6 +46,6 @@ module _ (r : Regex) (source : List ℕ) (is_source : regex_source r ≡ source)
       ap (option_map (λ (x : Match). expanded (group_bytes label x) replacement)) found.1
       ∙ ap Some (sym (expanded_is label m found.0 c h found.3 found.2 replacement))
 
--- a label in which the pattern isn't found
+-- A label that the pattern isn't found in.
 pub not_replaced : (source label replacement : List ℕ) → is_found source label ≡ false → replaced source replacement label ≡ None
 not_replaced source label replacement other = ap (option_map (λ (m : Match). expanded (group_bytes label m) replacement)) (none_of _ other)

@@ -13,7 +13,7 @@ use Rattle.regex_syntax.specs.declared.error.ErrorKind.{ErrorKind}
 use Rattle.regex_syntax.specs.declared.error.ErrorKind.TheVariants.{OutOfMemory}
 use Rattle.custom_rewrites.specs.Pattern.{bytes_config, tree_of, found_in, is_found, FindsAs, IsNoPattern}
 
--- the tree that the grammar reads in a text that it reads
+-- The tree that the grammar reads in a text that it can read.
 read_some : (P : Nested Re × Names → Type 0) (o : Option (Nested Re × Names)) → IsSomeAnd o P
     → (re : Re) × (option_map (λ p. p.0.value) o ≡ Some re) × IsSomeAnd o (λ (found, _). SameTree found.value re)
 read_some P None h = absurd h
@@ -29,14 +29,14 @@ same_value e = cc
 
 module _ (r : Regex) (source : List ℕ) (is_source : regex_source r ≡ source) (is_config : regex_config r ≡ bytes_config) (is_read : IsReadFromSource r)
     (hay : List ℕ) (bytes : (k : ℕ) → get_or hay k 0 < 256) where
-  -- what the compiled pattern finds is what the text of the pattern finds
+  -- The compiled pattern finds what the text of the pattern finds.
   pub matches_as_written : is_some (find (regex_pattern r) hay 0) ≡ is_found source hay
   matches_as_written =
       let tree = tree_is r source is_source is_config is_read in
       is_match_alike (bytes_alike_as_written r bytes_config source is_source is_config is_read tree.0 tree.2) hay bytes false 0
       ∙ sym (ap (λ (o : Option Re). is_some (option_and_then (λ re. find re hay 0) o)) tree.1)
 
-  -- and the match has the same groups
+  -- The match has the same groups.
   pub found_as_written : (m : Match) → find (regex_pattern r) hay 0 ≡ Some m → (n : Match) × (found_in source hay ≡ Some n) × (slot_of n ≡ slot_of m) × (span m ≡ span n)
   found_as_written m is =
       let tree = tree_is r source is_source is_config is_read in
@@ -48,7 +48,7 @@ module _ (r : Regex) (source : List ℕ) (is_source : regex_source r ≡ source)
 none_read : (o : Option (Nested Re × Names)) → o ≡ None → option_map (λ p. p.0.value) o ≡ None
 none_read o is = ap (option_map (λ (p : Nested Re × Names). p.0.value)) is
 
--- an error of syntax that isn't want of memory
+-- A syntax error that isn't a failed allocation.
 pub no_pattern : (source : List ℕ) (kind : ErrorKind) → Refuses bytes_config source kind → kind ≢ OutOfMemory → IsNoPattern source
 unfolding Refuses
 no_pattern source kind (inl h) other = absurd (other h)

@@ -1,4 +1,4 @@
--- What a replacement stands for.
+-- Expanding replacements.
 use Rattle.std.specs.Prelude.{◌==◌, ◌-◌, ℕ, List, [], ◌∷◌, ◌++◌, Option, option_map, if◌then◌else◌}
 use Rattle.std.specs.Char.{is_ascii_digit}
 use Rattle.regex.specs.Replace.{bytes_of, group_bytes}
@@ -6,7 +6,8 @@ use Rattle.regex.specs.Bytes.{captures_haystack, captures_span}
 use Rattle.regex.specs.declared.bytes.captures.Captures.{Captures}
 use Rattle.custom_rewrites.specs.Pattern.{found_in}
 
--- a backslash (92) and a digit stand for a group, two backslashes for one, and any other for itself
+-- A replacement expanded: a backslash (92) and a digit are the text of a group, two backslashes are one, and
+-- any other byte is itself.
 abbrev pub expanded : (ℕ → List ℕ) → List ℕ → List ℕ
 expanded group [] = []
 expanded group (c ∷ []) = c ∷ []
@@ -15,11 +16,11 @@ expanded group (c ∷ d ∷ rest) =
     else (if d == 92 then 92 ∷ expanded group rest else c ∷ expanded group (d ∷ rest)))
     else c ∷ expanded group (d ∷ rest)
 
--- the bytes of a group of the captures, or none
+-- The bytes of a group of the captures, or none.
 abbrev pub group_in : Captures → ℕ → List ℕ
 group_in c k = bytes_of (captures_haystack c) (captures_span c k)
 
--- the label's new text, where the pattern is found in it
+-- The rewritten label, where the pattern is found in it.
 abbrev pub replaced : List ℕ → List ℕ → List ℕ → Option (List ℕ)
 replaced pattern replacement label =
     option_map (λ m. expanded (group_bytes label m) replacement) (found_in pattern label)

@@ -1,4 +1,4 @@
-//! What a replacement stands for.
+//! Expanding replacements.
 
 ghost use Rattle.std.specs.Prelude.{◌≡◌, ◌++◌, OnOk, IfOk};
 ghost use Rattle.custom_rewrites.specs.Expand.{expanded, group_in};
@@ -7,7 +7,7 @@ use regex::bytes::Captures;
 use size_core::NoMemory;
 use std::alloc::Global;
 
-/// Appends what a group of the match holds: nothing for one that took no part or isn't there.
+/// Appends the text of a group of the match. A group that didn't match or doesn't exist has no text.
 fn push_group(captures: &Captures<'_, '_>, index: usize, out: &mut Vec<u8>) -> Result<(), NoMemory>
     ensures { OnOk result (out.new.items ≡ out.old.items ++ group_in captures.now index) }
 {
@@ -17,8 +17,8 @@ fn push_group(captures: &Captures<'_, '_>, index: usize, out: &mut Vec<u8>) -> R
     Ok(())
 }
 
-/// What the replacement stands for at this match: `\0` to `\9` for a group, `\\` for a backslash, and any
-/// other byte for itself.
+/// Expands the replacement for this match: `\0` to `\9` is the text of a group, `\\` a backslash, and any other
+/// byte itself.
 pub(crate) fn expansion_of(
     alloc: Global,
     captures: &Captures<'_, '_>,

@@ -1,4 +1,4 @@
-//! Patterns of labels, and the rewrites of custom data sources.
+//! Label patterns, and the rewrites of custom data sources.
 #![tactic(auto)]
 
 mod expand;
@@ -9,6 +9,3 @@ mod rewriting;
 pub use pattern::{LabelFinder, LabelPattern, PatternAnswer, Patterns};
 pub use refusing::RegexPatterns;
 pub use rewriting::{RewriteAnswer, Rewriter, Rewrites};
-
-#[cfg(test)]
-mod tests;

@@ -1,4 +1,4 @@
-//! Patterns, and what makes them.
+//! Compiled patterns, and the trait that compiles them.
 
 ghost use Rattle.std.specs.Prelude.{◌≡◌, ◌≢◌, ◌<◌, ◌≤◌, Err, IfOk, option_map};
 ghost use Rattle.custom_rewrites.specs.Pattern.{is_found, IsPattern, IsNoPattern};
@@ -12,21 +12,21 @@ use std::alloc::Global;
 use std::marker::Model;
 use thiserror::Error;
 
-/// Why a pattern isn't made.
+/// Why a pattern wasn't compiled.
 #[derive(Clone, Copy, Debug, PartialEq, Eq, Hash, Error)]
 pub enum PatternAnswer {
-    /// It is no regular expression, or nests too deep.
+    /// It is no regular expression, or it is nested too deeply.
     #[error("bad syntax")]
     Syntax,
-    /// It was refused for its size.
+    /// It is too large.
     #[error("too big")]
     TooBig,
-    /// There was not enough memory.
+    /// An allocation failed.
     #[error("out of memory")]
     NoMemory,
 }
 
-/// A regular expression that is searched for in labels. Only `Patterns::build` makes one.
+/// A regular expression for searching in labels. Only `Patterns::build` makes one.
 #[derive(Drop)]
 pub struct LabelPattern {
     regex: Regex,
@@ -58,7 +58,7 @@ impl LabelPattern {
         }
     }
 
-    /// What searches for the pattern in many labels.
+    /// A finder for searching in many labels.
     pub fn finder(&self, alloc: Global) -> Result<LabelFinder<'_>, NoMemory>
         ensures { IfOk result (λ finder. finder ≡ self.now) }
     {
@@ -69,7 +69,7 @@ impl LabelPattern {
         })
     }
 
-    /// Whether the pattern is found in the label. Where it is asked of many labels, a `finder` is quicker.
+    /// Whether the pattern is found in the label. For many labels a `finder` is faster.
     pub fn finds(&self, alloc: Global, label: &[u8]) -> Result<bool, NoMemory>
         ensures { IfOk result (λ found. found ≡ is_found self.now label.now) }
     {
@@ -77,7 +77,7 @@ impl LabelPattern {
         Ok(finder.finds(label))
     }
 
-    /// The label's new text, where the pattern is found in it.
+    /// The rewritten label, where the pattern is found in it.
     pub(crate) fn replaced(
         &self,
         alloc: Global,
@@ -95,8 +95,8 @@ impl LabelPattern {
     }
 }
 
-/// What searches for one pattern, whose text contracts see. It keeps what its searches found out, so that the next
-/// ones are quick.
+/// A finder for one pattern. Contracts see the pattern's text. It caches what earlier searches computed, so
+/// later ones are fast.
 #[derive(Drop)]
 pub struct LabelFinder<'a> {
     pattern: &'a LabelPattern,
@@ -124,7 +124,7 @@ impl<'a> LabelFinder<'a> {
         self.matcher.is_match(label)
     }
 
-    /// The label's new text, where the pattern is found in it.
+    /// The rewritten label, where the pattern is found in it.
     #[tactic(auto, using(crate::proofs::GroupLemmas::not_replaced))]
     pub(crate) fn replaced(
         &mut self,
@@ -143,17 +143,18 @@ impl<'a> LabelFinder<'a> {
     }
 }
 
-/// What makes patterns. It may refuse one for its size, and counts such refusals.
+/// Compiles patterns. An implementation may refuse a pattern for its size, and counts such refusals.
 pub trait Patterns {
     ghost use Rattle.std.specs.Prelude.{ℕ, List};
 
-    // How many patterns were refused for their size, and the last of them: empty before any.
+    // The number of patterns refused for their size, and the last of them. The latter is empty where there was
+    // none.
     ghost refused: { Self → ℕ };
 
     ghost last_refused: { Self → List ℕ };
 
-    /// Makes the pattern of a text. Syntax only where the text is no regular expression or nests too deep,
-    /// TooBig only where this call adds to the refusals.
+    /// Compiles a pattern. Syntax only where the text is no regular expression or is nested too deeply. TooBig
+    /// only where this call adds to the refusals.
     fn build(&mut self, alloc: Global, pattern: &str) -> Result<LabelPattern, PatternAnswer>
         ensures ok { IfOk result (λ p. (p ≡ pattern.now) × IsPattern pattern.now) }
         ensures syntax { result ≡ Err PatternAnswer.Syntax → IsNoPattern pattern.now }

@@ -9,7 +9,7 @@ use size_core::Text;
 use std::alloc::Global;
 use std::marker::Model;
 
-/// Makes patterns with the crate `regex`, and refuses the calls whose numbers it was given.
+/// Compiles patterns with the crate `regex`. For tests, it refuses the calls with the given numbers.
 #[derive(Drop)]
 pub struct RegexPatterns {
     refusing: Vec<u64>,
@@ -32,7 +32,7 @@ impl Model for RegexPatterns {
 }
 
 impl RegexPatterns {
-    /// Patterns of which the calls with these numbers, counted from 1, are refused for their size.
+    /// Patterns that refuse the calls with these numbers, counted from 1, for their size.
     pub fn new(refusing: Vec<u64>) -> RegexPatterns
         ensures { result ≡ record { refusing = refusing.items; calls = 0; refused = 0; last = [] } }
     {
@@ -44,7 +44,7 @@ impl RegexPatterns {
         }
     }
 
-    /// Counts a call, and answers whether it is to be refused.
+    /// Counts a call. Returns whether it is one to refuse.
     fn count_call(&mut self) -> bool
         ensures after { self.new ≡ with_call self.old }
         ensures listed { IsTrue result ↔ IsListed self.old }
@@ -56,7 +56,7 @@ impl RegexPatterns {
         self.refusing.contains(&calls)
     }
 
-    /// Counts a refusal and keeps its pattern.
+    /// Counts a refusal and saves its pattern.
     fn refuse(&mut self, alloc: Global, pattern: &str) -> PatternAnswer
         ensures too_big { result ≡ PatternAnswer.TooBig → self.new ≡ with_refused self.old pattern.now }
         ensures kept { result ≢ PatternAnswer.TooBig → self.new ≡ self.old }
@@ -90,8 +90,8 @@ impl Patterns for RegexPatterns {
         ensures uncounted { result ≢ Err PatternAnswer.TooBig → self.new.refused ≡ self.old.refused }
         ensures rises { self.old.refused ≤ self.new.refused }
 
-        // A call whose number is in the list is refused. Each call counts once, until the count stands at the
-        // end of its type, past which no call is in the list.
+        // A call whose number is in the list is refused. Each call counts once, until the count reaches the
+        // maximum of its type. After that no call is in the list.
         ensures listed { IsListed self.old →
             (result ≡ Err PatternAnswer.TooBig) ⊎ (result ≡ Err PatternAnswer.NoMemory) }
         ensures called { result ≢ Err PatternAnswer.TooBig → self.new ≡ with_call self.old }

@@ -4,7 +4,7 @@ ghost use Rattle.std.specs.Prelude.{true, ◌≡◌, ◌≤◌, ◌++◌, All, I
 ghost use Rattle.custom_rewrites.specs.Pattern.{IsPattern};
 ghost use Rattle.custom_rewrites.specs.Expand.{replaced};
 ghost use Rattle.custom_rewrites.specs.Rewriting.{rewritten, without_refusal, HasCause, HasOneCause};
-ghost use Rattle.custom_rewrites.specs.Shown.{shown_made, shown_ready};
+ghost use Rattle.custom_rewrites.specs.Shown.{shown_compiled, shown_finder};
 
 use crate::pattern::{LabelFinder, LabelPattern, PatternAnswer, Patterns};
 use config_text::{CustomSource, Rewrite};
@@ -13,31 +13,32 @@ use std::alloc::Global;
 use std::marker::Model;
 use thiserror::Error;
 
-/// Why the rewrites of a source aren't made; the number is the rewrite's place in the source, from 0.
+/// Why the rewrites of a data source weren't compiled. The number is the rewrite's index in the data source,
+/// counted from 0.
 #[derive(Clone, Copy, Debug, PartialEq, Eq, Hash, Error)]
 pub enum RewriteAnswer {
-    /// Its pattern is no regular expression, or nests too deep.
+    /// Its pattern is no regular expression, or is nested too deeply.
     #[error("rewrite {0}: bad syntax")]
     PatternSyntax(usize),
-    /// Its pattern was refused for its size.
+    /// Its pattern is too large.
     #[error("rewrite {0}: too big")]
     PatternTooBig(usize),
-    /// There was not enough memory.
+    /// An allocation failed.
     #[error("out of memory")]
     NoMemory,
 }
 
-/// A pattern and what replaces the labels in which it is found.
+/// A compiled pattern and the replacement for the labels that it is found in.
 #[derive(Drop)]
-struct Made {
+struct CompiledRewrite {
     pattern: LabelPattern,
     replacement: Bytes,
 }
 
-/// The rewrites of a source, with their patterns made.
+/// The rewrites of a data source, with compiled patterns.
 #[derive(Drop)]
 pub struct Rewrites {
-    made: Vec<Made>,
+    made: Vec<CompiledRewrite>,
     alloc: Global,
 }
 
@@ -50,13 +51,13 @@ impl Model for Rewrites {
     ghost view = { λ r. map (λ m. record { pattern = m.pattern; replacement = m.replacement }) r.made.items };
 }
 
-/// Makes the rewrite that stands at this place.
+/// Compiles the rewrite at this index.
 fn build_one<P: Patterns>(
     alloc: Global,
     rewrite: &Rewrite,
     place: usize,
     patterns: &mut P,
-) -> Result<Made, RewriteAnswer>
+) -> Result<CompiledRewrite, RewriteAnswer>
     ensures ok { IfOk result (λ m. (record { pattern = m.pattern; replacement = m.replacement } ≡ rewrite.now)
         × IsPattern rewrite.now.pattern × (P.last_refused patterns.new ≡ P.last_refused patterns.old)) }
     ensures uncounted { without_refusal result ≡ true → P.refused patterns.new ≡ P.refused patterns.old }
@@ -66,7 +67,7 @@ fn build_one<P: Patterns>(
 {
     match patterns.build(alloc, rewrite.pattern.as_str()) {
         Ok(pattern) => match rewrite.replacement.copy() {
-            Ok(replacement) => Ok(Made {
+            Ok(replacement) => Ok(CompiledRewrite {
                 pattern,
                 replacement,
             }),
@@ -79,7 +80,7 @@ fn build_one<P: Patterns>(
 }
 
 impl Rewrites {
-    /// Makes the pattern of each rewrite of the source in turn, up to the first that isn't made.
+    /// Compiles the pattern of each rewrite in turn, up to the first that fails.
     pub fn build<P: Patterns>(
         alloc: Global,
         source: &CustomSource,
@@ -104,13 +105,13 @@ impl Rewrites {
         Ok(Rewrites { made, alloc })
     }
 
-    /// The rewrites, ready for many labels.
+    /// A rewriter for many labels.
     pub fn rewriter(&self) -> Result<Rewriter<'_>, NoMemory>
         ensures { IfOk result (λ r. r ≡ self.now) }
     {
         let mut ready = Vec::new(self.alloc);
         for made in &self.made {
-            ready.push(ready_of(self.alloc, made)?)?;
+            ready.push(rewrite_finder(self.alloc, made)?)?;
         }
         Ok(Rewriter {
             ready,
@@ -118,9 +119,8 @@ impl Rewrites {
         })
     }
 
-    /// Appends the label's new text: the expanded replacement of the first rewrite whose pattern is found
-    /// in the label, or the label itself. After a refusal `out` holds what it held. For many labels a `rewriter` is
-    /// quicker.
+    /// Appends the rewritten label: the expanded replacement of the first rewrite whose pattern is found in the
+    /// label, or else the label itself. On an error `out` is unchanged. For many labels a `rewriter` is faster.
     pub fn rewrite(&self, label: &[u8], out: &mut Vec<u8>) -> Result<(), NoMemory>
         ensures ok { OnOk result (out.new.items ≡ out.old.items ++ rewritten label.now self.now) }
         ensures err { OnErr result (out.new.items ≡ out.old.items) }
@@ -130,49 +130,49 @@ impl Rewrites {
     }
 }
 
-/// A rewrite, and what searches for its pattern.
+/// A replacement, and a finder for its pattern.
 #[derive(Drop)]
-struct Ready<'a> {
+struct RewriteFinder<'a> {
     finder: LabelFinder<'a>,
     replacement: &'a Bytes,
 }
 
-/// Makes a rewrite ready.
-fn ready_of(alloc: Global, made: &Made) -> Result<Ready<'_>, NoMemory>
-    ensures { IfOk result (λ r. shown_ready r ≡ shown_made made.now) }
+/// A finder and the replacement of this rewrite.
+fn rewrite_finder(alloc: Global, made: &CompiledRewrite) -> Result<RewriteFinder<'_>, NoMemory>
+    ensures { IfOk result (λ r. shown_finder r ≡ shown_compiled made.now) }
 {
     let finder = made.pattern.finder(alloc)?;
-    Ok(Ready {
+    Ok(RewriteFinder {
         finder,
         replacement: &made.replacement,
     })
 }
 
-/// The rewrites of a source, each with what searches for its pattern. Contracts see them as those of the source.
+/// The rewrites of a data source, each with a finder. Contracts see them as the data source's rewrites.
 #[derive(Drop)]
 pub struct Rewriter<'a> {
-    ready: Vec<Ready<'a>>,
+    ready: Vec<RewriteFinder<'a>>,
     alloc: Global,
 }
 
 impl<'a> Model for Rewriter<'a> {
     ghost use Rattle.std.specs.Prelude.{List, map};
     ghost use Rattle.config_text.specs.declared.config.Rewrite.{Rewrite};
-    ghost use Rattle.custom_rewrites.specs.Shown.{shown_ready};
+    ghost use Rattle.custom_rewrites.specs.Shown.{shown_finder};
 
     ghost Value = { List Rewrite };
 
-    ghost view = { λ r. map shown_ready r.ready.items };
+    ghost view = { λ r. map shown_finder r.ready.items };
 }
 
-/// The label's new text by one rewrite, where its pattern is found in it.
+/// The label as one rewrite changes it, where its pattern is found in it.
 fn replaced_by(
-    ready: &mut Ready<'_>,
+    ready: &mut RewriteFinder<'_>,
     alloc: Global,
     label: &[u8],
 ) -> Result<Option<Vec<u8>>, NoMemory>
     ensures text { IfOk result (λ out. option_map (λ v. v.items) out
-        ≡ replaced (shown_ready ready.old).pattern (shown_ready ready.old).replacement label.now) }
+        ≡ replaced (shown_finder ready.old).pattern (shown_finder ready.old).replacement label.now) }
     ensures same { ready.new ≡ ready.old }
 {
     ready
@@ -180,14 +180,14 @@ fn replaced_by(
         .replaced(alloc, label, ready.replacement.as_slice())
 }
 
-/// Appends the label's new text by the first of these rewrites whose pattern is found in it.
+/// Appends the label as the first rewrite changes it whose pattern is found in it, or else the label itself.
 fn rewrite_by(
-    ready: &mut Vec<Ready<'_>>,
+    ready: &mut Vec<RewriteFinder<'_>>,
     alloc: Global,
     label: &[u8],
     out: &mut Vec<u8>,
 ) -> Result<(), NoMemory>
-    ensures ok { OnOk result (out.new.items ≡ out.old.items ++ rewritten label.now (map shown_ready ready.old.items)) }
+    ensures ok { OnOk result (out.new.items ≡ out.old.items ++ rewritten label.now (map shown_finder ready.old.items)) }
     ensures err { OnErr result (out.new.items ≡ out.old.items) }
     ensures same { ready.new.items ≡ ready.old.items }
 {
@@ -204,8 +204,8 @@ fn rewrite_by(
 }
 
 impl<'a> Rewriter<'a> {
-    /// Appends the label's new text: the expanded replacement of the first rewrite whose pattern is found
-    /// in the label, or the label itself. After a refusal `out` holds what it held.
+    /// Appends the rewritten label: the expanded replacement of the first rewrite whose pattern is found in the
+    /// label, or else the label itself. On an error `out` is unchanged.
     pub fn rewrite(&mut self, label: &[u8], out: &mut Vec<u8>) -> Result<(), NoMemory>
         ensures ok { OnOk result (out.new.items ≡ out.old.items ++ rewritten label.now self.old) }
         ensures err { OnErr result (out.new.items ≡ out.old.items) }

@@ -1,4 +1,4 @@
--- The claims of addresses, load by load.
+-- The claims of the addresses of loads.
 use Rattle.std.proofs.Common.{◌≡◌, ℕ, zero, suc, ◌+◌, ◌<◌, ◌≤◌, List, Option, None, Some, drop, get_or, length, refl, sym}
 use Rattle.std.specs.List.{flat_map}
 use Rattle.std.specs.Option.{option_map, option_to_list}

@@ -1,4 +1,4 @@
--- What is opened is the file.
+-- An opened file has the bytes of the file.
 use Rattle.std.proofs.Common.{◌≡◌, ◌∙◌, ℕ, Bool, true, false, List, Ok, Err, ap, refl}
 use Rattle.std.specs.Prelude.{Result, if◌then◌else◌}
 use Rattle.size_core.specs.declared.fault.BadFile.{BadFile}
@@ -13,7 +13,7 @@ use Rattle.data_sources.specs.Groups.{bytes_of}
 use Rattle.data_sources.specs.Kind.{is_archive, is_elf, is_macho, is_universal, is_wasm}
 use Rattle.data_sources.specs.Opened.{opened}
 
--- whatever is opened so has these bytes
+-- each file that may be opened so has these bytes
 Opens : List ℕ → Result Binary BadFile → Type 0
 Opens file r = (binary : Binary) → r ≡ Ok binary → bytes_of binary ≡ file
 
@@ -25,7 +25,7 @@ either-opens : (file : List ℕ) (b : Bool) (one other : Result Binary BadFile) 
 either-opens file true one other p q = p
 either-opens file false one other p q = q
 
--- a format's own reader opens the file, and the file is what its kind shows
+-- the reader of a format opens the file, and the opened file has these bytes
 format-opens : (make : List ℕ → Binary) → ((f : List ℕ) → bytes_of (make f) ≡ f) → (file : List ℕ) (r : Result (List ℕ) BadFile)
     → ((f : List ℕ) → r ≡ Ok f → f ≡ file) → Opens file (r >>= λ f. Ok (make f))
 unfolding Opens

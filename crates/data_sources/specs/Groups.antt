@@ -1,4 +1,4 @@
--- What there is in a file of any format for the data sources to show, group by group.
+-- The claims of a file of any format, in groups. The data sources show these groups.
 use Rattle.std.specs.Prelude.{ℕ, List, [], Option, None, Result}
 use Rattle.size_core.specs.declared.claim.Load.{Load}
 use Rattle.size_core.specs.declared.fault.BadFile.{BadFile}
@@ -19,18 +19,18 @@ use Rattle.wasm_claims.specs.Claims.{header_claims as wasm_headers, section_clai
 use Rattle.data_sources.specs.declared.binary.Binary.{Binary}
 use Rattle.data_sources.specs.declared.binary.Binary.TheVariants.{Elf, Macho, Wasm}
 
--- the claims of records that may have a fault
+-- The claims of some records, or the first fault among the records.
 abbrev pub Reading : Type 0
 Reading = Result (List LabelledClaim) BadFile
 
--- a data source that isn't offered for this kind of file
+-- The fault of a data source that this kind of file doesn't have: SourceNotForFile at offset 0.
 abbrev pub not_offered : Reading
 not_offered = bad SourceNotForFile 0
 
--- The groups of a file: its bytes; the slots in which loads may stand, and the load in a slot, if there is one; the
--- claims of the loads and of the sections, whose labels are written in one of three ways; those of the parts for the
--- link editor and of the headers; those that `segments` shows before the headers; and, each with its first fault,
--- those of the symbols, of the compile units and of the lines of source text.
+-- The groups of a file: its bytes; the number of slots, and the load of a slot, if it is one; the claims of the loads
+-- and of the sections, with labels written in one of three ways; the claims of the link-edit parts and of the headers;
+-- the claims that `segments` shows before the headers; and the claims of the symbols, of the compile units and of the
+-- source lines, each with the first fault.
 pub record Groups : Type 0 where
   pub bytes : List ℕ
   pub slots : ℕ
@@ -44,7 +44,7 @@ pub record Groups : Type 0 where
   pub units : Reading
   pub lines : Reading
 
--- the groups of each format
+-- The groups of an opened file, with one case for each format.
 abbrev pub groups_of : Binary → Groups
 groups_of (Elf file) = record {
   bytes = file;
@@ -86,6 +86,6 @@ groups_of (Wasm file) = record {
   lines = not_offered;
 }
 
--- the file that was opened
+-- The bytes of an opened file.
 abbrev pub bytes_of : Binary → List ℕ
 bytes_of binary = (groups_of binary).bytes

@@ -1,4 +1,4 @@
--- A file that is opened by its format.
+-- Opening a file by its format.
 use Rattle.std.specs.Prelude.{ℕ, List, Result, Ok, if◌then◌else◌}
 use Rattle.size_core.specs.declared.fault.BadFile.{BadFile}
 use Rattle.size_core.specs.declared.fault.Fault.TheVariants.{UnknownFormat, Archive, Universal}
@@ -10,7 +10,8 @@ use Rattle.data_sources.specs.declared.binary.Binary.{Binary}
 use Rattle.data_sources.specs.declared.binary.Binary.TheVariants.{Elf, Macho, Wasm}
 use Rattle.data_sources.specs.Kind.{is_archive, is_elf, is_macho, is_universal, is_wasm}
 
--- the file by its first bytes, or its first fault: that of a format that isn't read, or what its own format checks
+-- The opened file, or its first fault: Archive, Universal or UnknownFormat at offset 0, or the first fault of the
+-- checks of its format.
 unfoldable pub opened : List ℕ → Result Binary BadFile
 opened file =
     if is_archive file then bad Archive 0

@@ -1,4 +1,4 @@
--- The claims of a data source, in order, or its first fault: one table for every format.
+-- The claims of each data source: one table for all formats.
 use Rattle.std.specs.Prelude.{ℕ, List, [], ◌++◌, length, Ok}
 use Rattle.std.specs.Option.{option_map}
 use Rattle.size_core.specs.declared.source.Source.{Source}
@@ -13,35 +13,38 @@ use Rattle.claim_sheet.specs.Sheets.{read_on_addresses}
 use Rattle.data_sources.specs.declared.binary.Binary.{Binary}
 use Rattle.data_sources.specs.Groups.{Groups, Reading, groups_of}
 
--- what `segments` shows, and then the headers
+-- The claims of `segments`: the loads (or the sections of a format without loads), and then the headers.
 unfoldable pub segments_claims : Groups → List LabelledClaim
 segments_claims g = g.segments ++ g.headers
 
--- sections, then the parts for the link editor and the headers, and then the loads in brackets
+-- The claims of the parts of the file: the sections, the link-edit parts, the headers, and then the loads in brackets.
+-- They label what earlier claims leave.
 unfoldable pub behind : Wrap → Groups → List LabelledClaim
 behind wrap g = g.sections wrap ++ g.link_edit ++ g.headers ++ g.loads Brackets
 
--- the whole file, and then the addresses of each load, all under the file's name
+-- The claim of the addresses of slot i, if it is a load, under the name of the file.
 abbrev pub address_claim : List ℕ → Groups → ℕ → List LabelledClaim
 address_claim name g i = claim_on_some (option_map of_addresses (g.load i)) name
 
+-- The claims of the addresses of all loads, in order, under the name of the file.
 unfoldable pub address_claims : List ℕ → Groups → List LabelledClaim
 address_claims name g = gather (address_claim name g) 0 g.slots
 
+-- The claims of the whole file under its name: all bytes of the file, and then the addresses of all loads.
 unfoldable pub whole_claims : List ℕ → Groups → List LabelledClaim
 whole_claims name g = claim_on (in_file (span 0 0 (length g.bytes))) name ++ address_claims name g
 
--- the records that a data source shows before all else
+-- The claims of the records of a data source, or their first fault: compile units, source lines, or symbols.
 abbrev pub records_of : Source → Groups → Reading
 records_of CompileUnits g = g.units
 records_of Inlines g = g.lines
 records_of source g = g.symbols
 
--- records, and behind them the sections, the headers and the loads, all in brackets
+-- The claims of records, and then those of the parts of the file, all in brackets; or the fault of the records.
 unfoldable pub with_tail : Reading → Groups → Reading
 with_tail records g = joined records (Ok (behind Section g))
 
--- the claims of a data source on the groups of a file of this name
+-- The table of the data sources: the claims of a data source on the groups of a file of this name, or the first fault.
 abbrev pub source_claims : Source → List ℕ → Groups → Reading
 source_claims Segments name g = Ok (segments_claims g)
 source_claims Sections name g = Ok (behind Plain g)
@@ -51,17 +54,19 @@ source_claims RawSymbols name g = with_tail g.symbols g
 source_claims CompileUnits name g = with_tail g.units g
 source_claims Inlines name g = with_tail g.lines g
 
--- the claims of a data source on a file of this name that was opened
+-- The claims of a data source on an opened file of this name, or the first fault.
 abbrev pub claims_of : Source → List ℕ → Binary → Reading
 claims_of source name binary = source_claims source name (groups_of binary)
 
--- the records that a data source shows of a debug file: none where it shows the parts of the file itself
+-- The claims of the records of a data source on a debug file, or their first fault. A data source that shows the parts
+-- of the file itself has none there.
 abbrev pub debug_records : Source → Groups → Reading
 debug_records Segments g = Ok []
 debug_records Sections g = Ok []
 debug_records InputFiles g = Ok []
 debug_records source g = records_of source g
 
--- the claims of a data source on a debug file that was opened: those of its records that are on addresses alone
+-- The claims of a data source on an opened debug file, or the first fault: of the claims of its records, those on
+-- addresses without bytes of the file.
 abbrev pub debug_claims_of : Source → Binary → Reading
 debug_claims_of source binary = read_on_addresses (debug_records source (groups_of binary))

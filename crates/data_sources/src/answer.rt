@@ -1,4 +1,4 @@
-//! Why there are no claims.
+//! Why the claims of a data source can't be returned.
 
 ghost use Rattle.std.specs.Prelude.{◌≡◌};
 ghost use Rattle.data_sources.specs.declared.answer.ClaimAnswer.TheVariants.{NoMemory as OutOfMemory, TooManyClaims};
@@ -8,16 +8,16 @@ use claim_sheet::{Stop, TooMany};
 use size_core::{BadFile, NoMemory};
 use thiserror::Error;
 
-/// Why there are no claims.
+/// Why the claims of a data source can't be returned.
 #[derive(Clone, Copy, Debug, PartialEq, Eq, Error)]
 pub enum ClaimAnswer {
-    /// The file has a fault that the data source minds.
+    /// The first fault of the records that the data source reads.
     #[error("bad file")]
     Bad(BadFile),
-    /// There are more claims than the limit.
+    /// The data source makes more claims than the limit.
     #[error("too many claims")]
     TooManyClaims,
-    /// There was not enough memory.
+    /// Out of memory.
     #[error("out of memory")]
     NoMemory,
 }

@@ -1,4 +1,4 @@
-//! A file whose format is known.
+//! A file of a known format, and how a format is recognized.
 
 ghost use Rattle.std.specs.Prelude.{◌≡◌, ◌^◌, ◌<◌, ◌||◌, nat_eq, length, IfOk};
 ghost use Rattle.data_sources.specs.Groups.{bytes_of, groups_of};
@@ -10,7 +10,7 @@ use macho_file::MachoFile;
 use size_core::{BadFile, Fault};
 use wasm_file::WasmFile;
 
-/// A file whose format is known, and whose tables met their checks.
+/// A file of a known format. Its tables passed the checks of the format.
 #[derive(Drop)]
 pub enum Binary<'a> {
     Elf(ElfFile<'a>),
@@ -19,7 +19,7 @@ pub enum Binary<'a> {
 }
 
 impl<'a> Binary<'a> {
-    /// The whole file.
+    /// Returns the bytes of the file.
     pub fn bytes(&self) -> &'a [u8]
         ensures { result.now ≡ bytes_of self.now }
     {
@@ -64,8 +64,8 @@ fn is_wasm(file: &[u8]) -> bool
     file.starts_with(b"\0asm")
 }
 
-/// Opens a file by its first bytes. Archive, Universal and UnknownFormat stand at offset 0; other faults are
-/// those of the format.
+/// Opens a file. Its first bytes say its format. Archive, Universal and UnknownFormat are at offset 0; all other faults
+/// are those of the format's reader.
 #[tactic(auto, unfolding(crate::specs::Opened::opened))]
 pub fn open_binary<'a>(file: &'a [u8]) -> Result<Binary<'a>, BadFile>
     requires { length file.now < 2 ^ 32 }

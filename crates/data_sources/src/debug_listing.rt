@@ -1,9 +1,9 @@
-//! The claims of a data source on a debug file: what it tells of the addresses of the file that it goes with.
+//! The claims of a data source on a debug file: those on the addresses of the stripped file that it belongs to.
 
-ghost use Rattle.std.specs.Prelude.{◌≡◌, ◌<◌, ◌≤◌, length, Ok, Err, IfOk, OnOk, IsErrOf, IsOkAnd};
+ghost use Rattle.std.specs.Prelude.{◌≡◌, ◌<◌, ◌≤◌, length, Ok, Err, IfOk, IsErrOf, IsOkAnd};
 ghost use Rattle.size_core.specs.declared.fault.BadFile.{BadFile};
+ghost use Rattle.claim_sheet.specs.Adds.{AddsRead};
 ghost use Rattle.claim_sheet.specs.Made.{AreNumbered, AreUsed, KeepsLabels, texts};
-ghost use Rattle.claim_sheet.specs.Sheets.{adding_read};
 ghost use Rattle.data_sources.specs.Groups.{groups_of};
 ghost use Rattle.data_sources.specs.Sources.{debug_claims_of, debug_records};
 
@@ -14,7 +14,7 @@ use claim_sheet::{ClaimSheet, Stop};
 use size_core::{Claim, LabelPool, Source};
 use std::alloc::Global;
 
-// Adds the claims of the records that a data source shows of a debug file, or tells their first fault.
+// Adds the claims of the records of a data source on a debug file. Bad is their first fault.
 #[tactic(auto, using(claim_sheet::proofs::SheetLemmas::adding_none))]
 fn add_debug_records(
     alloc: Global,
@@ -22,10 +22,7 @@ fn add_debug_records(
     source: Source,
     sheet: &mut ClaimSheet,
 ) -> Result<(), Stop>
-    ensures made { OnOk result (adding_read sheet.old (debug_records source (groups_of binary.now)) ≡ Ok sheet.new) }
-    ensures bad { (bad : BadFile) → IsErrOf result (Stop.Bad bad)
-        → debug_records source (groups_of binary.now) ≡ Err bad }
-    ensures kept { sheet.new.pool ≡ sheet.old.pool }
+    ensures { AddsRead result sheet.old sheet.new (debug_records source (groups_of binary.now)) }
 {
     match source {
         Source::Segments | Source::Sections | Source::InputFiles => Ok(()),
@@ -35,11 +32,12 @@ fn add_debug_records(
     }
 }
 
-/// The claims of a data source on a debug file, in order, their labels by number: those on addresses alone among its
-/// symbols, its compile units and address sets, or its lines. A data source that shows the parts of the file itself
-/// has none. Bad is the first fault of those records, and TooManyClaims comes where there is none and there are more
-/// than `limit` of these claims. Whatever the answer, the labels that the pool held keep their numbers; each label
-/// that is new in it is that of one of these claims.
+/// Returns the claims of a data source on a debug file, in order, with labels as numbers in the pool. They are the
+/// claims on addresses without bytes of the file among the symbols, the compile units and address sets, or the lines. A
+/// data source that shows the parts of the file itself has none.
+///
+/// Bad is the first fault of these records. If there is none, TooManyClaims means that there are more claims than
+/// `limit`. In all cases the labels of the pool keep their numbers, and each new label is the label of a claim.
 pub fn debug_claims(
     alloc: Global,
     binary: &Binary<'_>,

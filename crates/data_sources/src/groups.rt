@@ -1,8 +1,7 @@
-//! The groups of a file of any format: here alone the claims go by the kind of file.
+//! The groups of claims of a file of any format. Only this module and `loads` distinguish the kinds of file.
 
-ghost use Rattle.std.specs.Prelude.{◌≡◌, Ok, Err, OnOk, IsErrOf};
-ghost use Rattle.size_core.specs.declared.fault.BadFile.{BadFile as BadFileSpec};
-ghost use Rattle.claim_sheet.specs.Sheets.{adding, adding_read};
+ghost use Rattle.std.specs.Prelude.{Ok, Err};
+ghost use Rattle.claim_sheet.specs.Adds.{Adds, AddsRead};
 ghost use Rattle.data_sources.specs.Groups.{groups_of};
 
 use crate::binary::Binary;
@@ -18,8 +17,7 @@ pub fn add_loads(
     wrap: Wrap,
     sheet: &mut ClaimSheet,
 ) -> Result<(), NoMemory>
-    ensures made { OnOk result (sheet.new ≡ adding sheet.old ((groups_of binary.now).loads wrap)) }
-    ensures kept { sheet.new.pool ≡ sheet.old.pool }
+    ensures { Adds result sheet.old sheet.new ((groups_of binary.now).loads wrap) }
 {
     match binary {
         Binary::Elf(file) => elf_claims::add_loads(alloc, file, wrap, sheet),
@@ -35,8 +33,7 @@ pub fn add_sections(
     wrap: Wrap,
     sheet: &mut ClaimSheet,
 ) -> Result<(), NoMemory>
-    ensures made { OnOk result (sheet.new ≡ adding sheet.old ((groups_of binary.now).sections wrap)) }
-    ensures kept { sheet.new.pool ≡ sheet.old.pool }
+    ensures { Adds result sheet.old sheet.new ((groups_of binary.now).sections wrap) }
 {
     match binary {
         Binary::Elf(file) => elf_claims::add_sections(file, wrap, sheet),
@@ -45,11 +42,10 @@ pub fn add_sections(
     }
 }
 
-/// Adds the claims of the parts for the link editor.
+/// Adds the claims of the link-edit parts.
 #[tactic(auto, using(claim_sheet::proofs::SheetLemmas::adding_none))]
 pub fn add_link_edit(binary: &Binary<'_>, sheet: &mut ClaimSheet) -> Result<(), NoMemory>
-    ensures made { OnOk result (sheet.new ≡ adding sheet.old ((groups_of binary.now).link_edit)) }
-    ensures kept { sheet.new.pool ≡ sheet.old.pool }
+    ensures { Adds result sheet.old sheet.new ((groups_of binary.now).link_edit) }
 {
     match binary {
         Binary::Elf(_) | Binary::Wasm(_) => Ok(()),
@@ -59,8 +55,7 @@ pub fn add_link_edit(binary: &Binary<'_>, sheet: &mut ClaimSheet) -> Result<(), 
 
 /// Adds the claims of the headers.
 pub fn add_headers(binary: &Binary<'_>, sheet: &mut ClaimSheet) -> Result<(), NoMemory>
-    ensures made { OnOk result (sheet.new ≡ adding sheet.old ((groups_of binary.now).headers)) }
-    ensures kept { sheet.new.pool ≡ sheet.old.pool }
+    ensures { Adds result sheet.old sheet.new ((groups_of binary.now).headers) }
 {
     match binary {
         Binary::Elf(file) => elf_claims::add_headers(file, sheet),
@@ -69,14 +64,13 @@ pub fn add_headers(binary: &Binary<'_>, sheet: &mut ClaimSheet) -> Result<(), No
     }
 }
 
-/// Adds the claims that `segments` shows before the headers.
+/// Adds the claims of the group that `segments` shows: the loads, or the sections of a format without loads.
 pub fn add_segments(
     alloc: Global,
     binary: &Binary<'_>,
     sheet: &mut ClaimSheet,
 ) -> Result<(), NoMemory>
-    ensures made { OnOk result (sheet.new ≡ adding sheet.old ((groups_of binary.now).segments)) }
-    ensures kept { sheet.new.pool ≡ sheet.old.pool }
+    ensures { Adds result sheet.old sheet.new ((groups_of binary.now).segments) }
 {
     match binary {
         Binary::Elf(_) | Binary::Macho(_) => add_loads(alloc, binary, Wrap::Plain, sheet),
@@ -84,11 +78,9 @@ pub fn add_segments(
     }
 }
 
-/// Adds the claims of the symbols, or tells their first fault.
+/// Adds the claims of the symbols. Bad is their first fault.
 pub fn add_symbols(alloc: Global, binary: &Binary<'_>, sheet: &mut ClaimSheet) -> Result<(), Stop>
-    ensures made { OnOk result (adding_read sheet.old (groups_of binary.now).symbols ≡ Ok sheet.new) }
-    ensures bad { (bad : BadFileSpec) → IsErrOf result (Stop.Bad bad) → (groups_of binary.now).symbols ≡ Err bad }
-    ensures kept { sheet.new.pool ≡ sheet.old.pool }
+    ensures { AddsRead result sheet.old sheet.new (groups_of binary.now).symbols }
 {
     match binary {
         Binary::Elf(file) => elf_claims::add_symbols(alloc, file, sheet),
@@ -97,17 +89,15 @@ pub fn add_symbols(alloc: Global, binary: &Binary<'_>, sheet: &mut ClaimSheet) -
     }
 }
 
-// The data source isn't offered for this kind of file.
+// The fault of a data source that this kind of file doesn't have.
 const NOT_OFFERED: Stop = Stop::Bad(BadFile {
     fault: Fault::SourceNotForFile,
     offset: 0,
 });
 
-/// Adds the claims of the compile units, or tells their first fault.
+/// Adds the claims of the compile units. Bad is their first fault.
 pub fn add_units(alloc: Global, binary: &Binary<'_>, sheet: &mut ClaimSheet) -> Result<(), Stop>
-    ensures made { OnOk result (adding_read sheet.old (groups_of binary.now).units ≡ Ok sheet.new) }
-    ensures bad { (bad : BadFileSpec) → IsErrOf result (Stop.Bad bad) → (groups_of binary.now).units ≡ Err bad }
-    ensures kept { sheet.new.pool ≡ sheet.old.pool }
+    ensures { AddsRead result sheet.old sheet.new (groups_of binary.now).units }
 {
     match binary {
         Binary::Elf(file) => elf_claims::add_units(alloc, file, sheet),
@@ -116,11 +106,9 @@ pub fn add_units(alloc: Global, binary: &Binary<'_>, sheet: &mut ClaimSheet) -> 
     }
 }
 
-/// Adds the claims of the lines of source text, or tells their first fault.
+/// Adds the claims of the source lines. Bad is their first fault.
 pub fn add_lines(alloc: Global, binary: &Binary<'_>, sheet: &mut ClaimSheet) -> Result<(), Stop>
-    ensures made { OnOk result (adding_read sheet.old (groups_of binary.now).lines ≡ Ok sheet.new) }
-    ensures bad { (bad : BadFileSpec) → IsErrOf result (Stop.Bad bad) → (groups_of binary.now).lines ≡ Err bad }
-    ensures kept { sheet.new.pool ≡ sheet.old.pool }
+    ensures { AddsRead result sheet.old sheet.new (groups_of binary.now).lines }
 {
     match binary {
         Binary::Elf(file) => elf_claims::add_lines(alloc, file, sheet),

@@ -1,5 +1,6 @@
-//! The data sources: which format a file has, its loads, and what each source claims of it. What a format claims is in
-//! the format's own room; here stand the kinds of file, and the table of the data sources over their groups.
+//! The data sources: the kind of a file, its loads, and the claims of each data source on it. The claims crates of the
+//! formats make the claims, in groups such as loads, sections and symbols. This crate has the kinds of file, and the
+//! table that says which groups a data source shows.
 #![tactic(auto)]
 
 mod answer;
@@ -15,6 +16,3 @@ pub use binary::{Binary, open_binary};
 pub use debug_listing::debug_claims;
 pub use listing::claims;
 pub use loads::{load_at, load_slots, loads_of};
-
-#[cfg(test)]
-mod tests;

@@ -1,9 +1,9 @@
-//! The claims of a data source.
+//! The claims of a data source on a file.
 
-ghost use Rattle.std.specs.Prelude.{◌≡◌, ◌<◌, ◌≤◌, length, Ok, Err, IfOk, OnOk, IsErrOf, IsOkAnd};
+ghost use Rattle.std.specs.Prelude.{◌≡◌, ◌<◌, ◌≤◌, length, Ok, Err, IfOk, IsErrOf, IsOkAnd};
 ghost use Rattle.size_core.specs.declared.fault.BadFile.{BadFile};
+ghost use Rattle.claim_sheet.specs.Adds.{Adds, AddsRead};
 ghost use Rattle.claim_sheet.specs.Made.{AreNumbered, AreUsed, KeepsLabels, texts};
-ghost use Rattle.claim_sheet.specs.Sheets.{adding, adding_read};
 ghost use Rattle.data_sources.specs.Groups.{groups_of};
 ghost use Rattle.data_sources.specs.Sources.{behind, claims_of, records_of, segments_claims, with_tail};
 
@@ -18,30 +18,28 @@ use claim_sheet::{ClaimSheet, Stop, Wrap};
 use size_core::{Claim, LabelPool, NoMemory, Source};
 use std::alloc::Global;
 
-// Adds the claims that `segments` shows, and then of the headers.
+// Adds the claims of the group that `segments` shows, and then those of the headers.
 #[tactic(auto, using(claim_sheet::proofs::SheetLemmas::adding_more), unfolding(crate::specs::Sources::segments_claims))]
 fn add_segments_and_headers(
     alloc: Global,
     binary: &Binary<'_>,
     sheet: &mut ClaimSheet,
 ) -> Result<(), NoMemory>
-    ensures made { OnOk result (sheet.new ≡ adding sheet.old (segments_claims (groups_of binary.now))) }
-    ensures kept { sheet.new.pool ≡ sheet.old.pool }
+    ensures { Adds result sheet.old sheet.new (segments_claims (groups_of binary.now)) }
 {
     add_segments(alloc, binary, sheet)?;
     add_headers(binary, sheet)
 }
 
-// Adds the claims of the sections, of the parts for the link editor and the headers, and of the loads in brackets.
+// Adds the claims of the sections, the link-edit parts and the headers, and then those of the loads in brackets.
 #[tactic(auto, using(claim_sheet::proofs::SheetLemmas::adding_more), unfolding(crate::specs::Sources::behind))]
-fn add_behind(
+fn add_parts(
     alloc: Global,
     binary: &Binary<'_>,
     wrap: Wrap,
     sheet: &mut ClaimSheet,
 ) -> Result<(), NoMemory>
-    ensures made { OnOk result (sheet.new ≡ adding sheet.old (behind wrap (groups_of binary.now))) }
-    ensures kept { sheet.new.pool ≡ sheet.old.pool }
+    ensures { Adds result sheet.old sheet.new (behind wrap (groups_of binary.now)) }
 {
     add_sections(alloc, binary, wrap, sheet)?;
     add_link_edit(binary, sheet)?;
@@ -49,16 +47,14 @@ fn add_behind(
     add_loads(alloc, binary, Wrap::Brackets, sheet)
 }
 
-/// Adds the claims of the records that a data source shows before all else, or tells their first fault.
+/// Adds the claims of the records of a data source: units, lines or symbols. Bad is their first fault.
 pub fn add_records(
     alloc: Global,
     binary: &Binary<'_>,
     source: Source,
     sheet: &mut ClaimSheet,
 ) -> Result<(), Stop>
-    ensures made { OnOk result (adding_read sheet.old (records_of source (groups_of binary.now)) ≡ Ok sheet.new) }
-    ensures bad { (bad : BadFile) → IsErrOf result (Stop.Bad bad) → records_of source (groups_of binary.now) ≡ Err bad }
-    ensures kept { sheet.new.pool ≡ sheet.old.pool }
+    ensures { AddsRead result sheet.old sheet.new (records_of source (groups_of binary.now)) }
 {
     match source {
         Source::CompileUnits => add_units(alloc, binary, sheet),
@@ -67,7 +63,8 @@ pub fn add_records(
     }
 }
 
-// Adds the claims of the records, and behind them those of the sections, the headers and the loads.
+// Adds the claims of the records, and then those of the parts of the file: what no record claims is labelled by its
+// section or load.
 #[tactic(auto, using(claim_sheet::proofs::LoopLemmas::joined_front, claim_sheet::proofs::LoopLemmas::joined_claims), unfolding(crate::specs::Sources::with_tail))]
 fn add_with_tail(
     alloc: Global,
@@ -75,19 +72,15 @@ fn add_with_tail(
     source: Source,
     sheet: &mut ClaimSheet,
 ) -> Result<(), Stop>
-    ensures made { OnOk result (adding_read sheet.old
-        (with_tail (records_of source (groups_of binary.now)) (groups_of binary.now))
-        ≡ Ok sheet.new) }
-    ensures bad { (bad : BadFile) → IsErrOf result (Stop.Bad bad)
-        → with_tail (records_of source (groups_of binary.now)) (groups_of binary.now) ≡ Err bad }
-    ensures kept { sheet.new.pool ≡ sheet.old.pool }
+    ensures { AddsRead result sheet.old sheet.new
+        (with_tail (records_of source (groups_of binary.now)) (groups_of binary.now)) }
 {
     add_records(alloc, binary, source, sheet)?;
-    add_behind(alloc, binary, Wrap::Section, sheet)?;
+    add_parts(alloc, binary, Wrap::Section, sheet)?;
     Ok(())
 }
 
-// Adds the claims of a data source, or tells its first fault.
+// Adds the claims of a data source. Bad is its first fault.
 fn add_source(
     alloc: Global,
     binary: &Binary<'_>,
@@ -95,13 +88,11 @@ fn add_source(
     name: &[u8],
     sheet: &mut ClaimSheet,
 ) -> Result<(), Stop>
-    ensures made { OnOk result (adding_read sheet.old (claims_of source name.now binary.now) ≡ Ok sheet.new) }
-    ensures bad { (bad : BadFile) → IsErrOf result (Stop.Bad bad) → claims_of source name.now binary.now ≡ Err bad }
-    ensures kept { sheet.new.pool ≡ sheet.old.pool }
+    ensures { AddsRead result sheet.old sheet.new (claims_of source name.now binary.now) }
 {
     match source {
         Source::Segments => add_segments_and_headers(alloc, binary, sheet)?,
-        Source::Sections => add_behind(alloc, binary, Wrap::Plain, sheet)?,
+        Source::Sections => add_parts(alloc, binary, Wrap::Plain, sheet)?,
         Source::InputFiles => add_whole(alloc, binary, name, sheet)?,
         Source::Symbols | Source::RawSymbols | Source::CompileUnits | Source::Inlines => {
             add_with_tail(alloc, binary, source, sheet)?
@@ -110,10 +101,11 @@ fn add_source(
     Ok(())
 }
 
-/// The claims of a data source on a file, in order, their labels by number; `name` is that of the file. Bad is
-/// the source's first fault, and TooManyClaims comes where there is none and there are more than `limit`.
-/// Whatever the answer, the labels that the pool held keep their numbers; each label that is new in it is that of a
-/// claim.
+/// Returns the claims of a data source on a file, in order. Labels are numbers in the pool; `name` is the name of the
+/// file, which is the label of InputFiles.
+///
+/// Bad is the first fault of the source. If there is none, TooManyClaims means that there are more claims than `limit`.
+/// In all cases the labels of the pool keep their numbers, and each new label is the label of a claim.
 pub fn claims(
     alloc: Global,
     binary: &Binary<'_>,

@@ -1,4 +1,4 @@
-//! The loads of a file.
+//! The loads of a file: the parts that are mapped at virtual addresses.
 
 ghost use Rattle.std.specs.Prelude.{◌≡◌, ◌<◌, ◌++◌, All, IfOk, IfSome, OnOk};
 ghost use Rattle.std.specs.Option.{option_to_list};
@@ -13,8 +13,8 @@ use elf_file::ElfFile;
 use size_core::{Load, NoMemory};
 use std::alloc::Global;
 
-/// How many slots there are in which a load may stand: the program headers of an ELF file, or the sections of a
-/// relocatable one, and the segments of a Mach-O file. A WebAssembly module has none.
+/// Returns the number of slots. Each slot may be a load. The slots are the program headers of an ELF file (the sections
+/// of a relocatable one) and the segments of a Mach-O file. A WebAssembly module has none.
 pub fn load_slots(binary: &Binary<'_>) -> u32
     ensures { result ≡ slots_of binary.now }
 {
@@ -25,7 +25,7 @@ pub fn load_slots(binary: &Binary<'_>) -> u32
     }
 }
 
-/// The load in a slot, or None where none stands there.
+/// Returns the load of a slot, or None if the slot is no load.
 pub fn load_at(binary: &Binary<'_>, i: u32) -> Option<Load>
     requires { i < slots_of binary.now }
     ensures load { result ≡ load_in binary.now i }
@@ -38,7 +38,7 @@ pub fn load_at(binary: &Binary<'_>, i: u32) -> Option<Load>
     }
 }
 
-// Adds a load, where there is one.
+// Pushes a load, if there is one.
 fn push_load(loads: &mut Vec<Load>, load: Option<Load>) -> Result<(), NoMemory>
     requires fits { IfSome load IsLoad }
     requires all { All IsLoad loads.old.items }
@@ -51,7 +51,7 @@ fn push_load(loads: &mut Vec<Load>, load: Option<Load>) -> Result<(), NoMemory>
     Ok(())
 }
 
-// The loads of an ELF file, in the order of the slots.
+// Returns the loads of an ELF file, in the order of the slots.
 #[tactic(auto, using(size_core::proofs::Gathered::gather_next, size_core::proofs::Gathered::gather_end))]
 fn elf_loads(alloc: Global, file: &ElfFile<'_>) -> Result<Vec<Load>, NoMemory>
     ensures are { IfOk result (λ v. v.items
@@ -65,7 +65,7 @@ fn elf_loads(alloc: Global, file: &ElfFile<'_>) -> Result<Vec<Load>, NoMemory>
     Ok(loads)
 }
 
-/// All loads, in the order of the slots. A file's tables are walked once.
+/// Returns all loads, in the order of the slots. It walks the file's tables once.
 #[tactic(auto, unfolding(crate::specs::Loads::loads_of, macho_claims::specs::Loads::loads_of, size_core::specs::Gather::gather))]
 pub fn loads_of(alloc: Global, binary: &Binary<'_>) -> Result<Vec<Load>, NoMemory>
     ensures are { IfOk result (λ v. v.items ≡ loads_of binary.now) }

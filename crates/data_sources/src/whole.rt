@@ -1,7 +1,6 @@
 //! The claims of a whole file, under its name.
 
-ghost use Rattle.std.specs.Prelude.{◌≡◌, OnOk};
-ghost use Rattle.claim_sheet.specs.Sheets.{adding};
+ghost use Rattle.claim_sheet.specs.Adds.{Adds};
 ghost use Rattle.data_sources.specs.Groups.{groups_of};
 ghost use Rattle.data_sources.specs.Sources.{address_claims, whole_claims};
 
@@ -11,7 +10,7 @@ use claim_sheet::{ClaimSheet, Reach, Wrap, span};
 use size_core::NoMemory;
 use std::alloc::Global;
 
-// Adds the claims of the addresses of each load.
+// Adds the claims of the addresses of all loads.
 #[tactic(auto, using(crate::proofs::LoadLemmas::loads_go, crate::proofs::LoadLemmas::loads_end, crate::proofs::LoadLemmas::by_loads))]
 fn add_addresses(
     alloc: Global,
@@ -19,8 +18,7 @@ fn add_addresses(
     name: &[u8],
     sheet: &mut ClaimSheet,
 ) -> Result<(), NoMemory>
-    ensures made { OnOk result (sheet.new ≡ adding sheet.old (address_claims name.now (groups_of binary.now))) }
-    ensures kept { sheet.new.pool ≡ sheet.old.pool }
+    ensures { Adds result sheet.old sheet.new (address_claims name.now (groups_of binary.now)) }
 {
     let loads = loads_of(alloc, binary)?;
     for load in &loads {
@@ -29,7 +27,7 @@ fn add_addresses(
     Ok(())
 }
 
-/// Adds the claims of the whole file and all its addresses, under the file's name.
+/// Adds the claims of all bytes of the file and of the addresses of all loads, under the name of the file.
 #[tactic(auto, using(claim_sheet::proofs::SheetLemmas::adding_more), unfolding(crate::specs::Sources::whole_claims))]
 pub fn add_whole(
     alloc: Global,
@@ -37,8 +35,7 @@ pub fn add_whole(
     name: &[u8],
     sheet: &mut ClaimSheet,
 ) -> Result<(), NoMemory>
-    ensures made { OnOk result (sheet.new ≡ adding sheet.old (whole_claims name.now (groups_of binary.now))) }
-    ensures kept { sheet.new.pool ≡ sheet.old.pool }
+    ensures { Adds result sheet.old sheet.new (whole_claims name.now (groups_of binary.now)) }
 {
     let len = binary.bytes().len() as u64;
     sheet.add(Reach::in_file(span(0, 0, len)), Wrap::Plain, name)?;

@@ -11,7 +11,7 @@ use Rattle.byte_cursor.specs.declared.order.Order.{Order}
 use Rattle.debug_pair.specs.Notes.{NoteRecord, notes}
 use Rattle.debug_pair.specs.Identities.{build_id, is_build_id}
 
--- the build ID among these notes
+-- The build ID among these notes.
 abbrev pub first_id : List NoteRecord → Option (List ℕ)
 first_id ns = option_map (λ n. n.content) (find is_build_id ns)
 
@@ -32,7 +32,7 @@ pub no_area : (order : Order) → build_id order [] ≡ None
 unfolding build_id
 no_area order = refl
 
--- that of the first areas, or else that of the others
+-- The build ID of the first areas, or else that of the others.
 pub build_id_append : (order : Order) (xs ys : List (List ℕ)) → build_id order (xs ++ ys) ≡ option_or (build_id order xs) (build_id order ys)
 unfolding build_id
 build_id_append order xs ys =
@@ -47,7 +47,7 @@ area_next : (order : Order) (f : ℕ → List (List ℕ)) (n i : ℕ) → i < n
     → build_id order (gather f i (n - i)) ≡ option_or (build_id order (f i)) (build_id order (gather f (i + 1) (n - (i + 1))))
 area_next order f n i lt = ap (build_id order) (gather_next [] f n i lt) ∙ build_id_append order (f i) (gather f (i + 1) (n - (i + 1)))
 
--- over numbers in a row
+-- The build ID over a range of section or segment numbers.
 pub area_here : (order : Order) (f : ℕ → List (List ℕ)) (n i : ℕ) (id : List ℕ) → i < n → build_id order (f i) ≡ Some id → build_id order (gather f i (n - i)) ≡ Some id
 area_here order f n i id lt is = area_next order f n i lt ∙ ap (λ (x : Option (List ℕ)). option_or x (build_id order (gather f (i + 1) (n - (i + 1))))) is
 

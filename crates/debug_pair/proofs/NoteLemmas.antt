@@ -4,17 +4,17 @@ use Rattle.std.proofs.lemmas.Grind.{common_steps}
 use Rattle.byte_cursor.specs.declared.order.Order.{Order}
 use Rattle.debug_pair.specs.Notes.{NoteRecord, behind_note, has_note, note_of, notes, notes_within}
 
--- a note takes twelve bytes at least
+-- A note has at least twelve bytes.
 shorter : (order : Order) (area : List ℕ) → has_note order area ≡ true → length (behind_note order area) < length area
 unfolding has_note behind_note
 shorter order area has = grind (arith, common_steps)
 
--- no note stands in no bytes
+-- No note fits into no bytes.
 none_in : (order : Order) (area : List ℕ) → length area ≡ 0 → has_note order area ≡ false
 unfolding has_note
 none_in order area none = grind (arith, common_steps)
 
--- enough fuel is as good as more
+-- A larger bound changes nothing where the bound is enough.
 same_fuel : (order : Order) (m n : ℕ) (area : List ℕ) → length area ≤ m → length area ≤ n → notes_within m order area ≡ notes_within n order area
 unfolding notes_within
 same_fuel order zero zero area p q = refl
@@ -36,12 +36,12 @@ unfolding notes_within
 none_within order zero area has = refl
 none_within order (suc fuel) area has = rw has refl
 
--- where no note fits, none comes
+-- Where no note fits, there are no notes.
 pub none_left : (order : Order) (area : List ℕ) → has_note order area ≡ false → notes order area ≡ []
 unfolding notes
 none_left order area has = none_within order (length area) area has
 
--- behind a note come those of what stands behind it
+-- After a note come the notes of the bytes after it.
 pub one_more : (order : Order) (area : List ℕ) → has_note order area ≡ true → notes order area ≡ note_of order area ∷ notes order (behind_note order area)
 unfolding notes
 one_more order area has =

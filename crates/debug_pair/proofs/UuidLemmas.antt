@@ -1,4 +1,4 @@
--- The first command with an identifier.
+-- The first LC_UUID command.
 use Rattle.std.proofs.Common.{◌≡◌, ℕ, suc, ◌+◌, ◌≤◌, ◌==◌, Bool, true, false, List, [], ◌∷◌, length, Some, None, refl, subst, arith}
 use Rattle.std.specs.Prelude.{All, if◌then◌else◌}
 use Rattle.std.specs.List.{find}
@@ -20,7 +20,7 @@ pub uuid_none : first_uuid [] ≡ None
 unfolding first_uuid
 uuid_none = refl
 
--- what is true of all is true of the one that is found
+-- What holds of all commands holds of the one that is found.
 found_has : (P : Command → Type 0) (p : Command → Bool) (cs : List Command) (c : Command) → All P cs → find p cs ≡ Some c → P c
 found_has P p [] c all is = cc
 found_has P p (d ∷ cs) c all is = by_test (λ e. found_has P p cs c (λ k x lt. all (suc k) x (omega arith)) e) (p d) is
@@ -29,7 +29,7 @@ found_has P p (d ∷ cs) c all is = by_test (λ e. found_has P p cs c (λ k x lt
     by_test rest true e = let same : d ≡ c = cc in subst P same (all 0 d (omega arith))
     by_test rest false e = rest e
 
--- it lies in the file
+-- The command lies in the file.
 pub uuid_inside : (file : List ℕ) (c : Command) → IsWellFormed file → first_uuid (commands file) ≡ Some c → c.place + c.size ≤ length file
 unfolding first_uuid
 uuid_inside file c known is =

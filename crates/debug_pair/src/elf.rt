@@ -1,4 +1,4 @@
-//! The identifier of an ELF file.
+//! The build ID of an ELF file.
 
 ghost use Rattle.std.specs.Prelude.{◌≡◌, ◌<◌, ◌∷◌, []};
 ghost use Rattle.std.specs.Option.{option_copied};
@@ -10,7 +10,7 @@ use crate::area::notes;
 use byte_cursor::Order;
 use elf_file::{ElfFile, PT_NOTE, SHT_NOTE};
 
-/// The descriptor of the first note with a build ID in an area.
+/// Returns the descriptor of the first build ID note of an area.
 #[tactic(auto, using(crate::proofs::IdentityLemmas::in_area, crate::proofs::IdentityLemmas::found_here, crate::proofs::IdentityLemmas::found_later, crate::proofs::IdentityLemmas::found_none))]
 fn build_id<'a>(area: &'a [u8], order: Order) -> Option<&'a [u8]>
     ensures { option_copied result ≡ build_id order (area.now ∷ []) }
@@ -23,9 +23,9 @@ fn build_id<'a>(area: &'a [u8], order: Order) -> Option<&'a [u8]>
     None
 }
 
-/// The build ID in the notes of a section.
+/// Returns the build ID in section `i`, where it has notes.
 #[tactic(auto, unfolding(crate::specs::Identities::section_area), using(crate::proofs::IdentityLemmas::no_area))]
-fn of_section<'a>(file: &ElfFile<'a>, i: u32) -> Option<&'a [u8]>
+fn section_build_id<'a>(file: &ElfFile<'a>, i: u32) -> Option<&'a [u8]>
     requires { i < section_count file.now }
     ensures { option_copied result ≡ build_id (encoding_of file.now).order (section_area file.now i) }
 {
@@ -35,9 +35,9 @@ fn of_section<'a>(file: &ElfFile<'a>, i: u32) -> Option<&'a [u8]>
     build_id(file.section_bytes(i), file.encoding().order)
 }
 
-/// The build ID in the notes of a segment.
+/// Returns the build ID in segment `i`, where it has notes.
 #[tactic(auto, unfolding(crate::specs::Identities::segment_area), using(crate::proofs::IdentityLemmas::no_area))]
-fn of_segment<'a>(file: &ElfFile<'a>, i: u32) -> Option<&'a [u8]>
+fn segment_build_id<'a>(file: &ElfFile<'a>, i: u32) -> Option<&'a [u8]>
     requires { i < segment_count file.now }
     ensures { option_copied result ≡ build_id (encoding_of file.now).order (segment_area file.now i) }
 {
@@ -47,35 +47,35 @@ fn of_segment<'a>(file: &ElfFile<'a>, i: u32) -> Option<&'a [u8]>
     build_id(file.segment_bytes(i), file.encoding().order)
 }
 
-/// The first build ID in the notes of sections.
+/// Returns the first build ID in the notes of sections.
 #[tactic(auto, using(crate::proofs::IdentityLemmas::area_here, crate::proofs::IdentityLemmas::area_later, crate::proofs::IdentityLemmas::area_end))]
 fn in_sections<'a>(file: &ElfFile<'a>) -> Option<&'a [u8]>
     ensures { option_copied result ≡ build_id (encoding_of file.now).order (section_areas file.now) }
 {
     for i in 0..file.header().sections {
-        if let Some(id) = of_section(file, i) {
+        if let Some(id) = section_build_id(file, i) {
             return Some(id);
         }
     }
     None
 }
 
-/// The first build ID in the notes of segments.
+/// Returns the first build ID in the notes of segments.
 #[tactic(auto, using(crate::proofs::IdentityLemmas::area_here, crate::proofs::IdentityLemmas::area_later, crate::proofs::IdentityLemmas::area_end))]
 fn in_segments<'a>(file: &ElfFile<'a>) -> Option<&'a [u8]>
     ensures { option_copied result ≡ build_id (encoding_of file.now).order (segment_areas file.now) }
 {
     for i in 0..file.header().segments {
-        if let Some(id) = of_segment(file, i) {
+        if let Some(id) = segment_build_id(file, i) {
             return Some(id);
         }
     }
     None
 }
 
-/// The identifier of an ELF file, its build ID: the descriptor of the first note with the name `GNU`, the type
-/// NT_GNU_BUILD_ID and a descriptor that isn't empty, in the notes of its sections and then in those of its
-/// segments, each in order (ELF gABI, Note Section). `None` exactly where there is no such note.
+/// Returns the build ID of an ELF file: the descriptor of the first note with the name `GNU`, the type
+/// NT_GNU_BUILD_ID and a descriptor that isn't empty. The notes of sections come first, and then those of
+/// segments, each in file order (ELF gABI, Note Section). `None` exactly where there is no such note.
 #[tactic(auto, unfolding(crate::specs::Identities::elf_identity), using(crate::proofs::IdentityLemmas::build_id_append))]
 pub fn elf_identity<'a>(file: &ElfFile<'a>) -> Option<&'a [u8]>
     ensures { option_copied result ≡ elf_identity file.now }

@@ -1,8 +1,8 @@
-//! Laws of the definitions: each is the contract of a function that does nothing.
+//! Laws of the definitions. Each law is the contract of a function with an empty body.
 
 ghost use Rattle.debug_pair.specs.Laws.{NotesEnd, NotesGoOn};
 
-/// A law: notes are read one behind the other, up to the first that doesn't fit.
+/// A law: each note begins where the one before it ends, and the list ends at the first that doesn't fit.
 pub fn notes_follow_one_another()
     ensures more { NotesGoOn }
     ensures end { NotesEnd }

@@ -1,5 +1,5 @@
-//! The identifiers by which a stripped file and the file of its debug information know one another: the build ID
-//! in the notes of an ELF file, and the UUID of a Mach-O file. Nothing here takes memory.
+//! The identifiers that a stripped file and its debug file share: the build ID in the notes of an ELF file,
+//! and the UUID of a Mach-O file. Nothing here allocates memory.
 #![tactic(auto)]
 
 mod area;
@@ -11,12 +11,9 @@ mod note;
 mod sequence;
 
 pub use area::notes;
-pub use constants::{NT_GNU_BUILD_ID, note_numbers};
+pub use constants::{NT_GNU_BUILD_ID, standard_numbers};
 pub use elf::elf_identity;
 pub use laws::notes_follow_one_another;
 pub use macho::macho_identity;
 pub use note::Note;
 pub use sequence::Notes;
-
-#[cfg(test)]
-mod tests;

@@ -1,4 +1,4 @@
-//! The identifier of a Mach-O file.
+//! The UUID of a Mach-O file.
 
 ghost use Rattle.std.specs.Prelude.{◌≡◌};
 ghost use Rattle.std.specs.Option.{option_copied};
@@ -7,7 +7,7 @@ ghost use Rattle.debug_pair.specs.Identities.{first_uuid, macho_identity};
 
 use macho_file::{Command, LC_UUID, MachoFile};
 
-/// The first command with an identifier.
+/// Returns the first LC_UUID command.
 #[tactic(auto, using(crate::proofs::UuidLemmas::uuid_here, crate::proofs::UuidLemmas::uuid_later, crate::proofs::UuidLemmas::uuid_none))]
 fn first_uuid<'a>(file: &MachoFile<'a>) -> Option<Command>
     ensures { result ≡ first_uuid (commands file.now) }
@@ -20,7 +20,7 @@ fn first_uuid<'a>(file: &MachoFile<'a>) -> Option<Command>
     None
 }
 
-/// The identifier of a Mach-O file: the 16 bytes behind the kind and the size of its first LC_UUID
+/// Returns the UUID of a Mach-O file: the 16 bytes after `cmd` and `cmdsize` in its first LC_UUID command
 /// (`uuid_command`). `None` exactly where there is no LC_UUID, or where the first is shorter than 24 bytes.
 #[tactic(auto, unfolding(crate::specs::Identities::macho_identity), using(crate::proofs::UuidLemmas::uuid_inside))]
 pub fn macho_identity<'a>(file: &MachoFile<'a>) -> Option<&'a [u8]>

@@ -11,16 +11,16 @@ use byte_cursor::{Order, u32_at};
 /// A note (ELF gABI, Note Section).
 #[derive(Clone, Copy, Debug)]
 pub struct Note<'a> {
-    /// Whose note it is, with the zero byte at its end.
+    /// The name of its owner, with the terminating zero byte.
     pub name: &'a [u8],
-    /// Its type, which the owner of the name gives.
+    /// Its type, which the owner defines.
     pub kind: u32,
     /// Its descriptor.
     pub content: &'a [u8],
 }
 
 impl<'a> Note<'a> {
-    /// Whether it has a build ID, which isn't empty.
+    /// Returns whether it is a build ID note with a descriptor that isn't empty.
     #[tactic(auto, unfolding(crate::specs::Identities::is_build_id))]
     pub(crate) fn is_build_id(&self) -> bool
         ensures { result ≡ is_build_id (note_shown self.now) }
@@ -29,14 +29,14 @@ impl<'a> Note<'a> {
     }
 }
 
-/// A length, filled up to a multiple of four.
+/// Returns a length in bytes, rounded up to a multiple of four.
 fn filled(len: u32) -> u64
     ensures { result ≡ filled len }
 {
     (u64::from(len) + 3) / 4 * 4
 }
 
-/// The note that an area begins with, and what stands behind it. `None` where no note fits.
+/// Returns the note at the start of an area, and the bytes after it. `None` where no note fits.
 #[tactic(auto, unfolding(crate::specs::Notes::has_note, crate::specs::Notes::note_of, crate::specs::Notes::behind_note))]
 pub fn first_note<'a>(area: &'a [u8], order: Order) -> Option<(Note<'a>, &'a [u8])>
     ensures { MatchOption result (has_note order area.now ≡ false)

@@ -9,7 +9,7 @@ use crate::note::{Note, first_note};
 use byte_cursor::Order;
 use std::marker::Model;
 
-/// The notes of an area that are still to come, in order.
+/// The notes of an area that `next` has not returned yet, in order.
 #[derive(Drop)]
 pub struct Notes<'a> {
     rest: &'a [u8],
@@ -40,7 +40,7 @@ impl<'a> Iterator for Notes<'a> {
 
     ghost remaining = { item_count (λ s. s) };
 
-    /// The next note, and `None` for good where none fits.
+    /// Returns the next note. `None` from the first note on that doesn't fit.
     #[tactic(auto, using(crate::proofs::NoteLemmas::none_left, crate::proofs::NoteLemmas::one_more))]
     fn next(&mut self) -> Option<Note<'a>> {
         let (note, rest) = first_note(self.rest, self.order)?;

@@ -1,4 +1,4 @@
--- The maps of a base: what they are cuts of, how many pieces they have, and how much is mapped.
+-- The maps of a base: the labellings that they cut, the number of their pieces, and how much is mapped.
 use Rattle.std.proofs.Common.{◌≡◌, ◌+◌, ◌*◌, ◌^◌, ◌<◌, ◌≤◌, ℕ, max, is_some, Bool, true, false, cond, ltb, List, [], ◌∷◌, Option, Some, None, Result, Ok, Err, length, get_or, refl, sym, ap, ◌∙◌, arith}
 use Rattle.std.specs.List.{All}
 use Rattle.std.specs.Prelude.{IfOk}
@@ -59,7 +59,7 @@ length-positions ls ps a c =
     let l : IsLaid (address_ranges 0 ls) ps = record { tidy = c.tidy; labels = λ x. c.labels x ∙ sym (label_in-address_ranges 0 ls x a) } in
     omega (arith, length-laid (address_ranges 0 ls) ps l, length-address_ranges 0 ls)
 
--- the number of pieces is one
+-- There is one number of pieces.
 pub pieces_bound : {layout : Layout} (ps qs : List Piece) (b : ℕ) → IsCut (load_of_offset layout.len layout.loads) ps → IsCut (load_of_position layout.loads) qs → HasPieces layout b → (length ps ≤ b) × (length qs ≤ b)
 pieces_bound {layout} ps qs b f g h =
     let e = ap length (IsCut-unique (load_of_offset layout.len layout.loads) ps h.offsets f h.offsets_cut) in
@@ -82,7 +82,7 @@ pub ok_more : {V E : Type 0} (P Q : V → Type 0) (r : Result V E) → ((v : V) 
 ok_more P Q (Ok v) f h = f v h
 ok_more P Q (Err e) f h = tt
 
--- the ranges of all claims make the cuts of their labellings
+-- The ranges of all claims make the cuts of their labellings.
 pub file_cut : (layout : Layout) (len : ℕ) (ls : List Load) (to_file : List Stretch) (unmapped : ℕ) (cs : List Claim) (rs ps : List Piece) → record { len = len; loads = ls } ≡ layout → All IsLoad ls → Carries (source_of ToFile len ls) to_file → rs ≡ all_offsets len to_file unmapped cs → IsLaid rs ps → IsCut (offset_labelling layout.len layout.loads unmapped cs) ps
 file_cut layout len ls to_file unmapped cs rs ps same loads c e l = record {
   tidy = l.tidy;
@@ -97,7 +97,7 @@ vm_cut layout len ls qs to_memory in_memory unmapped cs rs ps same ends f c d e 
       l.labels x ∙ (ap (λ rs. label_in rs x) e ∙ (label_in-all_positions len ls qs to_memory in_memory unmapped cs x ends f c d ∙ ap (λ (l : Layout). address_labelling l.len l.loads unmapped cs x) same));
 }
 
--- how many pieces they have
+-- The number of their pieces.
 pub file_few : (len : ℕ) (to_file : List Stretch) (unmapped b : ℕ) (cs : List Claim) (rs ps : List Piece) → length to_file ≤ b → rs ≡ all_offsets len to_file unmapped cs → length ps ≤ 2 * length rs → length ps ≤ 2 * (length cs * max 1 b + 1)
 file_few len to_file unmapped b cs rs ps few e h =
     let n = ap length e in
@@ -114,7 +114,7 @@ is_some-if : {X : Type 0} (b : Bool) (x : X) → is_some (cond b (Some x) None) 
 is_some-if true x = refl
 is_some-if false x = refl
 
--- cuts of the two labellings label exactly the offsets and the mapped positions
+-- Cuts of the two labellings label exactly the offsets and the mapped positions.
 pub is_over : (layout : Layout) (unmapped : ℕ) (cs : List Claim) (file vm : List Piece) → IsCut (offset_labelling layout.len layout.loads unmapped cs) file → IsCut (address_labelling layout.len layout.loads unmapped cs) vm → IsOver layout (record { file = file; vm = vm })
 is_over layout unmapped cs file vm f g = record {
   offsets = λ o. ap is_some (f.labels o) ∙ is_some-if (ltb o layout.len) (offset_label layout.len layout.loads unmapped cs o);
@@ -147,7 +147,7 @@ maps_below layout unmapped cs file vm n f g h a = record {
   vm = labels_below (address_labelling layout.len layout.loads unmapped cs) vm n g (λ p y e. some_below (is_mapped layout.loads p) (address_label layout.len layout.loads unmapped cs (space_of p) (address_of p)) y n (first_below (λ (c : Claim). covers_address layout.len layout.loads c.side c.vm c.file (space_of p) (address_of p)) (λ (c : Claim). c.label) unmapped n cs h a) e);
 }
 
--- the number of pieces by that of loads
+-- The number of pieces by the number of loads.
 pub file_few_by : (len : ℕ) (to_file : List Stretch) (unmapped m : ℕ) (cs : List Claim) (rs ps : List Piece) → length to_file ≤ 2 * m → rs ≡ all_offsets len to_file unmapped cs → length ps ≤ 2 * length rs → length ps ≤ 2 * (length cs * (2 * m + 1) + 1)
 file_few_by len to_file unmapped m cs rs ps few e h =
     let n = ap length e in

@@ -1,4 +1,4 @@
--- What stretches carry from a span.
+-- The targets of a span.
 use Rattle.std.proofs.Common.{◌≡◌, ◌+◌, ◌-◌, ◌<◌, ◌≤◌, ℕ, zero, suc, Bool, true, false, cond, ltb, leb, ◌&&◌, ◌||◌, List, [], ◌∷◌, ◌++◌, map, take, Option, None, Some, length, get_or, refl, sym, ap, ◌∙◌, inl, inr, arith}
 use Rattle.std.proofs.lemmas.Bool.Decides.{nat_tests}
 use Rattle.std.proofs.lemmas.List.{take_more, map-append}
@@ -15,7 +15,7 @@ use Rattle.dual_map.specs.Index.{source_end, clipped, kept, carried, IsIndex}
 abbrev pub in_bounds : ℕ → ℕ → ℕ → Bool
 in_bounds low high v = leb low v && ltb v high
 
--- the label that a source gets from a span
+-- The label that a number gets from a span, by its source.
 abbrev pub labelled : ℕ → ℕ → ℕ → Option ℕ → Option ℕ
 labelled low high label None = None
 labelled low high label (Some v) = cond (in_bounds low high v) (Some label) None
@@ -35,7 +35,7 @@ has-clipped low high label s y e = let b = target_bounds s y e in has_inside low
 has_outside : (low high label : ℕ) (s : Stretch) (y : ℕ) → has_target s y ≡ false → has (clipped low high label s) y ≡ false
 has_outside low high label s y e = grind (arith, nat_tests)
 
--- every stretch is sound
+-- Each stretch is sound.
 abbrev pub Sound : (ℕ → Option ℕ) → Stretch → Type 0
 Sound source s = (y : ℕ) → has_target s y ≡ true → source y ≡ Some (s.source + (y - s.target))
 
@@ -62,7 +62,7 @@ label_in-clips source low high label [] y a = refl
 label_in-clips source low high label (s ∷ ss) y a =
     clips_step source low high label s ss y (has_target s y) refl (All-head (Sound source) s ss a) (label_in-clips source low high label ss y (All-tail (Sound source) s ss a))
 
--- an empty range has no position
+-- An empty range has no position.
 pub label_in-kept : (ps : List Piece) (x : ℕ) → label_in (kept ps) x ≡ label_in ps x
 label_in-kept [] x = refl
 label_in-kept (p ∷ ps) x = step p ps x (ltb 0 p.len) refl (label_in-kept ps x)
@@ -80,12 +80,12 @@ found_or_not low high label None true h = refl
 found_or_not low high label None false h = refl
 found_or_not low high label (Some v) any h = ap (λ t. cond t (labelled low high label (Some v)) None) (h v refl)
 
--- what is carried from a span has the label at each number whose source lies in it
+-- A number whose source lies in the span has the label.
 pub label_in-carried : (source : ℕ → Option ℕ) (low high label : ℕ) (ss : List Stretch) (y : ℕ) → Carries source ss → label_in (carried low high label ss) y ≡ labelled low high label (source y)
 label_in-carried source low high label ss y c =
     label_in-kept (map (clipped low high label) ss) y ∙ (label_in-clips source low high label ss y c.sound ∙ found_or_not low high label (source y) (list_any (λ (s : Stretch). has_target s y) ss) (c.whole y))
 
--- stretches that give nothing
+-- Stretches that give nothing.
 kept_empty : (p : Piece) (ps : List Piece) → p.len ≡ 0 → kept (p ∷ ps) ≡ kept ps
 kept_empty p ps e = let b : ltb 0 p.len ≡ false = grind (arith, nat_tests) in ap (λ t. cond t (p ∷ kept ps) (kept ps)) b
 
@@ -108,7 +108,7 @@ kept-rest clip (s ∷ ss) zero h = sym (all_empty clip (s ∷ ss) (λ k l. h k (
 kept-rest clip (s ∷ ss) (suc n) h =
     ap (λ ps. cond (ltb 0 (clip s).len) (clip s ∷ ps) ps) (kept-rest clip ss n (λ k a l. h (suc k) (omega arith) (omega arith)))
 
--- one more stretch
+-- One more stretch.
 pub kept-more : (clip : Stretch → Piece) (ss : List Stretch) (i : ℕ) (d : Stretch) → i < length ss → kept (map clip (take (i + 1) ss)) ≡ kept (map clip (take i ss)) ++ kept (clip (get_or ss i d) ∷ [])
 kept-more clip ss i d l =
     ap (λ ps. kept (map clip ps)) (take_more ss i d l) ∙ (ap kept (map-append clip (take i ss) (get_or ss i d ∷ [])) ∙ filter-append (λ (p : Piece). ltb 0 p.len) (map clip (take i ss)) (clip (get_or ss i d) ∷ []))
@@ -134,7 +134,7 @@ length_map clip (s ∷ ss) = ap (λ n. suc n) (length_map clip ss)
 pub length-carried : (low high label : ℕ) (ss : List Stretch) → length (carried low high label ss) ≤ length ss
 length-carried low high label ss = omega (arith, length-kept (map (clipped low high label) ss), length_map (clipped low high label) ss)
 
--- the stretches that a search leaves out give nothing
+-- The stretches that a search leaves out give nothing.
 pub front_empty : (ss : List Stretch) (reaches : List ℕ) (low high label n : ℕ) → IsIndex ss reaches → IsPartitionPoint (λ (r : ℕ). leb r low ≡ true) (λ (r : ℕ). leb r low ≡ false) reaches n → kept (map (clipped low high label) (take n ss)) ≡ []
 front_empty ss reaches low high label n index point =
     kept-front (clipped low high label) ss n (λ k a l.

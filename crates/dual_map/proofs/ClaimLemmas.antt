@@ -45,11 +45,11 @@ in_file_has len label s o = grind (arith, nat_tests)
 in_file_label : (len label : ℕ) (s : Span) (o : ℕ) → label_in (kept (in_file len label s ∷ [])) o ≡ within (ltb o len) (span_has s o) label
 in_file_label len label s o = label_in-kept (in_file len label s ∷ []) o ∙ in_file_has len label s o
 
--- a span of addresses, as positions
+-- A span of addresses, as positions.
 span_positions : (s : Span) (q r : ℕ) → r < 2 ^ 64 → in_bounds (low_of s) (high_of s) (q * 2 ^ 64 + r) ≡ address_in s (Some (q, r))
 span_positions s q r b = grind (arith, nat_tests)
 
--- an offset that has an address lies in the file, and its address in its space
+-- An offset that has an address lies in the file, and its address in its space.
 record IsLoaded (len o : ℕ) (a : ℕ × ℕ) : Type 0 where
   fits : a.1 < 2 ^ 64
   in_file : ltb o len ≡ true
@@ -73,7 +73,7 @@ carried_label len vm label o (Some a) h =
     let w = h a refl in
     ap (λ b. cond b (Some label) None) (span_positions vm a.0 a.1 w.fits) ∙ sym (ap (λ b. within b (address_in vm (Some a)) label) w.in_file)
 
--- a claim's ranges of offsets
+-- The ranges of offsets of a claim.
 offsets_label : (side : Side) (len : ℕ) (ls : List Load) (to_file : List Stretch) (vm file : Span) (label o : ℕ) → All IsLoad ls → Carries (source_of ToFile len ls) to_file → label_in (offsets_of side len to_file vm file label) o ≡ within (ltb o len) (covers_offset len ls side vm file o) label
 offsets_label File len ls to_file vm file label o loads c = in_file_label len label file o
 offsets_label Both len ls to_file vm file label o loads c = in_file_label len label file o
@@ -83,7 +83,7 @@ offsets_label Vm len ls to_file vm file label o loads c =
 whole_label : (len unmapped o : ℕ) → label_in (record { start = 0; len = len; label = unmapped } ∷ []) o ≡ cond (ltb o len) (Some unmapped) None
 whole_label len unmapped o = grind (arith, nat_tests)
 
--- the ranges of all claims have the labelling of the file
+-- The ranges of all claims have the labelling of the file.
 pub label_in-all_offsets : (len : ℕ) (ls : List Load) (to_file : List Stretch) (unmapped : ℕ) (cs : List Claim) (o : ℕ) → All IsLoad ls → Carries (source_of ToFile len ls) to_file → label_in (all_offsets len to_file unmapped cs) o ≡ offset_labelling len ls unmapped cs o
 label_in-all_offsets len ls to_file unmapped [] o loads c =
     label_in-kept (record { start = 0; len = len; label = unmapped } ∷ []) o ∙ whole_label len unmapped o
@@ -102,7 +102,7 @@ placed_label : (file : Span) (label : ℕ) (m : Bool) (found : Option ℕ) → (
 placed_label file label m None h = never m label
 placed_label file label m (Some v) h = sym (ap (λ b. within b (span_has file v) label) (h v refl))
 
--- a claim's ranges of positions
+-- The ranges of positions of a claim.
 positions_label : (side : Side) (len : ℕ) (ls : List Load) (to_memory in_memory : List Stretch) (vm file : Span) (label p : ℕ) → Carries (source_of ToMemory len ls) to_memory → Carries (source_of InMemory len ls) in_memory → label_in (positions_of side to_memory in_memory vm file label) p ≡ within (is_mapped ls p) (covers_address len ls side vm file (space_of p) (address_of p)) label
 positions_label File len ls to_memory in_memory vm file label p c d =
     label_in-carried (source_of ToMemory len ls) file.start (file.start + file.len) label to_memory p c ∙ placed_label file label (is_mapped ls p) (place len ls (space_of p) (address_of p)) (λ v e. placed_mapped len ls (space_of p) (address_of p) v e)
@@ -118,7 +118,7 @@ all_mapped_label label p true h =
     ap (λ t. cond t (Some label) None) e
 all_mapped_label label p false h = refl
 
--- whether a position is mapped, by its first load
+-- Whether a position is mapped, by its first load.
 pub is_some-load : (ls : List Load) (p : ℕ) (found : Option ℕ) → load_of_position ls p ≡ found → is_some found ≡ is_mapped ls p
 is_some-load ls p None e = sym (unmapped 0 ls (space_of p) (address_of p) e)
 is_some-load ls p (Some i) e = sym (first_covers_address 0 ls p i no_load e).is_mapped
@@ -132,7 +132,7 @@ mapped_below : (ls : List Load) (ps : List Piece) (p : ℕ) → EndsBy (2 ^ 96) 
 mapped_below ls ps p ends c h =
     some_below ls ps p (label_in ps p) ends refl (ap is_some (c.labels p) ∙ (is_some-load ls p (load_of_position ls p) refl ∙ h))
 
--- the ranges of all claims have the labelling of the mapped positions
+-- The ranges of all claims have the labelling of the mapped positions.
 pub label_in-all_positions : (len : ℕ) (ls : List Load) (ps : List Piece) (to_memory in_memory : List Stretch) (unmapped : ℕ) (cs : List Claim) (p : ℕ) → EndsBy (2 ^ 96) ps → IsCut (load_of_position ls) ps → Carries (source_of ToMemory len ls) to_memory → Carries (source_of InMemory len ls) in_memory → label_in (all_positions to_memory in_memory unmapped cs) p ≡ address_labelling len ls unmapped cs p
 label_in-all_positions len ls ps to_memory in_memory unmapped [] p ends f c d =
     label_in-carried (source_of InMemory len ls) 0 (2 ^ 96) unmapped in_memory p d ∙ all_mapped_label unmapped p (is_mapped ls p) (mapped_below ls ps p ends f)
@@ -142,7 +142,7 @@ label_in-all_positions len ls ps to_memory in_memory unmapped (k ∷ cs) p ends 
     let b = covers_address len ls k.side k.vm k.file (space_of p) (address_of p) in
     label_in-append qs rest p ∙ (ap (λ x. either x (label_in rest p)) (positions_label k.side len ls to_memory in_memory k.vm k.file k.label p c d) ∙ (ap (λ x. either (within (is_mapped ls p) b k.label) x) (label_in-all_positions len ls ps to_memory in_memory unmapped cs p ends f c d) ∙ joined (is_mapped ls p) b k.label (address_label len ls unmapped cs (space_of p) (address_of p))))
 
--- how many ranges there are
+-- The number of ranges.
 length-offsets_of : (side : Side) (len : ℕ) (to_file : List Stretch) (vm file : Span) (label m : ℕ) → length to_file ≤ m → 1 ≤ m → length (offsets_of side len to_file vm file label) ≤ m
 length-offsets_of File len to_file vm file label m a b = omega (arith, length-kept (in_file len label file ∷ []))
 length-offsets_of Both len to_file vm file label m a b = omega (arith, length-kept (in_file len label file ∷ []))
@@ -167,7 +167,7 @@ length-all_positions to_memory in_memory unmapped (k ∷ cs) m a b =
     let more = length-all_positions to_memory in_memory unmapped cs m a b in
     omega (arith, length-append (positions_of k.side to_memory in_memory k.vm k.file k.label) (all_positions to_memory in_memory unmapped cs))
 
--- one more claim
+-- One more claim.
 pub all_offsets_more : (len : ℕ) (to_file : List Stretch) (unmapped : ℕ) (rs : List Piece) (cs : List Claim) (k : ℕ) (d : Claim) → k < length cs → rs ++ all_offsets len to_file unmapped (drop k cs) ≡ all_offsets len to_file unmapped cs → (rs ++ offsets_of (get_or cs k d).side len to_file (get_or cs k d).vm (get_or cs k d).file (get_or cs k d).label) ++ all_offsets len to_file unmapped (drop (k + 1) cs) ≡ all_offsets len to_file unmapped cs
 all_offsets_more len to_file unmapped rs cs k d h e =
     append_assoc rs (offsets_of (get_or cs k d).side len to_file (get_or cs k d).vm (get_or cs k d).file (get_or cs k d).label) (all_offsets len to_file unmapped (drop (k + 1) cs)) ∙ (ap (λ q. rs ++ all_offsets len to_file unmapped q) (sym (drop_more cs k d h)) ∙ e)

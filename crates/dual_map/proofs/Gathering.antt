@@ -24,7 +24,7 @@ use Rattle.dual_map.specs.Way.{position_if_any, position_of_load, source_of, str
 use Rattle.dual_map.proofs.Carrying.{Sound, target_bounds, has_target-in}
 use Rattle.dual_map.proofs.LoadLemmas.{first_covers_offset, offset_bounds, addr_none, first_covers_address, address_bounds, unmapped, placed_mapped}
 
--- a stretch is sound, and has what of its piece has a source
+-- A stretch is sound, and it has each number of its piece that has a source.
 record Fits (source : ℕ → Option ℕ) (make : Piece → Stretch) (p : Piece) : Type 0 where
   inside : (y : ℕ) → has_target (make p) y ≡ true → source y ≡ Some ((make p).source + (y - (make p).target))
   covered : (y v : ℕ) → has p y ≡ true → source y ≡ Some v → has_target (make p) y ≡ true
@@ -50,7 +50,7 @@ Carries-made source make ps a h = record {
       any-filter_same (λ (s : Stretch). has_target s y) (λ (s : Stretch). ltb 0 s.len) true (λ s t. target_some s y t) (map make ps) ∙ any_target source make ps y v a e (h y v e);
 }
 
--- the order of stretches does not matter
+-- The order of stretches doesn't matter.
 pub Carries-permutation : (source : ℕ → Option ℕ) (ss ts : List Stretch) → IsPermutation ss ts → Carries source ss → Carries source ts
 Carries-permutation source ss ts perm c = record {
   sound = All-permutation (Sound source) ss ts perm c.sound;
@@ -63,7 +63,7 @@ has_bounds p y e = (grind (arith, nat_tests), grind (arith, nat_tests))
 has_from : (p : Piece) (y : ℕ) → p.start ≤ y → y < end_of p → has p y ≡ true
 has_from p y a b = grind (arith, nat_tests)
 
--- a position that has a label lies in a piece
+-- A position that has a label lies in a piece.
 any_piece : (ps : List Piece) (y i : ℕ) → label_in ps y ≡ Some i → list_any (λ (p : Piece). has p y) ps ≡ true
 any_piece [] y i e = absurd (none-some i e)
 any_piece (p ∷ ps) y i e = step p ps y i (has p y) e (any_piece ps y i)
@@ -72,7 +72,7 @@ any_piece (p ∷ ps) y i e = step p ps y i (has p y) e (any_piece ps y i)
     step p ps y i true e h = refl
     step p ps y i false e h = h e
 
--- the label of a piece's numbers is the piece's
+-- The label of a piece's numbers is the piece's.
 pub label_of_piece : (labelling : ℕ → Option ℕ) (ps : List Piece) (k : ℕ) (d : Piece) (y : ℕ) → IsCut labelling ps → k < length ps → (get_or ps k d).start ≤ y → y < end_of (get_or ps k d) → labelling y ≡ Some (get_or ps k d).label
 label_of_piece labelling ps k d y c l a b = sym (c.labels y) ∙ label_at-get ps k d y c.tidy l a b
 
@@ -84,7 +84,7 @@ some_len [] k d t l = absurd (omega arith)
 some_len (p ∷ ps) zero d t l = t.0
 some_len (p ∷ ps) (suc k) d t l = some_len ps k d t.2 (omega arith)
 
--- the pieces of offsets lie in their loads
+-- The pieces of offsets lie in their loads.
 pub offset_pieces : (len : ℕ) (ls : List Load) (ps : List Piece) → len < 2 ^ 63 → IsCut (load_of_offset len ls) ps → All (IsPieceOf ToFile ls) ps
 offset_pieces len ls ps small c k d l =
     let p = get_or ps k d in
@@ -98,7 +98,7 @@ offset_pieces len ls ps small c k d l =
     let e = high.2 in
     record { within = first.within; lies = record { low = a; high = omega arith; fits = omega arith } }
 
--- an address of a load, as a position
+-- An address of a load, as a position.
 record Stands (l : Load) (x : ℕ) : Type 0 where
   low : position_of_load l ≤ x
   high : x < position_of_load l + l.memsz
@@ -114,7 +114,7 @@ stands l x e =
     let place : x ≡ l.space * 2 ^ 64 + address_of x = split ∙ ap (λ q. q * 2 ^ 64 + x % 2 ^ 64) s in
     record { low = omega arith; high = omega arith; address = place }
 
--- the pieces of positions lie in their loads
+-- The pieces of positions lie in their loads.
 pub address_pieces : (way : Way) (ls : List Load) (ps : List Piece) → ((l : Load) → first_of way l ≡ position_of_load l) → EndsBy (2 ^ 96) ps → IsCut (load_of_position ls) ps → All (IsPieceOf way ls) ps
 address_pieces way ls ps same ends c k d l =
     let p = get_or ps k d in
@@ -223,7 +223,7 @@ Carries-in_memory len ls ps c =
     let w = some_mapped ls y (load_of_position ls y) refl (if_mapped (is_mapped ls y) y v e) in
     any_some (load_of_position ls) ps y w.0 c w.1)
 
--- one more piece
+-- One more piece.
 pub some_more : (make : Piece → Stretch) (rs : List Stretch) (ps : List Piece) (k : ℕ) (p : Piece) (whole : List Stretch) → slice_get ps k ≡ Some p → rs ++ some_of (map make (drop k ps)) ≡ whole → (rs ++ some_of (make p ∷ [])) ++ some_of (map make (drop (k + 1) ps)) ≡ whole
 some_more make rs ps k p whole e h =
     append_assoc rs (some_of (make p ∷ [])) (some_of (map make (drop (k + 1) ps)))

@@ -1,4 +1,4 @@
--- Which load covers an offset or a position first, and what it gives.
+-- The first load that covers an offset or a position, and what it gives.
 use Rattle.std.proofs.Common.{◌≡◌, ◌+◌, ◌-◌, ◌*◌, ◌/◌, ◌%◌, ◌^◌, ◌<◌, ◌≤◌, ℕ, zero, suc, Bool, true, false, cond, ◌||◌, List, [], ◌∷◌, None, Some, length, get_or, refl, sym, ap, ◌∙◌, subst, arith}
 use Rattle.std.proofs.lemmas.Bool.Decides.{nat_tests}
 use Rattle.std.proofs.lemmas.Option.{none-some, same_Some}
@@ -22,7 +22,7 @@ length-address_ranges n (l ∷ ls) = ap (λ k. suc k) (length-address_ranges (n 
 has-file_range : (len i : ℕ) (l : Load) (o : ℕ) → has (file_range len i l) o ≡ load_has_offset len l o
 has-file_range len i l o = grind (arith, nat_tests)
 
--- the ranges of loads label by the first load
+-- The ranges of loads label by the first load.
 pub label_in-file_ranges : (len n : ℕ) (ls : List Load) (o : ℕ) → label_in (file_ranges len n ls) o ≡ first_number (λ (l : Load). load_has_offset len l o) n ls
 label_in-file_ranges len n [] o = refl
 label_in-file_ranges len n (l ∷ ls) o =
@@ -36,7 +36,7 @@ label_in-address_ranges n [] x a = refl
 label_in-address_ranges n (l ∷ ls) x a =
     ap (λ b. cond b (Some n) (label_in (address_ranges (n + 1) ls) x)) (has-address_range n l x (x / 2 ^ 64) (x % 2 ^ 64) (omega arith) (omega arith) (All-head IsLoad l ls a).ends) ∙ ap (λ r. cond (load_has_address l (space_of x) (address_of x)) (Some n) r) (label_in-address_ranges (n + 1) ls x (All-tail IsLoad l ls a))
 
--- the first load that covers an offset
+-- The first load that covers an offset.
 pub record CoversOffset (len : ℕ) (ls : List Load) (o k : ℕ) (l : Load) : Type 0 where
   pub within : k < length ls
   pub covers : load_has_offset len l o ≡ true
@@ -85,7 +85,7 @@ first_covers_offset len ls o i d e =
 pub offset_bounds : (len : ℕ) (l : Load) (o : ℕ) → load_has_offset len l o ≡ true → (l.offset ≤ o) × (o < l.offset + load_len l) × (o < len)
 offset_bounds len l o e = (grind (arith, nat_tests), grind (arith, nat_tests), grind (arith, nat_tests))
 
--- the first load that covers a position
+-- The first load that covers a position.
 pub record CoversAddress (len : ℕ) (ls : List Load) (q r k : ℕ) (l : Load) : Type 0 where
   pub within : k < length ls
   pub covers : load_has_address l q r ≡ true
@@ -140,7 +140,7 @@ unmapped n (l ∷ ls) q r e = none_mapped n l ls q r (load_has_address l q r) e 
 pub address_bounds : (l : Load) (q r : ℕ) → load_has_address l q r ≡ true → (q ≡ l.space) × (l.vaddr ≤ r) × (r < l.vaddr + l.memsz)
 address_bounds l q r e = (grind (arith, nat_tests), grind (arith, nat_tests), grind (arith, nat_tests))
 
--- an offset has an address below 2^64
+-- An offset has an address below 2^64.
 pub placed_mapped : (len : ℕ) (ls : List Load) (q r v : ℕ) → place len ls q r ≡ Some v → mapped ls q r ≡ true
 placed_mapped len [] q r v e = absurd (none-some v e)
 placed_mapped len (l ∷ ls) q r v e = step len l ls q r v (load_has_address l q r) e (placed_mapped len ls q r v)
@@ -157,11 +157,11 @@ pub place_none : (len n : ℕ) (ls : List Load) (q r : ℕ) → first_number (λ
 place_none len n [] q r e = refl
 place_none len n (l ∷ ls) q r e = none_placed len n l ls q r (load_has_address l q r) e (place_none len (n + 1) ls q r)
 
--- the space and the address of a position
+-- The space and the address of a position.
 pub split_position : (x q r : ℕ) → x ≡ q * 2 ^ 64 + r → r < 2 ^ 64 → (space_of x ≡ q) × (address_of x ≡ r)
 split_position x q r e h = (let s : x / 2 ^ 64 ≡ q = omega arith in s, let s : x % 2 ^ 64 ≡ r = omega arith in s)
 
--- the first load of an address, by a cut
+-- The first load of an address, by a cut.
 pub load_at : (ls : List Load) (ps : List Piece) (x q r : ℕ) → IsCut (load_of_position ls) ps → x ≡ q * 2 ^ 64 + r → r < 2 ^ 64 → label_in ps x ≡ first_number (λ (l : Load). load_has_address l q r) 0 ls
 load_at ls ps x q r c e h =
     let s = split_position x q r e h in

@@ -1,4 +1,4 @@
--- What is true of the parts of every base.
+-- The properties of the parts of every base.
 use Rattle.std.specs.Prelude.{◌<◌, ◌≤◌, ◌^◌, All, length}
 use Rattle.size_model.specs.Cut.{IsCut}
 use Rattle.size_model.specs.Loads.{IsLoad}
@@ -8,6 +8,7 @@ use Rattle.dual_map.specs.declared.way.Way.TheVariants.{ToFile, ToMemory, InMemo
 use Rattle.dual_map.specs.Layout.{load_of_offset, load_of_position}
 use Rattle.dual_map.specs.Way.{source_of, Carries}
 
+-- The properties of the parts of every base.
 pub record IsBase (b : Inside) : Type 0 where
   pub len_fits : b.file_len < 2 ^ 63
   pub loads_fit : All IsLoad b.loads.items

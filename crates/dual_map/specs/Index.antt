@@ -1,26 +1,27 @@
--- Stretches by where their sources start, with how far their sources reach.
+-- Stretches sorted by the starts of their sources, with the greatest ends of these sources.
 use Rattle.std.specs.Prelude.{◌≡◌, ◌+◌, ◌-◌, ◌<◌, ◌≤◌, ℕ, min, max, nat_lt, List, map, filter, All, length, get_or}
 use Rattle.std.specs.List.Sorted.{IsNonDecreasing, IsNonDecreasingBy}
 use Rattle.size_model.specs.declared.piece.Piece.{Piece}
 use Rattle.dual_map.specs.declared.way.Stretch.{Stretch}
 use Rattle.dual_map.specs.Way.{IsSmall, no_stretch}
 
--- the first number past a stretch's sources
+-- The first number after a stretch's sources.
 abbrev pub source_end : Stretch → ℕ
 source_end s = s.source + s.len
 
--- no source of the stretches up to one reaches past its number here, and these numbers rise
+-- Bounds of the sources: none of the stretches up to one reaches past the bound there, and the bounds rise.
 pub record IsReach (ss : List Stretch) (reaches : List ℕ) : Type 0 where
   pub same : length reaches ≡ length ss
   pub rise : IsNonDecreasing reaches
   pub covers : (k : ℕ) → k < length ss → source_end (get_or ss k no_stretch) ≤ get_or reaches k 0
 
+-- Stretches sorted by the starts of their sources, with these bounds.
 pub record IsIndex (ss : List Stretch) (reaches : List ℕ) : Type 0 where
   pub sorted : IsNonDecreasingBy (λ (s : Stretch). s.source) ss
   pub small : All IsSmall ss
   pub reach : IsReach ss reaches
 
--- what of a stretch's targets is carried from low up to high
+-- The targets of the sources from low up to high, as a labelled range.
 abbrev pub clipped : ℕ → ℕ → ℕ → Stretch → Piece
 clipped low high label s = record {
   start = s.target + (max low s.source - s.source);
@@ -28,10 +29,10 @@ clipped low high label s = record {
   label = label;
 }
 
--- the ranges that are not empty
+-- The ranges that aren't empty.
 abbrev pub kept : List Piece → List Piece
 kept ps = filter (λ (p : Piece). nat_lt 0 p.len) ps
 
--- what is carried from low up to high
+-- The targets of all stretches for the sources from low up to high.
 abbrev pub carried : ℕ → ℕ → ℕ → List Stretch → List Piece
 carried low high label ss = kept (map (clipped low high label) ss)

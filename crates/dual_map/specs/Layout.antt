@@ -1,47 +1,49 @@
--- What contracts see of a base and of a pair of maps, and which load covers an offset and a position first.
+-- A base and a pair of maps as contracts see them, and the first load that covers an offset or a position.
 use Rattle.std.specs.Prelude.{◌≡◌, ◌+◌, ◌<◌, ℕ, max, length, All, Bool, nat_lt, is_some, if◌then◌else◌, List, [], ◌∷◌, Option, None, Some}
 use Rattle.size_core.specs.declared.claim.Load.{Load}
 use Rattle.size_model.specs.declared.piece.Piece.{Piece}
 use Rattle.size_model.specs.Cut.{label_in, IsCut, IsTidy}
 use Rattle.size_model.specs.Loads.{load_has_offset, load_has_address, is_mapped, space_of, address_of}
 
--- a file of len bytes with its loads in order
+-- A file: its length in bytes, and its loads in order.
 pub record Layout : Type 0 where
   pub len : ℕ
   pub loads : List Load
 
--- the pieces of the two maps of a data source
+-- The pieces of the two maps of a data source.
 pub record Maps : Type 0 where
   pub file : List Piece
   pub vm : List Piece
 
+-- Both lists of pieces are tidy.
 pub record AreTidy (offsets positions : List Piece) : Type 0 where
   pub file : IsTidy offsets
   pub vm : IsTidy positions
 
--- the file's map labels exactly the offsets of the file, and the other exactly the mapped positions
+-- The file map labels exactly the offsets of the file, and the VM map exactly the mapped positions.
 pub record IsOver (layout : Layout) (m : Maps) : Type 0 where
   pub offsets : (o : ℕ) → is_some (label_in m.file o) ≡ nat_lt o layout.len
   pub positions : (p : ℕ) → is_some (label_in m.vm p) ≡ is_mapped layout.loads p
 
--- each label of the maps is below a number
+-- Each label of the maps is below n.
 pub record LabelsBelow (n : ℕ) (m : Maps) : Type 0 where
   pub file : All (λ (p : Piece). p.label < n) m.file
   pub vm : All (λ (p : Piece). p.label < n) m.vm
 
--- the number of the first load that passes, counted from i on
+-- The number of the first load that passes the test, counted from i on.
 abbrev pub first_number : (Load → Bool) → ℕ → List Load → Option ℕ
 first_number test i [] = None
 first_number test i (l ∷ ls) = if test l then Some i else first_number test (i + 1) ls
 
--- the first load that covers an offset, and the first that covers a position
+-- The number of the first load that covers an offset of the file.
 abbrev pub load_of_offset : ℕ → List Load → ℕ → Option ℕ
 load_of_offset len loads o = first_number (λ (l : Load). load_has_offset len l o) 0 loads
 
+-- The number of the first load that covers a position.
 abbrev pub load_of_position : List Load → ℕ → Option ℕ
 load_of_position loads p = first_number (λ (l : Load). load_has_address l (space_of p) (address_of p)) 0 loads
 
--- the larger of two numbers of pieces: of the cut of offsets by their first loads, and of that of positions
+-- The larger of two numbers of pieces: those of the offsets by their first loads, and those of the positions.
 pub record HasPieces (layout : Layout) (b : ℕ) : Type 0 where
   pub offsets : List Piece
   pub positions : List Piece

@@ -1,4 +1,4 @@
-//! The loads of a file, ready for translation.
+//! The loads of a file, with indices for translating between file offsets and virtual addresses.
 
 ghost use Rattle.std.specs.Prelude.{◌≡◌, ◌+◌, ◌*◌, ◌^◌, ◌<◌, ◌≤◌, ℕ, length, max, IfOk, All};
 ghost use Rattle.size_model.specs.Cut.{IsCut};
@@ -17,17 +17,17 @@ use size_core::{Claim, Load, NoMemory};
 use std::alloc::{AllocError, Global};
 use std::marker::Model;
 
-/// The loads of a file of a certain length, over which the maps of its data sources are built. Contracts see
-/// the length and the list of loads.
+/// The loads of a file, and the file's length. The maps of its data sources are built over a base. Contracts
+/// see the length and the list of loads.
 #[derive(Debug, Drop)]
 pub struct Base {
     file_len: u64,
     loads: Vec<Load>,
-    // The number of the first load of each offset, and of each position.
+    // For each offset, and for each position, the number of the first load that covers it.
     offsets: RangeMap,
     positions: RangeMap,
-    // Offsets by the positions that they are loaded to, positions by the offsets that they are loaded from, and
-    // mapped positions as they stand.
+    // Three translations: from positions to the offsets that are loaded there, from offsets to the positions
+    // that they are loaded to, and from each mapped position to itself.
     to_file: Stretches,
     to_memory: Stretches,
     in_memory: Stretches,
@@ -44,7 +44,7 @@ impl Model for Base {
     ghost invariant = { IsBase };
 }
 
-// The offsets that each load covers, under the load's number.
+// The offsets that each load covers, labelled with the load's number.
 fn offsets_of(alloc: Global, file_len: u64, loads: &[Load]) -> Result<Vec<Piece>, AllocError>
     ensures ranges { IfOk result (λ v. v.items ≡ file_ranges file_len 0 loads.now) }
     ensures fits { IfOk result (λ v. All IsRange v.items) }
@@ -61,7 +61,7 @@ fn offsets_of(alloc: Global, file_len: u64, loads: &[Load]) -> Result<Vec<Piece>
     Ok(ranges)
 }
 
-// The positions that each load covers, under the load's number.
+// The positions that each load covers, labelled with the load's number.
 fn positions_of(alloc: Global, loads: &[Load]) -> Result<Vec<Piece>, AllocError>
     requires { All IsLoad loads.now }
     ensures ranges { IfOk result (λ v. v.items ≡ address_ranges 0 loads.now) }
@@ -78,7 +78,8 @@ fn positions_of(alloc: Global, loads: &[Load]) -> Result<Vec<Piece>, AllocError>
     Ok(ranges)
 }
 
-// The offset at which an address lies in a load that covers it.
+// The file offset of an address in this load. `None` where the load doesn't cover the address, or has no byte
+// of the file there.
 fn offset_in(file_len: u64, load: &Load, address: u64) -> Option<u64>
     ensures { result ≡ place_in file_len load.now address }
 {
@@ -92,8 +93,8 @@ fn offset_in(file_len: u64, load: &Load, address: u64) -> Option<u64>
 }
 
 impl Base {
-    /// The base of a file of `file_len` bytes, fewer than 2^63, with these loads in their order. Each load ends
-    /// by the end of its address space.
+    /// The base of a file of `file_len` bytes, fewer than 2^63, with these loads in their order. Each load lies
+    /// completely in its address space.
     pub fn from_loads(alloc: Global, file_len: u64, loads: &[Load]) -> Result<Base, NoMemory>
         requires loads_fit { All IsLoad loads.now }
         requires len_fits { file_len < 2 ^ 63 }
@@ -125,8 +126,8 @@ impl Base {
         self.file_len
     }
 
-    /// The address space and virtual address of a file offset, by the first load that covers it; `None` where
-    /// no load does.
+    /// The address space and the virtual address of a file offset, by the first load that covers it. `None`
+    /// where no load does.
     pub fn to_vm(&self, offset: u64) -> Option<(u32, u64)>
         ensures { result ≡ addr self.now.len self.now.loads offset }
     {
@@ -135,8 +136,8 @@ impl Base {
         Some((load.space, load.vaddr + (offset - load.offset)))
     }
 
-    /// The file offset that is loaded to a virtual address of an address space, by the first load that covers the
-    /// address; `None` where no load does, or where the load has no byte of the file there.
+    /// The file offset of a virtual address in an address space, by the first load that covers the address.
+    /// `None` where no load does, or where the load has no byte of the file there.
     pub fn to_file(&self, space: u32, address: u64) -> Option<u64>
         ensures { result ≡ place self.now.len self.now.loads space address }
     {
@@ -151,7 +152,7 @@ impl Base {
         label_of(&self.positions, position(space, address)).is_some()
     }
 
-    /// How many addresses are mapped, over all spaces. An address that several loads cover is one address.
+    /// The number of mapped addresses over all spaces. An address that several loads cover counts once.
     pub fn mapped_size(&self) -> u128
         ensures { result ≡ mapped_count self.now.loads }
     {
@@ -163,8 +164,8 @@ impl Base {
         total
     }
 
-    /// The larger of two numbers of pieces: of the offsets by the first load that covers each, and of the
-    /// addresses.
+    /// The larger of two numbers of pieces: those of the offsets by the first load that covers each, and those
+    /// of the addresses.
     pub fn pieces(&self) -> usize
         ensures count { HasPieces self.now result }
         ensures few { result ≤ 2 * length self.now.loads + 1 }
@@ -172,7 +173,7 @@ impl Base {
         self.offsets.len().max(self.positions.len())
     }
 
-    // The label of each offset by the first claim that covers it.
+    // The label of each offset, by the first claim that covers it.
     pub(crate) fn file_map(
         &self,
         alloc: Global,
@@ -198,7 +199,7 @@ impl Base {
         RangeMap::build(alloc, ranges.as_slice())
     }
 
-    // The label of each mapped address by the first claim that covers it.
+    // The label of each mapped address, by the first claim that covers it.
     pub(crate) fn vm_map(
         &self,
         alloc: Global,

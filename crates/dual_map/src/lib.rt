@@ -1,6 +1,7 @@
-//! The two maps of a data source on a file: of its offsets, and of its mapped virtual addresses.
+//! The two maps of a data source for a file: one over the file's offsets, one over its mapped virtual
+//! addresses.
 //!
-//! A position of the address spaces is `space * 2^64 + address`.
+//! A virtual address in an address space is one position: `space * 2^64 + address`.
 #![tactic(auto)]
 
 mod base;
@@ -12,6 +13,3 @@ mod way;
 
 pub use base::Base;
 pub use maps::DualMap;
-
-#[cfg(test)]
-mod tests;

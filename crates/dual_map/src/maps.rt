@@ -11,8 +11,8 @@ use size_core::{Claim, NoMemory};
 use std::alloc::Global;
 use std::marker::Model;
 
-/// The labels that one data source gives the bytes of a file: of the file's offsets, and of its mapped
-/// virtual addresses. Contracts see the pieces of both maps.
+/// The labels that one data source gives a file: a map over the file's offsets, and a map over its mapped
+/// virtual addresses. Contracts see the pieces of both.
 #[derive(Debug, Drop)]
 pub struct DualMap {
     file: RangeMap,
@@ -31,7 +31,7 @@ impl Model for DualMap {
 
 impl DualMap {
     /// The maps of a data source's claims, in their order, over the base of a file of `file_len` bytes. The
-    /// first claim that covers a byte gives its label, and `unmapped` is the label of one that none covers.
+    /// first claim that covers a byte gives its label. A byte that no claim covers gets the label `unmapped`.
     pub fn build(
         alloc: Global,
         base: &Base,
@@ -47,7 +47,7 @@ impl DualMap {
         ensures labels { IfOk result (λ m. (n : ℕ)
             → unmapped < n → All (λ c. c.label < n) claims.now → LabelsBelow n m) }
 
-        // How many pieces there are, where b is the base's `pieces()`, and by the number of loads.
+        // The number of pieces is bounded, by the base's `pieces()` and by the number of loads.
         ensures few_file { IfOk result (λ m. (b : ℕ) → HasPieces base.now b
             → length m.file ≤ 2 * (length claims.now * max 1 b + 1) + 1) }
         ensures few_vm { IfOk result (λ m. (b : ℕ) → HasPieces base.now b
@@ -60,7 +60,7 @@ impl DualMap {
         Ok(DualMap { file, vm })
     }
 
-    /// The label of each offset of the file.
+    /// The map over the file's offsets.
     pub fn file_map(&self) -> &RangeMap
         ensures value { result.now ≡ self.now.file }
         ensures tidy { IsTidy result.now }
@@ -68,7 +68,7 @@ impl DualMap {
         &self.file
     }
 
-    /// The label of each mapped position, `space * 2^64 + address`.
+    /// The map over mapped positions, `space * 2^64 + address`.
     pub fn vm_map(&self) -> &RangeMap
         ensures value { result.now ≡ self.now.vm }
         ensures tidy { IsTidy result.now }

@@ -1,4 +1,4 @@
-//! The ranges that a claim labels, on either side.
+//! The ranges of offsets and of positions that a claim labels.
 
 ghost use Rattle.std.specs.Prelude.{◌≡◌, ◌+◌, ◌^◌, ◌<◌, ◌++◌, OnOk, All};
 ghost use Rattle.range_map.specs.Ranges.{IsRange};
@@ -18,7 +18,7 @@ fn low_of(span: &Span) -> u128
     position(span.space, span.start)
 }
 
-// The first position past a span of addresses, which ends with its space.
+// The end of a span of addresses. It is clipped to its address space.
 fn high_of(span: &Span) -> u128
     ensures { result ≡ high_of span.now }
 {
@@ -26,7 +26,7 @@ fn high_of(span: &Span) -> u128
     position(span.space, 0) + end.min(1 << 64)
 }
 
-// What of a span of offsets lies in a file of `file_len` bytes.
+// The part of a span of offsets that lies in a file of `file_len` bytes.
 fn in_file(file_len: u64, label: usize, span: &Span) -> Piece
     ensures value { result ≡ in_file file_len label span.now }
     ensures fits { IsRange result }

@@ -1,4 +1,4 @@
-//! Reads of a range map that no caller counts.
+//! Look-ups in a range map whose steps no caller counts.
 
 ghost use Rattle.std.specs.Prelude.{◌≡◌, ◌<◌, ◌≤◌, ◌^◌, length, slice_get, Some};
 ghost use Rattle.size_model.specs.Cut.{end_of, label_in};
@@ -37,7 +37,7 @@ fn read<L: Ledger>(map: &RangeMap, i: usize, blank: Blank) -> Piece
     map.piece(i, &mut steps)
 }
 
-/// The piece of a number.
+/// The piece at an index.
 pub fn piece_of(map: &RangeMap, i: usize) -> Piece
     requires { i < length map.now }
     ensures value { slice_get map.now i ≡ Some result }

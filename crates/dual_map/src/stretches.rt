@@ -1,4 +1,4 @@
-//! Stretches in the order of their sources, of which those that a span can meet are found by a binary search.
+//! Stretches sorted by their sources. A binary search finds those that overlap a span.
 
 ghost use Rattle.std.specs.Prelude.{◌≡◌, ◌+◌, ◌^◌, ◌<◌, ◌≤◌, ◌++◌, [], ◌∷◌, OnOk, IfOk, All};
 ghost use Rattle.std.specs.List.Sorted.{IsPermutation};
@@ -14,11 +14,11 @@ use size_core::{Load, NoMemory};
 use std::alloc::{AllocError, Global};
 use std::marker::Model;
 
-/// Stretches by where their sources start. Contracts see the list of them.
+/// Stretches sorted by the starts of their sources. Contracts see the list of them.
 #[derive(Debug, Drop)]
 pub struct Stretches {
     stretches: Vec<Stretch>,
-    // How far the sources of the stretches up to each one reach.
+    // For each stretch, the greatest end of the sources of all stretches up to it.
     reaches: Vec<u128>,
 }
 
@@ -34,7 +34,7 @@ impl Model for Stretches {
     ghost invariant = { λ s. IsIndex s.stretches.items s.reaches.items };
 }
 
-// Adds a stretch, unless it is empty.
+// Appends a stretch, unless it is empty.
 fn keep(out: &mut Vec<Stretch>, stretch: Stretch) -> Result<(), AllocError>
     requires all_small { All IsSmall out.old.items }
     requires small { IsSmall stretch }
@@ -47,7 +47,7 @@ fn keep(out: &mut Vec<Stretch>, stretch: Stretch) -> Result<(), AllocError>
     Ok(())
 }
 
-// What is carried to each piece, by the load of its label.
+// The stretches that lead to each piece, by the load that is the piece's label.
 fn gathered(
     alloc: Global,
     pieces: &RangeMap,
@@ -69,7 +69,7 @@ fn gathered(
     Ok(stretches)
 }
 
-// How far the sources of the stretches up to each one reach.
+// For each stretch, the greatest end of the sources of all stretches up to it.
 fn reaches_of(alloc: Global, stretches: &[Stretch]) -> Result<Vec<u128>, AllocError>
     requires { All IsSmall stretches.now }
     ensures { IfOk result (λ v. IsReach stretches.now v.items) }
@@ -83,7 +83,7 @@ fn reaches_of(alloc: Global, stretches: &[Stretch]) -> Result<Vec<u128>, AllocEr
     Ok(reaches)
 }
 
-// What of a stretch's targets is carried from `low` up to `high`.
+// The targets of the sources from `low` up to `high`, as a labelled range.
 fn clip(stretch: &Stretch, low: u128, high: u128, label: usize) -> Piece
     requires small { IsSmall stretch.now }
     requires low_fits { low ≤ 2 ^ 96 }
@@ -99,7 +99,7 @@ fn clip(stretch: &Stretch, low: u128, high: u128, label: usize) -> Piece
     }
 }
 
-/// Adds a range, unless it is empty.
+/// Appends a range, unless it is empty.
 pub fn push_some(out: &mut Vec<Piece>, range: Piece) -> Result<(), AllocError>
     requires ranges { All IsRange out.old.items }
     requires fits { 0 < range.len → IsRange range }
@@ -113,7 +113,7 @@ pub fn push_some(out: &mut Vec<Piece>, range: Piece) -> Result<(), AllocError>
 }
 
 impl Stretches {
-    /// What is carried to the pieces of a map, each by the load of its label.
+    /// The stretches that lead to the pieces of a map, each by the load that is the piece's label.
     pub fn build(
         alloc: Global,
         pieces: &RangeMap,
@@ -131,7 +131,7 @@ impl Stretches {
         Ok(Stretches { stretches, reaches })
     }
 
-    /// Adds the ranges that are carried from `low` up to `high`, under a label.
+    /// Appends the targets of the sources from `low` up to `high`, with this label.
     pub fn carry(
         &self,
         out: &mut Vec<Piece>,

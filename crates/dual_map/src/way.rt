@@ -1,4 +1,4 @@
-//! The ways between the offsets of a file and the positions of its address spaces.
+//! Translations between the offsets of a file and the positions of its address spaces.
 
 ghost use Rattle.std.specs.Prelude.{◌≡◌, ◌+◌, ◌^◌, ◌<◌, ◌≤◌};
 ghost use Rattle.dual_map.specs.Way.{stretch_of, position_at, position_of_load, LiesIn, IsSmall};
@@ -6,7 +6,7 @@ ghost use Rattle.dual_map.specs.Way.{stretch_of, position_at, position_of_load, 
 use range_map::Piece;
 use size_core::Load;
 
-/// `len` numbers from `source` on, which stand in the same order from `target` on.
+/// A run of `len` numbers from `source` on, translated in order to the numbers from `target` on.
 #[derive(Clone, Copy, Debug)]
 pub struct Stretch {
     pub source: u128,
@@ -14,18 +14,18 @@ pub struct Stretch {
     pub len: u128,
 }
 
-/// From which numbers a claim is carried to which others.
+/// The direction of a translation.
 #[derive(Clone, Copy, Debug)]
 pub enum Way {
     /// From positions to the offsets that are loaded there.
     ToFile,
-    /// From offsets to the positions that are loaded from there.
+    /// From offsets to the positions that they are loaded to.
     ToMemory,
-    /// From mapped positions to themselves.
+    /// From each mapped position to itself.
     InMemory,
 }
 
-/// The position of an address of a space.
+/// The position of an address in an address space.
 pub fn position(space: u32, address: u64) -> u128
     ensures value { result ≡ position_at (space, address) }
     ensures fits { result < 2 ^ 96 }
@@ -44,7 +44,7 @@ pub fn position_of(load: &Load) -> u128
 }
 
 impl Way {
-    /// What is carried to a piece, by the load of the piece in a file of `file_len` bytes.
+    /// The stretch that leads to a piece, by the piece's load in a file of `file_len` bytes.
     pub fn stretch_of(self, file_len: u64, load: &Load, piece: &Piece) -> Stretch
         requires load_fits { load.now.vaddr + load.now.memsz ≤ 2 ^ 64 }
         requires lies { LiesIn self load.now piece.now }

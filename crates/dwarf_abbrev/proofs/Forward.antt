@@ -1,4 +1,4 @@
--- Each reading leaves fewer bytes.
+-- Each read leaves fewer bytes.
 use Rattle.std.proofs.Common.{◌≡◌, ℕ, ℤ, pos, zero, suc, ◌+◌, ◌-◌, ◌*◌, ◌%◌, ◌<◌, ◌≤◌, ◌==◌, Bool, true, false, List, [], ◌∷◌, length, drop, Option, Some, None, Result, Ok, Err, refl, ap, arith, length-drop}
 use Rattle.std.proofs.lemmas.Grind.{common_steps}
 use Rattle.std.specs.Prelude.{nat_lt, slice_index, if◌then◌else◌}
@@ -16,9 +16,9 @@ use Rattle.dwarf_abbrev.specs.declared.declaration.Head.{Head}
 use Rattle.dwarf_abbrev.specs.Reads.{uleb_from, sleb_from, byte_from, num_from, faults_at}
 use Rattle.dwarf_abbrev.specs.Lengths.{length_behind, checked_length, initial_length_from}
 use Rattle.dwarf_abbrev.specs.Listing.{left, listing_from, going_on, Shortens}
-use Rattle.dwarf_abbrev.specs.Declarations.{constant_from, is_end, spec_behind, spec_from, specs_from, head_behind, head_from, Declaration, declaration_behind, declaration_from, declarations_from}
+use Rattle.dwarf_abbrev.specs.Declarations.{constant_from, is_end, rest_of_spec, spec_from, specs_from, rest_of_head, head_from, Declaration, rest_of_declaration, declaration_from, declarations_from}
 
--- fewer bytes than n are left behind what is read
+-- Fewer than n bytes remain after a read.
 abbrev pub Below : {X : Type 0} → ℕ → Result (X × Window) BadFile → Type 0
 Below n (Ok x) = left x.1 < n
 Below n (Err e) = Unit {0}
@@ -35,7 +35,7 @@ if_below : {A : Type 0} (n : ℕ) (b : Bool) (r s : Result (A × Window) BadFile
 if_below n true r s h k = h
 if_below n false r s h k = k
 
--- a number takes a byte at least
+-- A number takes at least one byte.
 leb_takes : (ys : List ℕ) (x : ℕ × ℕ) → leb ys ≡ Some x → (0 < x.1) × (0 < length ys)
 unfolding leb
 leb_takes [] x h = cc
@@ -97,10 +97,10 @@ constant_below form w = if_below (suc (left w)) (form == DW_FORM_IMPLICIT_CONST)
     weaker (Ok x) h = let lt : left x.1 < left w = h in omega arith
     weaker (Err e) h = tt
 
--- an attribute of a declaration takes bytes, and so does their end
-spec_behind_below : (attribute form : ℕ) (w : Window) → Below (suc (left w)) (spec_behind attribute form w)
-unfolding spec_behind
-spec_behind_below attribute form w = if_below (suc (left w)) (is_end attribute form) (Ok (None, w)) _ (omega arith)
+-- An attribute specification takes bytes, and so does the end of the list.
+rest_of_spec_below : (attribute form : ℕ) (w : Window) → Below (suc (left w)) (rest_of_spec attribute form w)
+unfolding rest_of_spec
+rest_of_spec_below attribute form w = if_below (suc (left w)) (is_end attribute form) (Ok (None, w)) _ (omega arith)
     (bind_below (suc (left w)) (suc (left w)) (constant_from form w) _ (constant_below form w) (λ c lt. lt))
 
 weaker : {X : Type 0} (m n : ℕ) (r : Result (X × Window) BadFile) → m ≤ n → Below m r → Below n r
@@ -111,7 +111,7 @@ pub spec_below : (w : Window) → Below (left w) (spec_from w)
 unfolding spec_from
 spec_below w = bind_below (left w) (left w) (uleb_from w) _ (uleb_below w) (λ attribute less.
     bind_below (left attribute.1) (left w) (uleb_from attribute.1) _ (uleb_below attribute.1) (λ form fewer.
-    weaker (suc (left form.1)) (left w) (spec_behind attribute.0 form.0 form.1) (omega arith) (spec_behind_below attribute.0 form.0 form.1)))
+    weaker (suc (left form.1)) (left w) (rest_of_spec attribute.0 form.0 form.1) (omega arith) (rest_of_spec_below attribute.0 form.0 form.1)))
 
 pub below_at : {X : Type 0} (n : ℕ) (r : Result (X × Window) BadFile) (x : X) (next : Window) → Below n r → r ≡ Ok (x, next) → left next < n
 below_at {X = X} n (Ok y) x next h is = let same : y ≡ (x, next) = cc in let e : left y.1 ≡ left next = ap (λ (p : X × Window). left p.1) same in omega (arith, h)
@@ -120,7 +120,7 @@ below_at n (Err e) x next h is = cc
 pub spec_shortens : Shortens spec_from
 spec_shortens w next i is = below_at (left w) (spec_from w) (Some i) next (spec_below w) is
 
--- the end of the records of a window has no more bytes left than the window
+-- After the records of a window no more bytes remain than in the window.
 pub end_below : {X : Type 0} (read : Window → Result (Option X × Window) BadFile) → ((w : Window) → Below (suc (left w)) (read w)) → (fuel : ℕ) (w next : Window) → (listing_from read fuel w).end ≡ Ok next → left next ≤ left w
 unfolding listing_from
 end_below read below zero w next is = cc
@@ -149,13 +149,13 @@ no_record {X = X} i at next none is e =
     let first : None ≡ Some i = ap (λ (p : Option X × Window). p.0) pair in
     cc
 
-head_behind_below : (code : ℕ) (w : Window) → Below (suc (left w)) (head_behind code w)
-unfolding head_behind
-head_behind_below code w = if_below (suc (left w)) (code == 0) (Ok (None, w)) _ (omega arith)
+rest_of_head_below : (code : ℕ) (w : Window) → Below (suc (left w)) (rest_of_head code w)
+unfolding rest_of_head
+rest_of_head_below code w = if_below (suc (left w)) (code == 0) (Ok (None, w)) _ (omega arith)
     (bind_below (left w) (suc (left w)) (uleb_from w) _ (uleb_below w) (λ tag less.
     bind_below (left tag.1) (suc (left w)) (byte_from tag.1) _ (byte_below tag.1) (λ children fewer. omega arith)))
 
--- the head of a declaration takes a byte at least
+-- The head of a declaration takes at least one byte.
 head_some : {X : Type 0} (n : ℕ) (r : Result (Option X × Window) BadFile) (next : Window) (i : X) → Below n r → r ≡ Ok (Some i, next) → left next < n
 head_some n r next i h is = below_at n r (Some i) next h is
 
@@ -163,10 +163,10 @@ pub head_shortens : Shortens head_from
 unfolding head_from
 head_shortens w next i is = by_end (left w == 0) is
   where
-    by_end : (b : Bool) → (if b then Ok (None, w) else uleb_from w >>= (λ code. head_behind code.0 code.1)) ≡ Ok (Some i, next) → left next < left w
+    by_end : (b : Bool) → (if b then Ok (None, w) else uleb_from w >>= (λ code. rest_of_head code.0 code.1)) ≡ Ok (Some i, next) → left next < left w
     by_end true e = absurd (no_record i w next (Ok (None, w)) refl e)
-    by_end false e = below_at (left w) (uleb_from w >>= (λ code. head_behind code.0 code.1)) (Some i) next
-        (bind_below (left w) (left w) (uleb_from w) _ (uleb_below w) (λ code less. weaker (suc (left code.1)) (left w) (head_behind code.0 code.1) (omega arith) (head_behind_below code.0 code.1))) e
+    by_end false e = below_at (left w) (uleb_from w >>= (λ code. rest_of_head code.0 code.1)) (Some i) next
+        (bind_below (left w) (left w) (uleb_from w) _ (uleb_below w) (λ code less. weaker (suc (left code.1)) (left w) (rest_of_head code.0 code.1) (omega arith) (rest_of_head_below code.0 code.1))) e
 
 with_specs : Head → Window → Window → Result (Option Declaration × Window) BadFile
 with_specs head at behind = Ok (Some (record { code = head.code; tag = head.tag; specs = (specs_from at).items }), behind)
@@ -176,35 +176,35 @@ unfolding with_specs
 specs_below n head at (Err e) h = tt
 specs_below n head at (Ok behind) h = h behind refl
 
--- a declaration takes a byte at least, and their end none
-declaration_behind_below : (n : ℕ) (head : Option Head) (w : Window) → left w < n → Below n (declaration_behind head w)
-unfolding declaration_behind with_specs
-declaration_behind_below n None w lt = lt
-declaration_behind_below n (Some head) w lt = specs_below n head w (specs_from w).end (λ behind ends. let le : left behind ≤ left w = specs_end w behind ends in omega arith)
+-- A declaration takes at least one byte, and the end of the table none.
+rest_of_declaration_below : (n : ℕ) (head : Option Head) (w : Window) → left w < n → Below n (rest_of_declaration head w)
+unfolding rest_of_declaration with_specs
+rest_of_declaration_below n None w lt = lt
+rest_of_declaration_below n (Some head) w lt = specs_below n head w (specs_from w).end (λ behind ends. let le : left behind ≤ left w = specs_end w behind ends in omega arith)
 
 pub declaration_shortens : Shortens declaration_from
-unfolding declaration_from declaration_behind
+unfolding declaration_from rest_of_declaration
 declaration_shortens w next i is = by_head (head_from w) refl is
   where
-    by_head : (h : Result (Option Head × Window) BadFile) → head_from w ≡ h → (h >>= λ head. declaration_behind head.0 head.1) ≡ Ok (Some i, next) → left next < left w
+    by_head : (h : Result (Option Head × Window) BadFile) → head_from w ≡ h → (h >>= λ head. rest_of_declaration head.0 head.1) ≡ Ok (Some i, next) → left next < left w
     by_head (Err e) reads e' = cc
     by_head (Ok (None, at)) reads e = absurd (no_record i at next (Ok (None, at)) refl e)
-    by_head (Ok (Some head, at)) reads e = below_at (left w) (declaration_behind (Some head) at) (Some i) next (declaration_behind_below (left w) (Some head) at (head_shortens w at head reads)) e
+    by_head (Ok (Some head, at)) reads e = below_at (left w) (rest_of_declaration (Some head) at) (Some i) next (rest_of_declaration_below (left w) (Some head) at (head_shortens w at head reads)) e
 
 head_below : (w : Window) → Below (suc (left w)) (head_from w)
 unfolding head_from
 head_below w = if_below (suc (left w)) (left w == 0) (Ok (None, w)) _ (omega arith)
-    (bind_below (left w) (suc (left w)) (uleb_from w) _ (uleb_below w) (λ code fewer. weaker (suc (left code.1)) (suc (left w)) (head_behind code.0 code.1) (omega arith) (head_behind_below code.0 code.1)))
+    (bind_below (left w) (suc (left w)) (uleb_from w) _ (uleb_below w) (λ code fewer. weaker (suc (left code.1)) (suc (left w)) (rest_of_head code.0 code.1) (omega arith) (rest_of_head_below code.0 code.1)))
 
 declaration_below : (w : Window) → Below (suc (left w)) (declaration_from w)
 unfolding declaration_from
-declaration_below w = bind_below (suc (left w)) (suc (left w)) (head_from w) _ (head_below w) (λ head fewer. declaration_behind_below (suc (left w)) head.0 head.1 fewer)
+declaration_below w = bind_below (suc (left w)) (suc (left w)) (head_from w) _ (head_below w) (λ head fewer. rest_of_declaration_below (suc (left w)) head.0 head.1 fewer)
 
--- and so has the end of the declarations
+-- The same for the end of the declarations.
 pub declarations_end : (w next : Window) → (declarations_from w).end ≡ Ok next → left next ≤ left w
 declarations_end w next is = end_below declaration_from declaration_below (suc (left w)) w next is
 
--- a number of some width takes a byte at least
+-- A number of some width takes at least one byte.
 pub num_below : (width : Width) (order : Order) (w : Window) → 0 < byte_len width → Below (left w) (num_from width order w)
 unfolding num_from
 num_below width order w some = by_size (nat_lt (length w.bytes) (w.at + byte_len width)) refl
@@ -225,7 +225,7 @@ placed_below : {X : Type 0} (n place : ℕ) (r : Result (X × Window) BadFile) �
 placed_below n place (Ok x) h = h
 placed_below n place (Err e) h = tt
 
--- an initial length takes a byte at least
+-- An initial length takes at least one byte.
 pub length_below : (order : Order) (w : Window) → Below (left w) (initial_length_from order w)
 unfolding initial_length_from checked_length
 length_below order w = placed_below (left w) (place_of w) _ (bind_below (left w) (left w) (num_from w32 order w) _ (num_below w32 order w (omega arith)) (λ first fewer.

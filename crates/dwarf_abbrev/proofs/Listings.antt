@@ -5,7 +5,7 @@ use Rattle.byte_cursor.specs.Window.{Window}
 use Rattle.dwarf_abbrev.specs.Listing.{left, going_on, listing_from, listing, Shortens}
 
 module _ {X : Type 0} (read : Window → Result (Option X × Window) BadFile) (shortens : Shortens read) where
-  -- two fuels that are both enough
+  -- Two amounts of fuel that are both enough give the same records.
   pub same_fuel : (m n : ℕ) (w : Window) → left w < m → left w < n → listing_from read m w ≡ listing_from read n w
   unfolding listing_from
   same_fuel zero n w p q = absurd (omega arith)
@@ -18,14 +18,14 @@ module _ {X : Type 0} (read : Window → Result (Option X × Window) BadFile) (s
       by_reading rests (Ok (None, next)) is = rw is refl
       by_reading rests (Ok (Some i, next)) is = rw (is, rests next (shortens w next i is)) refl
 
-  -- a record, and then those behind it
+  -- A record, and then the rest of the list.
   pub listing_more : (w next : Window) (i : X) → read w ≡ Ok (Some i, next) → listing read w ≡ record { items = i ∷ (listing read next).items; end = (listing read next).end }
   unfolding listing_from
   listing_more w next i is =
       let fewer : left next < left w = shortens w next i is in
       rw (is, same_fuel (left w) (suc (left next)) next (omega arith) (omega arith)) refl
 
-  -- or the end, or the fault
+  -- The end of the list, or the fault.
   pub listing_done : (w next : Window) → read w ≡ Ok (None, next) → listing read w ≡ record { items = []; end = Ok next }
   unfolding listing_from
   listing_done w next is = rw is refl

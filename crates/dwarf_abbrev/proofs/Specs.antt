@@ -1,4 +1,4 @@
--- The attributes of a declaration, one after another.
+-- The attribute specifications of a declaration, one after another.
 use Rattle.std.proofs.Common.{◌≡◌, ◌<◌, [], ◌∷◌, Some, None, Ok, Err}
 use Rattle.size_core.specs.declared.fault.BadFile.{BadFile}
 use Rattle.byte_cursor.specs.Window.{Window}

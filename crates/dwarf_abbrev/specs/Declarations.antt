@@ -10,84 +10,89 @@ use Rattle.dwarf_abbrev.specs.declared.declaration.Head.{Head}
 use Rattle.dwarf_abbrev.specs.Reads.{inside, uleb_from, sleb_from, byte_from}
 use Rattle.dwarf_abbrev.specs.Listing.{Listing, left, listing}
 
--- the constant that stands behind one form
+-- The constant that follows a form: only `DW_FORM_implicit_const` has one, and any other form has 0 (DWARF 5,
+-- section 7.5.3).
 unfoldable pub constant_from : ℕ → Window → Result (ℤ × Window) BadFile
 constant_from form w = if form == DW_FORM_IMPLICIT_CONST then sleb_from w else Ok (pos 0, w)
 
--- an attribute and a form of 0 end the attributes
+-- Whether a pair of numbers ends the attributes of a declaration: an attribute and a form of 0 (DWARF 5,
+-- section 7.5.3).
 abbrev pub is_end : ℕ → ℕ → Bool
 is_end attribute form = attribute == 0 && form == 0
 
--- an attribute behind its number and its form
-unfoldable pub spec_behind : ℕ → ℕ → Window → Result (Option Spec × Window) BadFile
-spec_behind attribute form w =
+-- An attribute specification after its two numbers, or the end of the list (DWARF 5, section 7.5.3).
+unfoldable pub rest_of_spec : ℕ → ℕ → Window → Result (Option Spec × Window) BadFile
+rest_of_spec attribute form w =
     if is_end attribute form then Ok (None, w)
     else constant_from form w >>= (λ c. Ok (Some (record { attribute = attribute; form = form; constant = c.0 }), c.1))
 
--- an attribute of a declaration, or their end
+-- An attribute specification of a declaration, or the end of the list (DWARF 5, section 7.5.3).
 unfoldable pub spec_from : Window → Result (Option Spec × Window) BadFile
 spec_from w = do
   attribute ← uleb_from w
   form ← uleb_from attribute.1
-  spec_behind attribute.0 form.0 form.1
+  rest_of_spec attribute.0 form.0 form.1
 
--- the attributes of a declaration
+-- All attribute specifications of a declaration (DWARF 5, section 7.5.3).
 abbrev pub specs_from : Window → Listing Spec
 specs_from w = listing spec_from w
 
--- a declaration: its code, the tag of its entries, and their attributes
+-- A declaration: its code, the tag of its entries, and their attribute specifications (DWARF 5, section 7.5.3).
 pub record Declaration : Type 0 where
   pub code : ℕ
   pub tag : ℕ
   pub specs : List Spec
 
--- the tag behind a code, and the byte that tells of children; a code of 0 ends the table
-unfoldable pub head_behind : ℕ → Window → Result (Option Head × Window) BadFile
-head_behind code w =
+-- The head of a declaration after its code: the tag, and the byte that says whether entries have children. A
+-- code of 0 ends the table (DWARF 5, section 7.5.3).
+unfoldable pub rest_of_head : ℕ → Window → Result (Option Head × Window) BadFile
+rest_of_head code w =
     if code == 0 then Ok (None, w)
     else uleb_from w >>= (λ tag. byte_from tag.1 >>= (λ children. Ok (Some (record { code = code; tag = tag.0 }), children.1)))
 
--- the head of a declaration, or the table's end, as which that of the section counts, too
+-- The head of a declaration, or the end of the table: a code of 0, or the end of the section (DWARF 5, section
+-- 7.5.3).
 unfoldable pub head_from : Window → Result (Option Head × Window) BadFile
-head_from w = if left w == 0 then Ok (None, w) else uleb_from w >>= (λ code. head_behind code.0 code.1)
+head_from w = if left w == 0 then Ok (None, w) else uleb_from w >>= (λ code. rest_of_head code.0 code.1)
 
--- the declaration behind its head
-unfoldable pub declaration_behind : Option Head → Window → Result (Option Declaration × Window) BadFile
-declaration_behind None w = Ok (None, w)
-declaration_behind (Some head) w = (specs_from w).end >>= λ next. Ok (Some (record { code = head.code; tag = head.tag; specs = (specs_from w).items }), next)
+-- The rest of a declaration after its head (DWARF 5, section 7.5.3).
+unfoldable pub rest_of_declaration : Option Head → Window → Result (Option Declaration × Window) BadFile
+rest_of_declaration None w = Ok (None, w)
+rest_of_declaration (Some head) w = (specs_from w).end >>= λ next. Ok (Some (record { code = head.code; tag = head.tag; specs = (specs_from w).items }), next)
 
--- a declaration, or the table's end
+-- A declaration, or the end of the table: a code of 0, or the end of the section (DWARF 5, section 7.5.3).
 unfoldable pub declaration_from : Window → Result (Option Declaration × Window) BadFile
-declaration_from w = head_from w >>= λ head. declaration_behind head.0 head.1
+declaration_from w = head_from w >>= λ head. rest_of_declaration head.0 head.1
 
--- the declarations of a table
+-- All declarations of a table (DWARF 5, section 7.5.3).
 abbrev pub declarations_from : Window → Listing Declaration
 declarations_from w = listing declaration_from w
 
--- the declarations of a table have no fault
+-- The declarations of a table have no fault.
 abbrev pub IsWhole : Window → Type 0
 IsWhole w = IsOk (declarations_from w).end
 
--- a table of declarations: its place in the file, how many bytes it has, and the declarations
+-- A table of declarations: its file offset, its length in bytes, and its declarations.
 pub record Table : Type 0 where
   pub place : ℕ
   pub len : ℕ
   pub declarations : List Declaration
 
--- the table that begins in this window
+-- The table that begins in this window, or its first fault (DWARF 5, section 7.5.3).
 abbrev pub table_in : Option Window → ℕ → Result Table BadFile
 table_in None place = bad OffsetOutside place
 table_in (Some w) place = (declarations_from w).end >>= λ next. Ok (record { place = place_of w; len = left w - left next; declarations = (declarations_from w).items })
 
--- The table at an offset of the section. Where it isn't in the section, that is a fault at this place.
+-- The table at an offset of the section, or its first fault. Where the offset is outside the section, the fault
+-- has the file offset `place` (DWARF 5, section 7.5.3).
 unfoldable pub table_at : Window → ℕ → ℕ → Result Table BadFile
 table_at section offset place = table_in (inside section offset) place
 
--- the first declaration with a code
+-- The first declaration with this code (DWARF 5, section 7.5.3).
 abbrev pub declared : List Declaration → ℕ → Option Declaration
 declared declarations code = find (λ d. d.code == code) declarations
 
--- a declaration that is kept is the first one with its code
+-- A cached declaration is the first one with its code.
 abbrev pub IsKept : List Declaration → Option Declaration → Type 0
 IsKept declarations None = Unit {0}
 IsKept declarations (Some d) = declared declarations d.code ≡ Some d

@@ -1,5 +1,4 @@
--- The forms of attribute values (DWARF 5, section 7.5.6), how the bytes of each stand and what they mean (section
--- 7.5.5).
+-- The forms of attribute values (DWARF 5, section 7.5.6), their encodings, and their meanings (section 7.5.5).
 use Rattle.std.specs.Prelude.{ℕ, ◌==◌, Option, Some, None, if◌then◌else◌}
 use Rattle.dwarf_abbrev.specs.declared.constants.TheConstants.{DW_FORM_ADDR, DW_FORM_BLOCK2, DW_FORM_BLOCK4, DW_FORM_DATA2, DW_FORM_DATA4, DW_FORM_DATA8, DW_FORM_STRING, DW_FORM_BLOCK, DW_FORM_BLOCK1, DW_FORM_DATA1, DW_FORM_FLAG, DW_FORM_SDATA, DW_FORM_STRP, DW_FORM_UDATA, DW_FORM_REF_ADDR, DW_FORM_REF1, DW_FORM_REF2, DW_FORM_REF4, DW_FORM_REF8, DW_FORM_REF_UDATA, DW_FORM_INDIRECT, DW_FORM_SEC_OFFSET, DW_FORM_EXPRLOC, DW_FORM_FLAG_PRESENT, DW_FORM_STRX, DW_FORM_ADDRX, DW_FORM_REF_SUP4, DW_FORM_STRP_SUP, DW_FORM_DATA16, DW_FORM_LINE_STRP, DW_FORM_REF_SIG8, DW_FORM_IMPLICIT_CONST, DW_FORM_LOCLISTX, DW_FORM_RNGLISTX, DW_FORM_REF_SUP8, DW_FORM_STRX1, DW_FORM_STRX2, DW_FORM_STRX3, DW_FORM_STRX4, DW_FORM_ADDRX1, DW_FORM_ADDRX2, DW_FORM_ADDRX3, DW_FORM_ADDRX4, DW_FORM_GNU_ADDR_INDEX, DW_FORM_GNU_STR_INDEX, DW_FORM_GNU_REF_ALT, DW_FORM_GNU_STRP_ALT}
 use Rattle.dwarf_abbrev.specs.declared.shape.UnitShape.{UnitShape}
@@ -11,7 +10,7 @@ use Rattle.dwarf_abbrev.specs.Reads.{address_digits, offset_digits}
 use Rattle.dwarf_abbrev.specs.declared.form.Layout.{Layout}
 use Rattle.dwarf_abbrev.specs.declared.form.Layout.TheVariants.{Number, Signed, Text, Counted, Bytes, Implicit}
 
--- the form of a number
+-- The form with this number (DWARF 5, section 7.5.6, table 7.6).
 unfoldable pub form_of : ℕ → Option Form
 form_of n =
     if n == DW_FORM_ADDR then Some Addr else
@@ -63,7 +62,8 @@ form_of n =
     if n == DW_FORM_GNU_STRP_ALT then Some GnuStrpAlt else
     None
 
--- how the bytes of a form's value stand
+-- The encoding of a form's values and what they mean: the table of forms (DWARF 5, sections 7.5.5 and 7.5.6;
+-- DWARF 2, section 7.5.4 for `DW_FORM_ref_addr`).
 unfoldable pub layout_of : UnitShape → Form → Layout
 layout_of s Addr = Number (address_digits s.address) Address
 layout_of s Data1 = Number One Constant

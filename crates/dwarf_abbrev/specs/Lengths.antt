@@ -10,17 +10,18 @@ use Rattle.dwarf_abbrev.specs.declared.constants.TheConstants.{FIRST_RESERVED_LE
 use Rattle.dwarf_abbrev.specs.declared.length.InitialLength.{InitialLength}
 use Rattle.dwarf_abbrev.specs.Reads.{num_from, faults_at}
 
--- the length behind its first four bytes, and whether offsets have eight bytes
+-- The rest of an initial length after its first four bytes, with whether offsets have eight bytes (DWARF 5,
+-- section 7.4).
 abbrev pub length_behind : Order → ℕ × Window → Result (InitialLength × Window) BadFile
 length_behind order first =
     if first.0 == WIDE_LENGTH then num_from w64 order first.1 >>= (λ n. Ok (record { len = n.0; wide = true }, n.1))
     else Ok (record { len = first.0; wide = false }, first.1)
 
--- the first four bytes of a length are reserved
+-- Whether the first four bytes of a length are reserved (DWARF 5, section 7.4).
 abbrev pub is_reserved : ℕ → Bool
 is_reserved first = nat_le FIRST_RESERVED_LENGTH first && not (first == WIDE_LENGTH)
 
--- a length with its checks
+-- An initial length with its checks (DWARF 5, section 7.4).
 unfoldable pub checked_length : Order → Window → Result (InitialLength × Window) BadFile
 checked_length order w = do
   first ← num_from w32 order w
@@ -29,7 +30,8 @@ checked_length order w = do
   demand (nat_le (initial.1.at + initial.0.len) (length initial.1.bytes)) BadUnit (place_of w)
   Ok initial
 
--- An initial length, and the window at the contents whose length it says. Each fault stands at its place: Truncated
--- where it isn't whole, BadUnit where its first four bytes are reserved, and where the contents pass the window's end.
+-- An initial length, and the window after it. Each fault has the length's file offset: Truncated where it isn't
+-- complete, BadUnit where its first four bytes are reserved or the contents reach past the end of the window
+-- (DWARF 5, section 7.4).
 unfoldable pub initial_length_from : Order → Window → Result (InitialLength × Window) BadFile
 initial_length_from order w = faults_at (place_of w) (checked_length order w)

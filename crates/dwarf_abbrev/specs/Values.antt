@@ -17,7 +17,7 @@ use Rattle.dwarf_abbrev.specs.declared.value.Content.{Content}
 use Rattle.dwarf_abbrev.specs.Forms.{form_of, layout_of}
 use Rattle.dwarf_abbrev.specs.Reads.{faults_at, uleb_from, sleb_from, text_from, skip_from, number_from}
 
--- what a value says
+-- The content of an attribute's value (DWARF 5, section 7.5.5).
 pub data Meaning : Type 0 where
   AnAddress : ℕ → Meaning
   AnAddrIndex : ℕ → Meaning
@@ -31,12 +31,12 @@ pub data Meaning : Type 0 where
   AListIndex : ℕ → Meaning
   NoMeaning : Meaning
 
--- a value, and where it stands in the file
+-- A value of an attribute, with its file offset.
 pub record ValueRecord : Type 0 where
   pub place : ℕ
   pub content : Meaning
 
--- a value as contracts see it
+-- The content of a value, as contracts see it.
 abbrev pub meaning : Content → Meaning
 meaning (Content.Address n) = AnAddress n
 meaning (Content.AddrIndex n) = AnAddrIndex n
@@ -50,26 +50,27 @@ meaning (Content.SecOffset n) = ASecOffset n
 meaning (Content.ListIndex n) = AListIndex n
 meaning Content.Other = NoMeaning
 
+-- A value with its file offset, as contracts see it.
 abbrev pub shown : Value → ValueRecord
 shown v = record { place = v.place; content = meaning v.content }
 
--- what a number says
-abbrev pub said : Sense → ℕ → Meaning
-said Address n = AnAddress n
-said AddrIndex n = AnAddrIndex n
-said Constant n = AConstant n
-said StrOffset n = AStrOffset n
-said LineStrOffset n = ALineStrOffset n
-said StrIndex n = AStrIndex n
-said SectionOffset n = ASecOffset n
-said ListIndex n = AListIndex n
-said Other n = NoMeaning
+-- The content that a number encodes.
+abbrev pub number_content : Sense → ℕ → Meaning
+number_content Address n = AnAddress n
+number_content AddrIndex n = AnAddrIndex n
+number_content Constant n = AConstant n
+number_content StrOffset n = AStrOffset n
+number_content LineStrOffset n = ALineStrOffset n
+number_content StrIndex n = AStrIndex n
+number_content SectionOffset n = ASecOffset n
+number_content ListIndex n = AListIndex n
+number_content Other n = NoMeaning
 
--- a value of this layout, which is neither in the declaration nor behind the number of its form
+-- A value whose form is given, that is neither implicit nor indirect (DWARF 5, section 7.5.5).
 unfoldable pub plain_from : Order → Layout → Window → Result (Meaning × Window) BadFile
 plain_from order (Number digits sense) w = do
   n ← number_from order digits w
-  Ok (said sense n.0, n.1)
+  Ok (number_content sense n.0, n.1)
 plain_from order Signed w = do
   n ← sleb_from w
   Ok (ASigned n.0, n.1)
@@ -86,16 +87,17 @@ plain_from order (Bytes count) w = do
 plain_from order Implicit w = bad UnknownForm (place_of w)
 plain_from order Indirect w = bad UnknownForm (place_of w)
 
--- the layout of the values of a form's number
+-- The encoding of the form with this number, where there is such a form.
 abbrev pub layout_of_number : UnitShape → ℕ → Option Layout
 layout_of_number s n = option_map (layout_of s) (form_of n)
 
--- a value of this layout, if the form has one
+-- A value in this encoding; UnknownForm where there is none.
 abbrev pub known_from : Order → Option Layout → Window → Result (Meaning × Window) BadFile
 known_from order None w = bad UnknownForm (place_of w)
 known_from order (Some layout) w = plain_from order layout w
 
--- A value of this layout: what the declaration says, or what stands behind the number of a form, or what stands here.
+-- A value in this encoding: the constant of the declaration for an implicit form, a value of the form that
+-- follows for an indirect one, or else the bytes here (DWARF 5, sections 7.5.3 and 7.5.5).
 unfoldable pub content_by : UnitShape → ℤ → Option Layout → Window → Result (Meaning × Window) BadFile
 content_by s constant None w = bad UnknownForm (place_of w)
 content_by s constant (Some Implicit) w = Ok (ASigned constant, w)
@@ -104,8 +106,8 @@ content_by s constant (Some Indirect) w = do
   known_from s.order (layout_of_number s form.0) form.1
 content_by s constant (Some layout) w = plain_from s.order layout w
 
--- The value of an attribute, whose faults all stand at its place: UnknownForm, Truncated where it doesn't fit the
--- window, BadLeb where a number in it is too large.
+-- The value of an attribute. Each fault has its file offset: UnknownForm, Truncated where it reaches past the
+-- end of the window, BadLeb where a number in it is too large (DWARF 5, section 7.5.5).
 unfoldable pub value_from : UnitShape → Spec → Window → Result (ValueRecord × Window) BadFile
 value_from s spec w = faults_at (place_of w) do
   content ← content_by s spec.constant (layout_of_number s spec.form) w

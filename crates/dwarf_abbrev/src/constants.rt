@@ -1,10 +1,10 @@
-//! The numbers of the standard that are told apart: the reserved lengths (DWARF 5, section 7.4) and the forms of
-//! attribute values (section 7.5.6, table 7.6), with the four forms that GNU tools write beside them.
+//! The constants of the standard that this crate distinguishes: reserved lengths (DWARF 5, section 7.4) and
+//! forms of attribute values (section 7.5.6, table 7.6), with the four forms that GNU tools add.
 
-/// The first four bytes of a length that are reserved begin here, and ffffffff is among them.
+/// The least reserved value of a length's first four bytes. All values from here to 0xffffffff are reserved.
 pub const FIRST_RESERVED_LENGTH: u32 = 0xffff_fff0;
 
-/// The first four bytes of a length of eight bytes, which follow.
+/// The first four bytes of a length in the 64-bit format. The length follows in eight bytes.
 pub const WIDE_LENGTH: u32 = 0xffff_ffff;
 
 /// `DW_FORM_addr`

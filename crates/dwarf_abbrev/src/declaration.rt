@@ -3,7 +3,7 @@
 ghost use Rattle.std.specs.Prelude.{◌≡◌, ◌≤◌, OnOk, ◌∷◌, []};
 ghost use Rattle.dwarf_abbrev.specs.Reads.{Reads};
 ghost use Rattle.dwarf_abbrev.specs.Listing.{Reaches, left};
-ghost use Rattle.dwarf_abbrev.specs.Declarations.{constant_from, is_end, spec_behind, spec_from, specs_from, head_behind, head_from};
+ghost use Rattle.dwarf_abbrev.specs.Declarations.{constant_from, is_end, rest_of_spec, spec_from, specs_from, rest_of_head, head_from};
 
 use crate::constants::DW_FORM_IMPLICIT_CONST;
 use crate::reads::{sleb_from, u8_from, uleb_from};
@@ -11,14 +11,14 @@ use crate::spec::Spec;
 use byte_cursor::Cursor;
 use size_core::BadFile;
 
-/// What stands before the attributes of a declaration.
+/// The fields of a declaration before its attributes.
 #[derive(Clone, Copy, Debug)]
 pub struct Head {
     pub code: u64,
     pub tag: u64,
 }
 
-/// The constant that stands behind one form.
+/// The constant after a form. Only `DW_FORM_implicit_const` has one; it is 0 for any other form.
 #[tactic(auto, unfolding(crate::specs::Declarations::constant_from))]
 fn constant_from(cursor: &mut Cursor, form: u64) -> Result<i64, BadFile>
     ensures { Reads (λ x. x) result cursor.new (constant_from form cursor.old) }
@@ -30,17 +30,17 @@ fn constant_from(cursor: &mut Cursor, form: u64) -> Result<i64, BadFile>
     }
 }
 
-/// Whether these end the attributes.
+/// Whether this pair of numbers ends the list of attributes.
 fn is_end(attribute: u64, form: u64) -> bool
     ensures { result ≡ is_end attribute form }
 {
     attribute == 0 && form == 0
 }
 
-/// An attribute behind its number and its form.
-#[tactic(auto, unfolding(crate::specs::Declarations::spec_behind))]
-fn spec_behind(cursor: &mut Cursor, attribute: u64, form: u64) -> Result<Option<Spec>, BadFile>
-    ensures { Reads (λ x. x) result cursor.new (spec_behind attribute form cursor.old) }
+/// The rest of an attribute specification, after its number and its form. `None` at the end of the list.
+#[tactic(auto, unfolding(crate::specs::Declarations::rest_of_spec))]
+fn rest_of_spec(cursor: &mut Cursor, attribute: u64, form: u64) -> Result<Option<Spec>, BadFile>
+    ensures { Reads (λ x. x) result cursor.new (rest_of_spec attribute form cursor.old) }
 {
     if is_end(attribute, form) {
         return Ok(None);
@@ -53,17 +53,17 @@ fn spec_behind(cursor: &mut Cursor, attribute: u64, form: u64) -> Result<Option<
     }))
 }
 
-/// An attribute of a declaration, or their end.
+/// Reads an attribute specification. `None` at the end of the list.
 #[tactic(auto, unfolding(crate::specs::Declarations::spec_from))]
 pub fn spec_from(cursor: &mut Cursor) -> Result<Option<Spec>, BadFile>
     ensures { Reads (λ x. x) result cursor.new (spec_from cursor.old) }
 {
     let attribute = uleb_from(cursor)?;
     let form = uleb_from(cursor)?;
-    spec_behind(cursor, attribute, form)
+    rest_of_spec(cursor, attribute, form)
 }
 
-/// Passes the attributes of a declaration.
+/// Skips the attribute specifications of a declaration.
 #[tactic(auto, using(crate::proofs::Specs::specs_more, crate::proofs::Specs::specs_less, crate::proofs::Specs::specs_done, crate::proofs::Specs::specs_bad))]
 pub fn pass_specs(cursor: &mut Cursor) -> Result<(), BadFile>
     ensures { Reaches result cursor.new (specs_from cursor.old) }
@@ -72,10 +72,11 @@ pub fn pass_specs(cursor: &mut Cursor) -> Result<(), BadFile>
     Ok(())
 }
 
-/// The tag behind a code, and the byte that tells of children; or the table's end.
-#[tactic(auto, unfolding(crate::specs::Declarations::head_behind))]
-fn head_behind(cursor: &mut Cursor, code: u64) -> Result<Option<Head>, BadFile>
-    ensures { Reads (λ x. x) result cursor.new (head_behind code cursor.old) }
+/// The rest of a declaration's head, after its code: the tag and the byte that says whether entries have
+/// children. `None` where the code is 0, the end of the table.
+#[tactic(auto, unfolding(crate::specs::Declarations::rest_of_head))]
+fn rest_of_head(cursor: &mut Cursor, code: u64) -> Result<Option<Head>, BadFile>
+    ensures { Reads (λ x. x) result cursor.new (rest_of_head code cursor.old) }
 {
     if code == 0 {
         return Ok(None);
@@ -85,7 +86,7 @@ fn head_behind(cursor: &mut Cursor, code: u64) -> Result<Option<Head>, BadFile>
     Ok(Some(Head { code, tag }))
 }
 
-/// The head of a declaration, or the table's end.
+/// Reads the head of a declaration. `None` at the end of the table.
 #[tactic(auto, unfolding(crate::specs::Declarations::head_from))]
 pub fn head_from(cursor: &mut Cursor) -> Result<Option<Head>, BadFile>
     ensures { Reads (λ x. x) result cursor.new (head_from cursor.old) }
@@ -94,5 +95,5 @@ pub fn head_from(cursor: &mut Cursor) -> Result<Option<Head>, BadFile>
         return Ok(None);
     }
     let code = uleb_from(cursor)?;
-    head_behind(cursor, code)
+    rest_of_head(cursor, code)
 }

@@ -9,7 +9,7 @@ use crate::spec::Spec;
 use byte_cursor::Cursor;
 use std::marker::Model;
 
-/// A declaration of entries, and an iterator over their attributes in order.
+/// A declaration of entries. It is an iterator over their attribute specifications, in order.
 #[derive(Drop)]
 pub struct Entry<'a> {
     head: Head,
@@ -25,14 +25,14 @@ impl<'a> Model for Entry<'a> {
 }
 
 impl<'a> Entry<'a> {
-    /// The declaration of this head whose attributes stand at the cursor's place.
+    /// The declaration with this head. The cursor is at its first attribute specification.
     pub(crate) fn new(head: Head, cursor: Cursor<'a>) -> Entry<'a>
         ensures { result ≡ record { code = head.code; tag = head.tag; specs = (specs_from cursor.entry).items } }
     {
         Entry { head, cursor }
     }
 
-    /// The same declaration, with the attributes that are left.
+    /// A copy of the declaration with the attribute specifications that remain.
     pub fn fork(&self) -> Entry<'a>
         ensures { result ≡ self.now }
     {
@@ -42,7 +42,7 @@ impl<'a> Entry<'a> {
         }
     }
 
-    /// The code by which entries name the declaration.
+    /// The code that entries use to refer to the declaration.
     pub fn code(&self) -> u64
         ensures { result ≡ self.now.code }
     {

@@ -1,4 +1,4 @@
-//! The forms of attribute values, and how the bytes of each stand (DWARF 5, sections 7.5.5 and 7.5.6).
+//! The forms of attribute values and their encodings (DWARF 5, sections 7.5.5 and 7.5.6).
 
 ghost use Rattle.std.specs.Prelude.{◌≡◌};
 ghost use Rattle.dwarf_abbrev.specs.Forms.{form_of, layout_of};
@@ -17,7 +17,7 @@ use crate::constants::{
 };
 use crate::shape::UnitShape;
 
-/// A form of an attribute's value, by the standard's name (DWARF 5, section 7.5.6).
+/// A form of attribute values, with the standard's name (DWARF 5, section 7.5.6).
 #[derive(Clone, Copy, Debug, PartialEq, Eq)]
 pub enum Form {
     Addr,
@@ -69,7 +69,7 @@ pub enum Form {
     GnuStrpAlt,
 }
 
-/// How a number is spelled: in so many bytes, or as a LEB128 number without a sign.
+/// The encoding of an unsigned number: a fixed number of bytes, or unsigned LEB128.
 #[derive(Clone, Copy, Debug, PartialEq, Eq)]
 pub enum Digits {
     One,
@@ -80,7 +80,7 @@ pub enum Digits {
     Uleb,
 }
 
-/// What the number of a value means.
+/// What a number means as the value of an attribute.
 #[derive(Clone, Copy, Debug, PartialEq, Eq)]
 pub enum Sense {
     Address,
@@ -94,26 +94,26 @@ pub enum Sense {
     Other,
 }
 
-/// How the bytes of a value stand.
+/// The encoding of a value.
 #[derive(Clone, Copy, Debug, PartialEq, Eq)]
 pub enum Layout {
     /// A number.
     Number(Digits, Sense),
-    /// A LEB128 number with a sign.
+    /// A signed LEB128 number.
     Signed,
-    /// Bytes up to a zero byte.
+    /// A string with a terminating null byte.
     Text,
-    /// A number of bytes, and then so many.
+    /// A byte count, and then that many bytes.
     Counted(Digits),
-    /// So many bytes.
+    /// A fixed number of bytes.
     Bytes(u64),
-    /// None: the declaration has the value.
+    /// No bytes. The declaration holds the value.
     Implicit,
-    /// The number of another form, and then a value of it.
+    /// The number of another form, and then a value of that form.
     Indirect,
 }
 
-/// The form of a number.
+/// The form with this number.
 #[tactic(auto, unfolding(crate::specs::Forms::form_of))]
 pub fn form_of(number: u64) -> Option<Form>
     ensures { result ≡ form_of number }
@@ -170,7 +170,7 @@ pub fn form_of(number: u64) -> Option<Form>
     }
 }
 
-/// How an address is spelled.
+/// The encoding of an address of `size` bytes.
 pub fn address_digits(size: u8) -> Digits
     ensures { result ≡ address_digits size }
 {
@@ -181,14 +181,14 @@ pub fn address_digits(size: u8) -> Digits
     }
 }
 
-/// How an offset into a section is spelled.
+/// The encoding of an offset into a section, in the 64-bit format (`wide`) or the 32-bit format.
 pub fn offset_digits(wide: bool) -> Digits
     ensures { result ≡ offset_digits wide }
 {
     if wide { Digits::Eight } else { Digits::Four }
 }
 
-/// How the bytes of a form's value stand.
+/// The encoding of a form's values.
 #[tactic(auto, unfolding(crate::specs::Forms::layout_of))]
 pub fn layout_of(form: Form, shape: &UnitShape) -> Layout
     ensures { result ≡ layout_of shape.now form }

@@ -4,9 +4,9 @@ ghost use Rattle.std.specs.Prelude.{◌≡◌, [], ◌∷◌};
 ghost use Rattle.dwarf_abbrev.specs.declared.constants.TheConstants.{FIRST_RESERVED_LENGTH, WIDE_LENGTH, DW_FORM_ADDR, DW_FORM_BLOCK2, DW_FORM_BLOCK4, DW_FORM_DATA2, DW_FORM_DATA4, DW_FORM_DATA8, DW_FORM_STRING, DW_FORM_BLOCK, DW_FORM_BLOCK1, DW_FORM_DATA1, DW_FORM_FLAG, DW_FORM_SDATA, DW_FORM_STRP, DW_FORM_UDATA, DW_FORM_REF_ADDR, DW_FORM_REF1, DW_FORM_REF2, DW_FORM_REF4, DW_FORM_REF8, DW_FORM_REF_UDATA, DW_FORM_INDIRECT, DW_FORM_SEC_OFFSET, DW_FORM_EXPRLOC, DW_FORM_FLAG_PRESENT, DW_FORM_STRX, DW_FORM_ADDRX, DW_FORM_REF_SUP4, DW_FORM_STRP_SUP, DW_FORM_DATA16, DW_FORM_LINE_STRP, DW_FORM_REF_SIG8, DW_FORM_IMPLICIT_CONST, DW_FORM_LOCLISTX, DW_FORM_RNGLISTX, DW_FORM_REF_SUP8, DW_FORM_STRX1, DW_FORM_STRX2, DW_FORM_STRX3, DW_FORM_STRX4, DW_FORM_ADDRX1, DW_FORM_ADDRX2, DW_FORM_ADDRX3, DW_FORM_ADDRX4, DW_FORM_GNU_ADDR_INDEX, DW_FORM_GNU_STR_INDEX, DW_FORM_GNU_REF_ALT, DW_FORM_GNU_STRP_ALT};
 ghost use Rattle.dwarf_abbrev.specs.Laws.{SpecsFollow, DeclarationsFollow};
 
-/// The numbers of the standard that are told apart are these: the reserved lengths (DWARF 5, section 7.4), the
-/// forms of DWARF 2 to 4 and those of DWARF 5 (section 7.5.6, table 7.6), and those of GNU tools.
-pub fn constants_are_those_of_the_standard()
+/// The constants have the numbers of the standard: reserved lengths (DWARF 5, section 7.4), forms of DWARF 2 to
+/// 4, forms of DWARF 5 (section 7.5.6, table 7.6), and the forms of GNU tools.
+pub fn standard_numbers()
     ensures lengths { (FIRST_RESERVED_LENGTH ∷ WIDE_LENGTH ∷ []) ≡ (0xfffffff0 ∷ 0xffffffff ∷ []) }
     ensures early { (DW_FORM_ADDR ∷ DW_FORM_BLOCK2 ∷ DW_FORM_BLOCK4 ∷ DW_FORM_DATA2 ∷ DW_FORM_DATA4 ∷ DW_FORM_DATA8
         ∷ DW_FORM_STRING ∷ DW_FORM_BLOCK ∷ DW_FORM_BLOCK1 ∷ DW_FORM_DATA1 ∷ DW_FORM_FLAG ∷ DW_FORM_SDATA
@@ -26,8 +26,8 @@ pub fn constants_are_those_of_the_standard()
         ≡ (0x1f01 ∷ 0x1f02 ∷ 0x1f20 ∷ 0x1f21 ∷ []) }
 {}
 
-/// A table is read one declaration after another, and a declaration one attribute after another, each up to
-/// its end mark or a fault.
+/// A table is read declaration by declaration, and a declaration attribute by attribute. Each list ends at its
+/// end mark or at a fault.
 pub fn one_after_another()
     ensures specs { SpecsFollow }
     ensures declarations { DeclarationsFollow }

@@ -11,16 +11,16 @@ use crate::reads::{u32_from, u64_from};
 use byte_cursor::{Cursor, Order};
 use size_core::{BadFile, Fault};
 
-/// How long the contents of a unit, a table or a set are, and what its offsets are.
+/// The length and the format of a unit, a table or a set.
 #[derive(Clone, Copy, Debug, PartialEq, Eq, Hash)]
 pub struct InitialLength {
-    /// The bytes behind the length itself.
+    /// The number of bytes after the length field.
     pub len: u64,
-    /// Whether offsets have 8 bytes, as in the 64-bit format, or 4.
+    /// Whether offsets have 8 bytes (the 64-bit format) or 4 (the 32-bit format).
     pub wide: bool,
 }
 
-/// The length behind its first four bytes.
+/// The rest of a length, after its first four bytes.
 fn length_behind(cursor: &mut Cursor, first: u32, order: Order) -> Result<InitialLength, BadFile>
     ensures { Reads (λ x. x) result cursor.new (length_behind order (first, cursor.old)) }
 {
@@ -42,7 +42,7 @@ fn is_reserved(first: u32) -> bool
     first >= FIRST_RESERVED_LENGTH && first != WIDE_LENGTH
 }
 
-/// The fault of a length at this place.
+/// The fault of a length at this file offset.
 fn bad_unit(place: u64) -> Result<InitialLength, BadFile>
     ensures { result ≡ bad BadUnit place }
 {
@@ -52,7 +52,7 @@ fn bad_unit(place: u64) -> Result<InitialLength, BadFile>
     })
 }
 
-/// An initial length with its checks.
+/// Reads an initial length and checks it.
 #[tactic(auto, unfolding(crate::specs::Lengths::checked_length))]
 fn checked_length(cursor: &mut Cursor, order: Order) -> Result<InitialLength, BadFile>
     ensures { Reads (λ x. x) result cursor.new (checked_length order cursor.old) }
@@ -69,8 +69,8 @@ fn checked_length(cursor: &mut Cursor, order: Order) -> Result<InitialLength, Ba
     Ok(initial)
 }
 
-/// An initial length, which is passed: 4 bytes, or ffffffff and 8 bytes. Truncated where it isn't whole, and
-/// BadUnit where its first 4 bytes are fffffff0 to fffffffe, or where the contents pass the window's end.
+/// Reads an initial length: 4 bytes, or ffffffff and 8 bytes. Truncated where it isn't complete. BadUnit where
+/// its first four bytes are fffffff0 to fffffffe, or where the contents reach past the end of the window.
 #[tactic(auto, unfolding(crate::specs::Lengths::initial_length_from))]
 pub fn initial_length(cursor: &mut Cursor, order: Order) -> Result<InitialLength, BadFile>
     ensures { Takes (λ x. x) result cursor.old cursor.new (initial_length_from order cursor.old) }

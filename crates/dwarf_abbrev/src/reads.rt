@@ -1,5 +1,5 @@
-//! What is read of a window, with the window behind it: the numbers of DWARF, by which the crates above read,
-//! too. Each call stands its faults at the cursor's place as it began, and leaves it there after one.
+//! Reads of a window: the numbers and strings of DWARF. Each call moves the cursor past what it read. A fault
+//! has the file offset where the call began, and leaves the cursor there.
 
 ghost use Rattle.std.specs.Int.{w16, w32, w64};
 ghost use Rattle.std.specs.Prelude.{◌≡◌, ◌+◌, ◌*◌};
@@ -10,7 +10,7 @@ use crate::form::{Digits, address_digits, offset_digits};
 use byte_cursor::{Cursor, Order};
 use size_core::BadFile;
 
-/// A byte. Truncated where none is left.
+/// Reads a byte. Truncated where none is left.
 #[tactic(auto, unfolding(crate::specs::Reads::num_from))]
 pub fn u8_from(cursor: &mut Cursor) -> Result<u8, BadFile>
     ensures { Takes (λ n. n) result cursor.old cursor.new (byte_from cursor.old) }
@@ -18,7 +18,7 @@ pub fn u8_from(cursor: &mut Cursor) -> Result<u8, BadFile>
     cursor.u8()
 }
 
-/// A number of two bytes. Truncated where fewer are left.
+/// Reads a two-byte number. Truncated where fewer bytes are left.
 #[tactic(auto, unfolding(crate::specs::Reads::num_from))]
 pub fn u16_from(cursor: &mut Cursor, order: Order) -> Result<u16, BadFile>
     ensures { Takes (λ n. n) result cursor.old cursor.new (num_from w16 order cursor.old) }
@@ -26,7 +26,7 @@ pub fn u16_from(cursor: &mut Cursor, order: Order) -> Result<u16, BadFile>
     cursor.u16(order)
 }
 
-/// A number of four bytes. Truncated where fewer are left.
+/// Reads a four-byte number. Truncated where fewer bytes are left.
 #[tactic(auto, unfolding(crate::specs::Reads::num_from))]
 pub fn u32_from(cursor: &mut Cursor, order: Order) -> Result<u32, BadFile>
     ensures { Takes (λ n. n) result cursor.old cursor.new (num_from w32 order cursor.old) }
@@ -34,7 +34,7 @@ pub fn u32_from(cursor: &mut Cursor, order: Order) -> Result<u32, BadFile>
     cursor.u32(order)
 }
 
-/// A number of eight bytes. Truncated where fewer are left.
+/// Reads an eight-byte number. Truncated where fewer bytes are left.
 #[tactic(auto, unfolding(crate::specs::Reads::num_from))]
 pub fn u64_from(cursor: &mut Cursor, order: Order) -> Result<u64, BadFile>
     ensures { Takes (λ n. n) result cursor.old cursor.new (num_from w64 order cursor.old) }
@@ -42,7 +42,8 @@ pub fn u64_from(cursor: &mut Cursor, order: Order) -> Result<u64, BadFile>
     cursor.u64(order)
 }
 
-/// An unsigned LEB128 number. Truncated where it has no end, and BadLeb where it is above 2^64 - 1.
+/// Reads an unsigned LEB128 number. Truncated where it doesn't end in the window, and BadLeb where it exceeds
+/// 2^64 - 1.
 #[tactic(auto, unfolding(crate::specs::Reads::uleb_from))]
 pub fn uleb_from(cursor: &mut Cursor) -> Result<u64, BadFile>
     ensures { Takes (λ n. n) result cursor.old cursor.new (uleb_from cursor.old) }
@@ -50,7 +51,8 @@ pub fn uleb_from(cursor: &mut Cursor) -> Result<u64, BadFile>
     cursor.uleb()
 }
 
-/// A signed LEB128 number. Truncated where it has no end, and BadLeb where it doesn't fit 64 bits.
+/// Reads a signed LEB128 number. Truncated where it doesn't end in the window, and BadLeb where it doesn't fit
+/// in 64 bits.
 #[tactic(auto, unfolding(crate::specs::Reads::sleb_from))]
 pub fn sleb_from(cursor: &mut Cursor) -> Result<i64, BadFile>
     ensures { Takes (λ n. n) result cursor.old cursor.new (sleb_from cursor.old) }
@@ -58,7 +60,7 @@ pub fn sleb_from(cursor: &mut Cursor) -> Result<i64, BadFile>
     cursor.sleb()
 }
 
-/// The bytes before the next zero byte, which is passed. Truncated where there is none.
+/// Reads the bytes up to the next null byte, and skips the null byte. Truncated where there is none.
 #[tactic(auto, unfolding(crate::specs::Reads::text_from))]
 pub fn text_from<'a>(cursor: &mut Cursor<'a>) -> Result<&'a [u8], BadFile>
     ensures { Takes (λ t. t.now) result cursor.old cursor.new (text_from cursor.old) }
@@ -66,7 +68,7 @@ pub fn text_from<'a>(cursor: &mut Cursor<'a>) -> Result<&'a [u8], BadFile>
     cursor.cstr()
 }
 
-/// Passes so many bytes. Truncated where fewer are left.
+/// Skips `count` bytes. Truncated where fewer are left.
 #[tactic(auto, unfolding(crate::specs::Reads::skip_from))]
 pub fn skip_from(cursor: &mut Cursor, count: u64) -> Result<(), BadFile>
     ensures { Takes (λ u. u) result cursor.old cursor.new (skip_from count cursor.old) }
@@ -74,7 +76,7 @@ pub fn skip_from(cursor: &mut Cursor, count: u64) -> Result<(), BadFile>
     cursor.skip(count)
 }
 
-/// A number of three bytes.
+/// Reads a three-byte number.
 #[tactic(auto, unfolding(crate::specs::Reads::three_from))]
 fn three_from(cursor: &mut Cursor, order: Order) -> Result<u64, BadFile>
     ensures { Reads (λ n. n) result cursor.new (three_from order cursor.old) }
@@ -93,7 +95,7 @@ fn three_from(cursor: &mut Cursor, order: Order) -> Result<u64, BadFile>
     }
 }
 
-/// The same, which leaves the cursor where it was after a fault.
+/// Reads a three-byte number. On a fault the cursor doesn't move.
 fn whole_three_from(cursor: &mut Cursor, order: Order) -> Result<u64, BadFile>
     ensures { Takes (λ n. n) result cursor.old cursor.new (three_from order cursor.old) }
 {
@@ -107,7 +109,7 @@ fn whole_three_from(cursor: &mut Cursor, order: Order) -> Result<u64, BadFile>
     }
 }
 
-/// A number in these digits.
+/// Reads a number in this encoding.
 #[tactic(auto, unfolding(crate::specs::Reads::number_from))]
 pub fn number_from(cursor: &mut Cursor, order: Order, digits: Digits) -> Result<u64, BadFile>
     ensures { Takes (λ n. n) result cursor.old cursor.new (number_from order digits cursor.old) }
@@ -122,23 +124,24 @@ pub fn number_from(cursor: &mut Cursor, order: Order, digits: Digits) -> Result<
     }
 }
 
-/// An offset, which has 8 bytes in the 64-bit format and else 4 (DWARF 5, section 7.4). Truncated where fewer
-/// are left.
+/// Reads an offset: 8 bytes in the 64-bit format, 4 in the 32-bit format (DWARF 5, section 7.4). Truncated
+/// where fewer bytes are left.
 pub fn offset_from(cursor: &mut Cursor, order: Order, wide: bool) -> Result<u64, BadFile>
     ensures { Takes (λ n. n) result cursor.old cursor.new (offset_from order wide cursor.old) }
 {
     number_from(cursor, order, offset_digits(wide))
 }
 
-/// An address of 2 or 4 bytes, or else of 8. Truncated where fewer are left.
+/// Reads an address of 2, 4 or 8 bytes. A `size` other than 2 and 4 is read as 8. Truncated where fewer bytes
+/// are left.
 pub fn address_from(cursor: &mut Cursor, order: Order, size: u8) -> Result<u64, BadFile>
     ensures { Takes (λ n. n) result cursor.old cursor.new (address_from order size cursor.old) }
 {
     number_from(cursor, order, address_digits(size))
 }
 
-/// The window at an offset of a section, which is what the section's cursor has left. `None` where the offset
-/// isn't below its length.
+/// The window at an offset of a section. The section is what its cursor has left. `None` where the offset isn't
+/// below the section's length.
 pub fn inside<'a>(section: &Cursor<'a>, offset: u64) -> Option<Cursor<'a>>
     ensures { result ≡ inside section.now offset }
 {

@@ -1,12 +1,13 @@
-//! What a declaration says of a value.
+//! Attribute specifications of a declaration.
 
-/// An attribute that entries of a declaration have (DWARF 5, section 7.5.3).
+/// An attribute specification of a declaration (DWARF 5, section 7.5.3).
 #[derive(Clone, Copy, Debug, PartialEq, Eq, Hash)]
 pub struct Spec {
-    /// The number of the attribute.
+    /// The attribute's number, `DW_AT_*`.
     pub attribute: u64,
-    /// The number of the form of its values.
+    /// The number of the form of its values, `DW_FORM_*`.
     pub form: u64,
-    /// The value of each of these entries, where the form is `DW_FORM_implicit_const`; else 0.
+    /// The value that all these entries share, where the form is `DW_FORM_implicit_const`; 0 for any other
+    /// form.
     pub constant: i64,
 }

@@ -1,4 +1,4 @@
-//! Tables of declarations (DWARF 5, section 7.5.3).
+//! Tables of abbreviation declarations (DWARF 5, section 7.5.3).
 
 ghost use Rattle.std.specs.Prelude.{◌≡◌, ◌≤◌, OnOk};
 ghost use Rattle.std.specs.Option.{option_map};
@@ -12,7 +12,7 @@ use byte_cursor::Cursor;
 use size_core::{BadFile, Fault};
 use std::marker::Model;
 
-/// Passes the declarations of a table.
+/// Skips the declarations of a table.
 #[tactic(auto, using(crate::proofs::Tables::declarations_more, crate::proofs::Tables::declarations_cut, crate::proofs::Tables::declarations_done, crate::proofs::Tables::declarations_bad, crate::proofs::Tables::declaration_less))]
 fn pass_declarations(cursor: &mut Cursor) -> Result<(), BadFile>
     ensures { Reaches result cursor.new (declarations_from cursor.old) }
@@ -23,12 +23,12 @@ fn pass_declarations(cursor: &mut Cursor) -> Result<(), BadFile>
     Ok(())
 }
 
-/// A table of declarations that was read once, so that none of them has a fault.
+/// A table of declarations. It was checked when it was made, so none of them has a fault.
 #[derive(Drop)]
 pub struct Abbrevs<'a> {
     cursor: Cursor<'a>,
     len: u64,
-    // The declaration that was found last by `entry_kept`.
+    // The declaration that `entry_kept` found last.
     last: Option<Entry<'a>>,
 }
 
@@ -44,10 +44,11 @@ impl<'a> Model for Abbrevs<'a> {
 }
 
 impl<'a> Abbrevs<'a> {
-    /// The table at an offset of `.debug_abbrev`, which is what the cursor of the section has left. It ends
-    /// with a code of 0, or with the section where a code would stand. OffsetOutside at `place` where the
-    /// offset isn't below the section's length; Truncated or BadLeb where a number in the table can't be read,
-    /// at the number's place.
+    /// The table at an offset of `.debug_abbrev`. The section is what its cursor has left. The table ends with
+    /// a code of 0 or at the end of the section.
+    ///
+    /// OffsetOutside at the file offset `place` where `offset` isn't below the section's length. Truncated or
+    /// BadLeb at the file offset of a number in the table that can't be read.
     #[tactic(auto, unfolding(crate::specs::Declarations::table_at), using(crate::proofs::Tables::is_whole))]
     pub fn at(section: &Cursor<'a>, offset: u64, place: u64) -> Result<Abbrevs<'a>, BadFile>
         ensures { result ≡ table_at section.now offset place }
@@ -68,15 +69,15 @@ impl<'a> Abbrevs<'a> {
         })
     }
 
-    /// The first declaration with a code.
+    /// The first declaration with this code.
     pub fn entry(&self, code: u64) -> Option<Entry<'a>>
         ensures { result ≡ declared self.now.declarations code }
     {
         find_entry(&self.cursor, code)
     }
 
-    /// The same, and the table keeps what it found: asked for the same code again it doesn't look for it from its
-    /// start.
+    /// The first declaration with this code. The table caches the result: the next call with the same code
+    /// doesn't search again.
     #[tactic(auto, using(crate::proofs::Tables::is_kept))]
     pub fn entry_kept(&mut self, code: u64) -> Option<Entry<'a>>
         ensures found { result ≡ declared self.old.declarations code }
@@ -99,7 +100,7 @@ impl<'a> Abbrevs<'a> {
         self.cursor.place()
     }
 
-    /// How many bytes the table has, with its code 0 where it has one.
+    /// The table's length in bytes, with the final code 0 where there is one.
     pub fn table_len(&self) -> u64
         ensures { result ≡ self.now.len }
     {
@@ -107,7 +108,7 @@ impl<'a> Abbrevs<'a> {
     }
 }
 
-/// The first declaration with a code among those from a place on.
+/// The first declaration with this code at or after the cursor.
 #[tactic(auto, using(crate::proofs::Tables::declarations_more, crate::proofs::Tables::declarations_cut, crate::proofs::Tables::declarations_done, crate::proofs::Tables::declarations_bad, crate::proofs::Tables::declaration_less, crate::proofs::Tables::first_is, crate::proofs::Tables::rest_is_whole))]
 fn find_entry<'a>(table: &Cursor<'a>, code: u64) -> Option<Entry<'a>>
     requires { IsWhole table.now }

@@ -6,7 +6,7 @@ ghost use Rattle.size_core.specs.declared.fault.Fault.TheVariants.{UnknownForm};
 ghost use Rattle.byte_cursor.specs.Window.{place_of};
 ghost use Rattle.dwarf_abbrev.specs.declared.form.Layout.TheVariants.{Indirect};
 ghost use Rattle.dwarf_abbrev.specs.Reads.{Reads, Takes};
-ghost use Rattle.dwarf_abbrev.specs.Values.{meaning, said, shown, plain_from, known_from, layout_of_number, content_by, value_from};
+ghost use Rattle.dwarf_abbrev.specs.Values.{meaning, number_content, shown, plain_from, known_from, layout_of_number, content_by, value_from};
 
 use crate::form::{Layout, Sense, form_of, layout_of};
 use crate::reads::{number_from, skip_from, sleb_from, text_from, uleb_from};
@@ -15,45 +15,45 @@ use crate::spec::Spec;
 use byte_cursor::{Cursor, Order};
 use size_core::{BadFile, Fault};
 
-/// What a value says.
+/// The content of an attribute's value.
 #[derive(Clone, Copy, Debug, PartialEq, Eq)]
 pub enum Content<'a> {
     /// An address.
     Address(u64),
-    /// An index of an address in `.debug_addr`, from the unit's base on.
+    /// An index into `.debug_addr`, counted from the unit's base.
     AddrIndex(u64),
     /// A constant.
     Constant(u64),
-    /// A constant with a sign.
+    /// A signed constant.
     Signed(i64),
-    /// A string, without its zero byte.
+    /// A string, without its null byte.
     Text(&'a [u8]),
     /// The offset of a string in `.debug_str`.
     StrOffset(u64),
     /// The offset of a string in `.debug_line_str`.
     LineStrOffset(u64),
-    /// An index of an offset in `.debug_str_offsets`, from the unit's base on.
+    /// An index into `.debug_str_offsets`, counted from the unit's base.
     StrIndex(u64),
-    /// An offset into another section, which the attribute tells.
+    /// An offset into another section. The attribute decides which.
     SecOffset(u64),
-    /// An index of a range list in `.debug_rnglists`, from the unit's base on.
+    /// An index of a range list in `.debug_rnglists`, counted from the unit's base.
     ListIndex(u64),
-    /// What isn't told apart: blocks, expressions, references, flags.
+    /// A value that no caller needs: a block, an expression, a reference or a flag.
     Other,
 }
 
 /// A value of an attribute.
 #[derive(Clone, Copy, Debug, PartialEq, Eq)]
 pub struct Value<'a> {
-    /// Its file offset.
+    /// The value's file offset.
     pub place: u64,
-    /// What it says.
+    /// The value's content.
     pub content: Content<'a>,
 }
 
-/// What a number says.
-fn said<'a>(sense: Sense, number: u64) -> Content<'a>
-    ensures { meaning result ≡ said sense number }
+/// The content that a number encodes.
+fn number_content<'a>(sense: Sense, number: u64) -> Content<'a>
+    ensures { meaning result ≡ number_content sense number }
 {
     match sense {
         Sense::Address => Content::Address(number),
@@ -68,7 +68,7 @@ fn said<'a>(sense: Sense, number: u64) -> Content<'a>
     }
 }
 
-/// A fault at the cursor's place: a value of this form isn't read here.
+/// The fault for a form that isn't allowed at the cursor.
 fn unknown_form<'a>(cursor: &Cursor) -> Result<Content<'a>, BadFile>
     ensures { result ≡ bad UnknownForm (place_of cursor.now) }
 {
@@ -78,7 +78,7 @@ fn unknown_form<'a>(cursor: &Cursor) -> Result<Content<'a>, BadFile>
     })
 }
 
-/// A value that is neither in the declaration nor behind the number of its form.
+/// Reads a value whose form is given, that is neither implicit nor indirect.
 #[tactic(auto, unfolding(crate::specs::Values::plain_from))]
 fn plain<'a>(cursor: &mut Cursor<'a>, order: Order, layout: Layout) -> Result<Content<'a>, BadFile>
     ensures { Reads meaning result cursor.new (plain_from order layout cursor.old) }
@@ -86,7 +86,7 @@ fn plain<'a>(cursor: &mut Cursor<'a>, order: Order, layout: Layout) -> Result<Co
     match layout {
         Layout::Number(digits, sense) => {
             let number = number_from(cursor, order, digits)?;
-            Ok(said(sense, number))
+            Ok(number_content(sense, number))
         }
         Layout::Signed => {
             let number = sleb_from(cursor)?;
@@ -109,7 +109,7 @@ fn plain<'a>(cursor: &mut Cursor<'a>, order: Order, layout: Layout) -> Result<Co
     }
 }
 
-/// The layout of the values of a form's number.
+/// The encoding of the form with this number.
 fn layout_of_number(shape: &UnitShape, number: u64) -> Option<Layout>
     ensures { result ≡ layout_of_number shape.now number }
 {
@@ -119,9 +119,9 @@ fn layout_of_number(shape: &UnitShape, number: u64) -> Option<Layout>
     }
 }
 
-/// The value behind the number of its form.
+/// Reads an indirect value: the number of a form, and then a value of that form.
 #[tactic(auto, unfolding(crate::specs::Values::content_by))]
-fn indirect<'a>(cursor: &mut Cursor<'a>, shape: &UnitShape) -> Result<Content<'a>, BadFile>
+fn indirect_content<'a>(cursor: &mut Cursor<'a>, shape: &UnitShape) -> Result<Content<'a>, BadFile>
     ensures { Reads meaning result cursor.new (content_by shape.now (pos 0) (Some Indirect) cursor.old) }
 {
     let form = uleb_from(cursor)?;
@@ -131,7 +131,7 @@ fn indirect<'a>(cursor: &mut Cursor<'a>, shape: &UnitShape) -> Result<Content<'a
     }
 }
 
-/// What the value of an attribute says.
+/// Reads the content of an attribute's value.
 #[tactic(auto, unfolding(crate::specs::Values::content_by))]
 fn content_by<'a>(
     cursor: &mut Cursor<'a>,
@@ -144,14 +144,14 @@ fn content_by<'a>(
     match layout_of_number(shape, spec.form) {
         None => unknown_form(cursor),
         Some(Layout::Implicit) => Ok(Content::Signed(spec.constant)),
-        Some(Layout::Indirect) => indirect(cursor, shape),
+        Some(Layout::Indirect) => indirect_content(cursor, shape),
         Some(layout) => plain(cursor, shape.order, layout),
     }
 }
 
-/// The value of an attribute, which is passed. UnknownForm where the form isn't known, and where one that is
-/// read here is that of another such number or of a constant of the declaration; Truncated where the value
-/// doesn't fit the window; BadLeb where a number in it is too large. Each fault stands at the value's place.
+/// Reads the value of an attribute. UnknownForm where the form is unknown, or where an indirect form names an
+/// implicit or another indirect one. Truncated where the value reaches past the end of the window. BadLeb where
+/// a number in it is too large. Each fault has the value's file offset.
 #[tactic(auto, unfolding(crate::specs::Values::value_from))]
 pub fn read_form<'a>(
     cursor: &mut Cursor<'a>,

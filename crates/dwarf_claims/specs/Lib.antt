@@ -1,3 +1,4 @@
+pub mod KnownRanges
 pub mod LineClaims
 pub mod RowSteps
 pub mod SetClaims

@@ -1,4 +1,4 @@
--- The claims of lines of source text.
+-- The claims of source lines.
 use Rattle.std.specs.Prelude.{ℕ, ◌-◌, List, [], ◌∷◌, ◌++◌, codes, decimal, nat_lt, Option, None, Some, Result, Ok, Err, if◌then◌else◌}
 use Rattle.std.specs.List.{flat_map}
 use Rattle.size_core.specs.declared.fault.BadFile.{BadFile}
@@ -18,57 +18,64 @@ use Rattle.dwarf_units.specs.Roots.{RootRecord, root_of}
 use Rattle.dwarf_units.specs.Units.{units_of}
 use Rattle.dwarf_claims.specs.UnitClaims.{Reading, program_of}
 
--- the label of a row: the path of its file, and its line
+-- The label of a row: the path of its file, a colon and its line (DWARF 5, section 6.2.2).
 unfoldable pub row_label : LineHeader → LineRow → List ℕ
 row_label h row = path_of h row.file ++ codes ":" ++ decimal row.line
 
--- two rows that follow one another: the addresses from the first up to the second, under the label of the first
+-- Two consecutive rows claim the addresses from the first row up to the second, under the label of the first. They
+-- claim nothing if the address doesn't rise (DWARF 5, section 6.2.2).
 unfoldable pub pair_claim : LineHeader → LineRow → LineRow → List LabelledClaim
 pair_claim h row next =
     if nat_lt row.address next.address then claim_on (in_memory (span 0 row.address (next.address - row.address))) (row_label h row)
     else []
 
--- a row and those that follow it
+-- The claims of a row and the rows after it, each pair of consecutive rows in order (DWARF 5, section 6.2.2).
 unfoldable pub pair_claims : LineHeader → LineRow → List LineRow → List LabelledClaim
 pair_claims h row [] = []
 pair_claims h row (next ∷ rows) = pair_claim h row next ++ pair_claims h next rows
 
--- The rows in sequences, of which each ends with an end row, or with the program (DWARF 5, section 6.2.5).
+-- A row put before the rows of the first sequence.
 abbrev pub in_front : LineRow → List (List LineRow) → List (List LineRow)
 in_front row [] = (row ∷ []) ∷ []
 in_front row (rows ∷ sequences) = (row ∷ rows) ∷ sequences
 
+-- The rows of a program as sequences. A sequence ends with a row of `DW_LNE_end_sequence`, or with the program (DWARF
+-- 5, section 6.2.5).
 unfoldable pub sequences_of : List LineRow → List (List LineRow)
 sequences_of [] = []
 sequences_of (row ∷ rows) = if row.end then (row ∷ []) ∷ sequences_of rows else in_front row (sequences_of rows)
 
--- A sequence claims nothing where it starts at 0 or at one of the two greatest addresses: there linkers leave the lines
--- of what they dropped.
+-- The claims of a sequence. A sequence that starts at 0 or at one of the two greatest addresses has none: linkers leave
+-- the lines of dropped functions there (DWARF 5, section 6.2.5).
 unfoldable pub sequence_claims : LineHeader → ℕ → List LineRow → List LabelledClaim
 sequence_claims h size [] = []
 sequence_claims h size (first ∷ rows) = if claims_nothing size first.address 1 then [] else pair_claims h first rows
 
--- all rows, or the fault that ends them
+-- All rows of a program, or the fault that ends them (DWARF 5, section 6.2).
 unfoldable pub whole_rows : List (Result LineRow BadFile) → Result (List LineRow) BadFile
 whole_rows [] = Ok []
 whole_rows (Ok row ∷ rows) = whole_rows rows >>= λ more. Ok (row ∷ more)
 whole_rows (Err e ∷ rows) = Err e
 
--- the claims of a line program, of a unit whose addresses have this size
+-- The claims of the rows of a line program, for a unit with addresses of `size` bytes, or the fault (DWARF 5, section
+-- 6.2).
 unfoldable pub rows_claims : LineHeader → ℕ → List (Result LineRow BadFile) → Reading
 rows_claims h size rows = whole_rows rows >>= λ all. Ok (flat_map (sequence_claims h size) (sequences_of all))
 
+-- The claims of the line program that a unit names, if it names one, or the first fault (DWARF 5, section 6.2).
 abbrev pub program_claims : Sections → RootRecord → Option (ℕ × ℕ) → Reading
 program_claims s root None = Ok []
 program_claims s root (Some p) = program_at s p.0 p.1 root.shape >>= λ h. rows_claims h root.shape.address (line_rows h)
 
--- the claims of a unit's lines, or the first fault
+-- The claims of the lines of a unit, or the first fault (DWARF 5, section 6.2).
 unfoldable pub line_claims : Sections → DwarfUnit → Reading
 line_claims s unit = root_of s unit >>= λ root. program_claims s root (program_of root)
 
+-- The claims of the lines of an item of the list of units: a unit, or the fault that ends the list (DWARF 5, section
+-- 6.2).
 abbrev pub handed_lines : Sections → Result DwarfUnit BadFile → Reading
 handed_lines s unit = unit >>= λ u. line_claims s u
 
--- those of all units
+-- The claims of the lines of all units, in order, or the first fault (DWARF 5, section 6.2).
 unfoldable pub lines_claims : Sections → Reading
 lines_claims s = read_list (handed_lines s) (units_of s)

@@ -1,5 +1,5 @@
--- The claims of rows, one row after another.
-use Rattle.std.specs.Prelude.{◌≡◌, ℕ, not, Bool, List, [], ◌∷◌, take, Option, None, Some, Result, Ok, Err, if◌then◌else◌}
+-- The claims of rows, one row at a time: what the walk over the rows of a program does at each.
+use Rattle.std.specs.Prelude.{◌≡◌, ℕ, ◌&&◌, ◌||◌, nat_lt, not, Bool, false, List, [], ◌∷◌, take, Option, None, Some, Result, Ok, Err, if◌then◌else◌}
 use Rattle.size_core.specs.declared.fault.BadFile.{BadFile}
 use Rattle.size_model.specs.declared.view.LabelledClaim.{LabelledClaim}
 use Rattle.claim_sheet.specs.Read.{joined}
@@ -8,30 +8,42 @@ use Rattle.dwarf_lines.specs.Header.{LineHeader}
 use Rattle.dwarf_lines.specs.Paths.{path_of}
 use Rattle.dwarf_ranges.specs.Claims.{claims_nothing}
 use Rattle.dwarf_claims.specs.declared.row.Before.{Before}
+use Rattle.dwarf_claims.specs.declared.row.Walk.{Walk}
 use Rattle.dwarf_claims.specs.declared.row_label.RowLabel.{RowLabel}
 use Rattle.dwarf_claims.specs.UnitClaims.{Reading}
 use Rattle.dwarf_claims.specs.LineClaims.{pair_claim}
 
--- the claim of the row before, if there is one in the sequence and the sequence claims
+-- The claim of the previous row, which ends at this row. There is none at the first row of a sequence, or if the
+-- sequence makes no claims.
 abbrev pub claim_before : LineHeader → Option Before → LineRow → List LabelledClaim
 claim_before h None row = []
 claim_before h (Some before) row = if before.claims then pair_claim h before.row row else []
 
--- whether the sequence of a row claims
+-- The sequence of a row makes claims: it starts neither at 0 nor at one of the two greatest addresses, where linkers
+-- leave the lines of dropped functions.
 abbrev pub goes : ℕ → Option Before → LineRow → Bool
 goes size None row = not (claims_nothing size row.address 1)
 goes size (Some before) row = before.claims
 
--- what stands before the next row
+-- The previous row of the next row: this one, unless it ends its sequence.
 abbrev pub behind : ℕ → Option Before → LineRow → Option Before
 behind size before row = if row.end then None else Some (record { row = row; claims = goes size before row })
 
--- the claims of these rows, behind this one
+-- The previous row has a claim: its sequence makes claims, and its address is below that of this row.
+abbrev pub has_claim : Option Before → LineRow → Bool
+has_claim None row = false
+has_claim (Some before) row = before.claims && nat_lt before.row.address row.address
+
+-- The state of the walk after a row.
+abbrev pub next_walk : ℕ → Walk → LineRow → Walk
+next_walk size walk row = record { before = behind size walk.before row; claims = walk.claims || has_claim walk.before row }
+
+-- The claims of these rows after a previous row, or the fault among them.
 unfoldable pub claims_from : LineHeader → ℕ → Option Before → List (Result LineRow BadFile) → Reading
 claims_from h size before [] = Ok []
 claims_from h size before (Ok row ∷ rows) = joined (Ok (claim_before h before row)) (claims_from h size (behind size before row) rows)
 claims_from h size before (Err e ∷ rows) = Err e
 
--- a label begins with the path of its file
+-- The label begins with the path of its file.
 abbrev pub HasPath : LineHeader → RowLabel → Type 0
 HasPath h label = take label.path_len label.text.items ≡ path_of h label.file

@@ -22,58 +22,67 @@ use Rattle.dwarf_units.specs.declared.unit.DwarfUnit.{DwarfUnit}
 use Rattle.dwarf_units.specs.Roots.{RootRecord, name_of, root_of}
 use Rattle.dwarf_units.specs.Units.{length_len, units_of}
 
--- the claims of records that may have a fault
+-- The claims of some records, or the first fault among the records.
 abbrev pub Reading : Type 0
 Reading = Result (List LabelledClaim) BadFile
 
--- the label of a unit: its name, if it has one that isn't empty
+-- A unit's name as a label: `[Unnamed unit]` if it has none or an empty one (DWARF 5, section 3.1.1).
 abbrev pub or_unnamed : Option (List ℕ) → List ℕ
 or_unnamed None = codes "[Unnamed unit]"
 or_unnamed (Some []) = codes "[Unnamed unit]"
 or_unnamed (Some (b ∷ name)) = b ∷ name
 
+-- The label of a unit, or the fault of its name (DWARF 5, section 3.1.1).
 unfoldable pub label_of : Sections → RootRecord → Result (List ℕ) BadFile
 label_of s root = name_of s root >>= λ name. Ok (or_unnamed name)
 
--- The line program that `DW_AT_stmt_list` names: an offset into `.debug_line`, in DWARF 2 and 3, which had no form of
--- their own for offsets, also as a constant (DWARF 5, section 3.1.1; DWARF 3, section 7.5.4).
+-- The offset in `.debug_line` that a value of `DW_AT_stmt_list` says. Before DWARF 4 no form was for offsets alone, and
+-- constants are offsets too (DWARF 5, section 3.1.1; DWARF 3, section 7.5.4).
 abbrev pub program_offset : ℕ → Meaning → Option ℕ
 program_offset version (ASecOffset n) = Some n
 program_offset version (AConstant n) = if nat_lt version 4 then Some n else None
 program_offset version _ = None
 
--- with the place of the value that names it
+-- That offset, and the file offset of the value. Faults are reported there (DWARF 5, section 3.1.1; DWARF 3, section
+-- 7.5.4).
 abbrev pub named_program : ℕ → Option ValueRecord → Option (ℕ × ℕ)
 named_program version None = None
 named_program version (Some v) = option_map (λ n. (n, v.place)) (program_offset version v.content)
 
+-- The line program of a unit: its offset, and the file offset of the value of `DW_AT_stmt_list` (DWARF 5, section
+-- 3.1.1; DWARF 3, section 7.5.4).
 abbrev pub program_of : RootRecord → Option (ℕ × ℕ)
 program_of root = named_program root.shape.version root.lines
 
--- the bytes of the line program in this window: its length, and the contents that this says (DWARF 5, section 6.2.4)
+-- The bytes of the line program at the start of this window: its length field, and as many bytes as that says (DWARF 5,
+-- section 6.2.4).
 unfoldable pub program_here : Order → Window → Result Span BadFile
 program_here order w = do
   initial ← initial_length_from order w
   contents ← sub_window initial.1 initial.1.at initial.0.len
   Ok (span 0 (place_of w) (length_len initial.0.wide + left contents))
 
--- of one at an offset of `.debug_line`, if the offset lies in the section
+-- The bytes of the line program in a window of `.debug_line`, or OffsetOutside at `place` if the offset is outside the
+-- section (DWARF 5, section 6.2.4).
 abbrev pub program_in : Order → ℕ → Option Window → Result Span BadFile
 program_in order place None = bad OffsetOutside place
 program_in order place (Some w) = program_here order w
 
+-- The bytes of a unit's line program, if it names one (DWARF 5, section 6.2.4).
 abbrev pub program_bytes : Sections → Option (ℕ × ℕ) → Result (Option Span) BadFile
 program_bytes s None = Ok None
 program_bytes s (Some p) = program_in s.order p.1 (inside s.lines p.0) >>= λ bytes. Ok (Some bytes)
 
--- a claim on addresses, and one on bytes of the file
+-- A claim on a range of addresses: first address and length.
 abbrev pub range_claim : List ℕ → ℕ × ℕ → List LabelledClaim
 range_claim label r = claim_on (in_memory (span 0 r.0 r.1)) label
 
+-- A claim on bytes of the file: file offset and length.
 abbrev pub bytes_claim : List ℕ → ℕ → ℕ → List LabelledClaim
 bytes_claim label start len = claim_on (in_file (span 0 start len)) label
 
--- the claims of a unit: its ranges, its bytes, those of its abbreviations and those of its line program
+-- The claims of a unit that was read: its ranges, its bytes, its table of abbreviations and its line program (DWARF 5,
+-- section 7.5.1).
 unfoldable pub told_claims : DwarfUnit → RootRecord → List ℕ → List (ℕ × ℕ) → Option Span → List LabelledClaim
 told_claims unit root label ranges program =
     flat_map (range_claim label) ranges
@@ -81,7 +90,8 @@ told_claims unit root label ranges program =
     ++ bytes_claim label root.table_place root.table_len
     ++ claim_on_some (option_map in_file program) label
 
--- or its first fault
+-- The claims of a unit, or its first fault: that of its root, its name, its ranges or its line program (DWARF 5,
+-- section 7.5.1).
 unfoldable pub unit_claims : Sections → DwarfUnit → Reading
 unit_claims s unit = do
   root ← root_of s unit
@@ -90,9 +100,10 @@ unit_claims s unit = do
   program ← program_bytes s (program_of root)
   Ok (told_claims unit root label ranges program)
 
--- the claims of all units
+-- The claims of an item of the list of units: a unit, or the fault that ends the list (DWARF 5, section 7.5.1).
 abbrev pub handed_claims : Sections → Result DwarfUnit BadFile → Reading
 handed_claims s unit = unit >>= λ u. unit_claims s u
 
+-- The claims of all units of `.debug_info`, in order, or the first fault (DWARF 5, section 7.5.1).
 unfoldable pub units_claims : Sections → Reading
 units_claims s = read_list (handed_claims s) (units_of s)

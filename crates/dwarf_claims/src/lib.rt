@@ -1,9 +1,11 @@
-//! What the debug sections of a file claim: the units of `.debug_info` with the sets of `.debug_aranges`, and the
-//! lines of source text. It knows no format.
+//! The claims of the debug sections of a file (DWARF 2 to 5): those of the units of `.debug_info` and the address sets
+//! of `.debug_aranges`, and those of the source lines of `.debug_line`. It knows debug sections and no file format.
 #![tactic(auto)]
 
 mod known;
 mod label;
+mod last_program;
+mod last_ranges;
 mod lines;
 mod program;
 mod row;
@@ -15,6 +17,3 @@ mod units;
 
 pub use lines::add_lines;
 pub use units::add_units;
-
-#[cfg(test)]
-mod tests;

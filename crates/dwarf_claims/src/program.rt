@@ -1,4 +1,4 @@
-//! The bytes of line programs.
+//! Where a unit's line program is, and its bytes.
 
 ghost use Rattle.std.specs.Prelude.{◌≡◌};
 ghost use Rattle.dwarf_abbrev.specs.Values.{meaning};
@@ -22,7 +22,8 @@ fn program_offset(version: u16, value: &Value<'_>) -> Option<u64>
     }
 }
 
-/// The line program that a unit names: its offset in `.debug_line`, and the file offset of the value that says it.
+/// Returns the offset of the unit's line program in `.debug_line`, and the file offset of the attribute value that
+/// names it.
 pub fn program_of(root: &Root<'_>) -> Option<(u64, u64)>
     ensures { result ≡ program_of (shown_root root.now) }
 {
@@ -37,7 +38,7 @@ fn length_len(wide: bool) -> u64
     if wide { 12 } else { 4 }
 }
 
-// The bytes of the program that begins here, with its length field.
+// Returns the bytes of the program at the cursor, with its length field.
 #[tactic(auto, unfolding(crate::specs::UnitClaims::program_here))]
 fn program_here(mut cursor: Cursor<'_>, order: Order) -> Result<Span, BadFile>
     ensures { result ≡ program_here order cursor.entry }
@@ -60,7 +61,7 @@ fn program_in(cursor: Option<Cursor<'_>>, place: u64, order: Order) -> Result<Sp
     }
 }
 
-/// The bytes of a line program, with its length field.
+/// Returns the bytes of a line program, with its length field.
 pub fn program_bytes(
     sections: &Sections<'_>,
     program: Option<(u64, u64)>,

@@ -1,4 +1,4 @@
-//! The labels of rows.
+//! The labels of the rows of a line program.
 
 ghost use Rattle.std.specs.Prelude.{◌≡◌, ◌++◌, take, vec_len, codes, decimal, IfOk, OnOk};
 ghost use Rattle.dwarf_lines.specs.Paths.{path_of};
@@ -11,19 +11,19 @@ use itoa::Buffer;
 use size_core::NoMemory;
 use std::alloc::Global;
 
-/// The label of a row, which is written over that of the row before. A path is made once for rows of one file that
-/// follow one another.
+/// The label of a row: a path, a colon and a line. The buffer is reused for the next row. Consecutive rows of one file
+/// keep the path, since only the line changes.
 #[derive(Drop)]
 pub struct RowLabel {
     pub text: Vec<u8>,
-    /// How many bytes of it are the path.
+    /// The length of the path, with which the text begins.
     pub path_len: usize,
-    /// Of which file that is the path.
+    /// The number of the file that has this path.
     pub file: u64,
 }
 
 impl RowLabel {
-    /// No label yet.
+    /// Returns an empty label.
     pub fn new(alloc: Global) -> RowLabel {
         RowLabel {
             text: Vec::new(alloc),
@@ -32,7 +32,7 @@ impl RowLabel {
         }
     }
 
-    /// The path of a file of a program.
+    /// Sets the path to that of a file of a program.
     pub fn set_file(&mut self, program: &LineProgram<'_>, file: u64) -> Result<(), NoMemory>
         ensures path { OnOk result (self.new.text.items ≡ path_of program.now file) }
         ensures has { OnOk result (HasPath program.now self.new) }
@@ -46,7 +46,7 @@ impl RowLabel {
         Ok(())
     }
 
-    /// The path of a row's file, which isn't made again where it is there.
+    /// Sets the path to that of a file, unless it is there already, and drops the line.
     fn set_path(&mut self, program: &LineProgram<'_>, file: u64) -> Result<(), NoMemory>
         requires { HasPath program.now self.old }
         ensures path { OnOk result (self.new.text.items ≡ path_of program.now file) }
@@ -61,7 +61,7 @@ impl RowLabel {
         Ok(())
     }
 
-    /// The label of a row: the path of its file, a colon and its line.
+    /// Sets the label to that of a row.
     #[tactic(auto, unfolding(crate::specs::LineClaims::row_label))]
     pub fn set(&mut self, program: &LineProgram<'_>, row: &LineRow) -> Result<(), NoMemory>
         requires { HasPath program.now self.old }

@@ -1,14 +1,12 @@
 //! The claims of the sets of `.debug_aranges` (DWARF 5, section 6.1.2).
 
-ghost use Rattle.std.specs.Prelude.{◌≡◌, Ok, Err, Option, OnOk, IsErrOf};
+ghost use Rattle.std.specs.Prelude.{◌≡◌, Ok, Option};
 ghost use Rattle.std.specs.List.{flat_map};
 ghost use Rattle.std.specs.Option.{option_copied};
-ghost use Rattle.size_core.specs.declared.fault.BadFile.{BadFile as BadFileSpec};
-ghost use Rattle.claim_sheet.specs.Sheets.{adding, adding_read};
+ghost use Rattle.claim_sheet.specs.Adds.{Adds, AddsRead};
 ghost use Rattle.dwarf_units.specs.Units.{units_of};
 ghost use Rattle.dwarf_claims.specs.SetClaims.{labels_of, named_claims, set_claims, sets_claims, tuple_claim};
 ghost use Rattle.dwarf_claims.specs.Tables.{Ascends, shown_units};
-ghost use Rattle.dwarf_claims.specs.UnitClaims.{bytes_claim};
 
 use crate::known::{KnownUnit, label_at};
 use claim_sheet::{ClaimSheet, Reach, Stop, Wrap, span};
@@ -16,7 +14,7 @@ use dwarf_ranges::{AddressSet, Tuples, arange_sets, claims_nothing};
 use dwarf_units::Sections;
 use size_core::{BadFile, NoMemory};
 
-// Adds the claim of a tuple, if it claims something.
+// Adds the claim of a tuple. Empty tuples, and those of dropped functions, claim nothing.
 #[tactic(auto, using(claim_sheet::proofs::SheetLemmas::adding_none))]
 fn add_tuple(
     size: u8,
@@ -24,8 +22,7 @@ fn add_tuple(
     label: &[u8],
     sheet: &mut ClaimSheet,
 ) -> Result<(), NoMemory>
-    ensures made { OnOk result (sheet.new ≡ adding sheet.old (tuple_claim label.now size tuple)) }
-    ensures kept { sheet.new.pool ≡ sheet.old.pool }
+    ensures { Adds result sheet.old sheet.new (tuple_claim label.now size tuple) }
 {
     if claims_nothing(size, tuple.0, tuple.1) {
         return Ok(());
@@ -44,8 +41,7 @@ fn add_tuples(
     label: &[u8],
     sheet: &mut ClaimSheet,
 ) -> Result<(), NoMemory>
-    ensures made { OnOk result (sheet.new ≡ adding sheet.old (flat_map (tuple_claim label.now size) tuples.entry)) }
-    ensures kept { sheet.new.pool ≡ sheet.old.pool }
+    ensures { Adds result sheet.old sheet.new (flat_map (tuple_claim label.now size) tuples.entry) }
 {
     for tuple in tuples {
         add_tuple(size, tuple, label, sheet)?;
@@ -53,15 +49,14 @@ fn add_tuples(
     Ok(())
 }
 
-// Adds the claims of a set under the label of its unit, if there is one.
+// Adds the claims of a set under the label of its unit. Without such a unit there are none.
 #[tactic(auto, using(claim_sheet::proofs::SheetLemmas::adding_none, claim_sheet::proofs::SheetLemmas::adding_more), unfolding(crate::specs::SetClaims::named_claims))]
-fn add_named(
+fn add_labelled(
     set: AddressSet<'_>,
     label: Option<&[u8]>,
     sheet: &mut ClaimSheet,
 ) -> Result<(), NoMemory>
-    ensures made { OnOk result (sheet.new ≡ adding sheet.old (named_claims set.entry (option_copied label.entry))) }
-    ensures kept { sheet.new.pool ≡ sheet.old.pool }
+    ensures { Adds result sheet.old sheet.new (named_claims set.entry (option_copied label.entry)) }
 {
     let Some(label) = label else {
         return Ok(());
@@ -71,25 +66,22 @@ fn add_named(
     sheet.add(bytes, Wrap::Plain, label)
 }
 
-// Adds the claims of a set, or tells the fault that comes in its place.
+// Adds the claims of a set. Bad is the fault that ends the sets.
 fn add_set(
     units: &[KnownUnit<'_>],
     set: Result<AddressSet<'_>, BadFile>,
     sheet: &mut ClaimSheet,
 ) -> Result<(), Stop>
     requires { Ascends 0 (shown_units units.now) }
-    ensures made { OnOk result (adding_read sheet.old (set_claims (shown_units units.now) set.entry) ≡ Ok sheet.new) }
-    ensures bad { (bad : BadFileSpec) → IsErrOf result (Stop.Bad bad)
-        → set_claims (shown_units units.now) set.entry ≡ Err bad }
-    ensures kept { sheet.new.pool ≡ sheet.old.pool }
+    ensures { AddsRead result sheet.old sheet.new (set_claims (shown_units units.now) set.entry) }
 {
     let set = set?;
     let label = label_at(units, set.info_offset);
-    add_named(set, label, sheet)?;
+    add_labelled(set, label, sheet)?;
     Ok(())
 }
 
-/// Adds the claims of the sets of `.debug_aranges`, in order, each under the label of its unit.
+/// Adds the claims of the address sets, in order, each under the label of its unit.
 #[tactic(auto, using(claim_sheet::proofs::LoopLemmas::read_list_goes, claim_sheet::proofs::LoopLemmas::read_list_ends), unfolding(crate::specs::SetClaims::sets_claims))]
 pub fn add_sets(
     sections: &Sections<'_>,
@@ -98,9 +90,7 @@ pub fn add_sets(
 ) -> Result<(), Stop>
     requires labels { shown_units units.now ≡ labels_of sections.now (units_of sections.now) }
     requires ascend { Ascends 0 (shown_units units.now) }
-    ensures made { OnOk result (adding_read sheet.old (sets_claims sections.now) ≡ Ok sheet.new) }
-    ensures bad { (bad : BadFileSpec) → IsErrOf result (Stop.Bad bad) → sets_claims sections.now ≡ Err bad }
-    ensures kept { sheet.new.pool ≡ sheet.old.pool }
+    ensures { AddsRead result sheet.old sheet.new (sets_claims sections.now) }
 {
     for set in arange_sets(sections) {
         add_set(units, set, sheet)?;

@@ -1,48 +1,34 @@
-//! The claims of a unit.
+//! The claims of one unit of `.debug_info`.
 
-ghost use Rattle.std.specs.Prelude.{◌≡◌, Ok, Err, IfOk, OnOk, IsErrOf};
+ghost use Rattle.std.specs.Prelude.{◌≡◌, IfOk};
 ghost use Rattle.std.specs.List.{flat_map};
 ghost use Rattle.std.specs.Option.{option_map};
-ghost use Rattle.size_core.specs.declared.fault.BadFile.{BadFile as BadFileSpec};
-ghost use Rattle.claim_sheet.specs.Sheets.{adding, adding_read};
+ghost use Rattle.claim_sheet.specs.Adds.{Adds, AddsRead};
 ghost use Rattle.claim_sheet.specs.Reaches.{in_file};
-ghost use Rattle.dwarf_ranges.specs.Ranges.{ranges_of};
 ghost use Rattle.dwarf_units.specs.Roots.{shown_root};
 ghost use Rattle.dwarf_claims.specs.SetClaims.{unit_label};
-ghost use Rattle.dwarf_claims.specs.Tables.{IsTableOf};
+ghost use Rattle.dwarf_claims.specs.Tables.{IsUnitOf};
 ghost use Rattle.dwarf_claims.specs.UnitClaims.{bytes_claim, range_claim, told_claims, unit_claims};
 
 use crate::label::label_of;
+use crate::last_ranges::{LastRanges, read_ranges};
 use crate::program::{program_bytes, program_of};
-use crate::table::{LastTable, root_of};
+use crate::table::{LastTables, root_of};
 use claim_sheet::{ClaimSheet, Reach, Stop, Wrap, span};
-use dwarf_ranges::{RangeAnswer, unit_ranges};
 use dwarf_units::{DwarfUnit, Root, Sections};
 use size_core::{NoMemory, Span};
 use std::alloc::Global;
 
-// The ranges of a unit.
-fn ranges_of(
-    alloc: Global,
-    sections: &Sections<'_>,
-    root: &Root<'_>,
-) -> Result<Vec<(u64, u64)>, Stop>
-    ensures made { IfOk result (λ v. ranges_of sections.now (shown_root root.now) ≡ Ok v.items) }
-    ensures bad { (bad : BadFileSpec) → IsErrOf result (Stop.Bad bad)
-        → ranges_of sections.now (shown_root root.now) ≡ Err bad }
-{
-    let mut ranges = Vec::new(alloc);
-    match unit_ranges(alloc, root, sections, &mut ranges) {
-        Ok(()) => Ok(ranges),
-        Err(RangeAnswer::Bad(bad)) => Err(Stop::Bad(bad)),
-        Err(RangeAnswer::NoMemory) => Err(Stop::NoMemory),
-    }
+/// What was read last for the claims of units. Units in a row often share it.
+#[derive(Drop)]
+pub struct LastUnit<'a> {
+    pub tables: LastTables<'a>,
+    pub ranges: LastRanges,
 }
 
-// Adds the claim of a range.
+// Adds the claim of a range of addresses.
 fn add_range(range: (u64, u64), label: &[u8], sheet: &mut ClaimSheet) -> Result<(), NoMemory>
-    ensures made { OnOk result (sheet.new ≡ adding sheet.old (range_claim label.now range)) }
-    ensures kept { sheet.new.pool ≡ sheet.old.pool }
+    ensures { Adds result sheet.old sheet.new (range_claim label.now range) }
 {
     sheet.add(
         Reach::in_memory(span(0, range.0, range.1)),
@@ -54,8 +40,7 @@ fn add_range(range: (u64, u64), label: &[u8], sheet: &mut ClaimSheet) -> Result<
 // Adds the claims of ranges, in order.
 #[tactic(auto, using(crate::proofs::Lists::drop_goes, crate::proofs::Lists::drop_ends))]
 fn add_ranges(ranges: &[(u64, u64)], label: &[u8], sheet: &mut ClaimSheet) -> Result<(), NoMemory>
-    ensures made { OnOk result (sheet.new ≡ adding sheet.old (flat_map (range_claim label.now) ranges.now)) }
-    ensures kept { sheet.new.pool ≡ sheet.old.pool }
+    ensures { Adds result sheet.old sheet.new (flat_map (range_claim label.now) ranges.now) }
 {
     for range in ranges {
         add_range(*range, label, sheet)?;
@@ -63,10 +48,9 @@ fn add_ranges(ranges: &[(u64, u64)], label: &[u8], sheet: &mut ClaimSheet) -> Re
     Ok(())
 }
 
-// Adds the claim of so many bytes of the file.
+// Adds the claim of `len` bytes of the file.
 fn add_bytes(start: u64, len: u64, label: &[u8], sheet: &mut ClaimSheet) -> Result<(), NoMemory>
-    ensures made { OnOk result (sheet.new ≡ adding sheet.old (bytes_claim label.now start len)) }
-    ensures kept { sheet.new.pool ≡ sheet.old.pool }
+    ensures { Adds result sheet.old sheet.new (bytes_claim label.now start len) }
 {
     sheet.add(Reach::in_file(span(0, start, len)), Wrap::Plain, label)
 }
@@ -80,9 +64,9 @@ fn program_reach(program: Option<Span>) -> Option<Reach>
     }
 }
 
-// Adds what was told of a unit.
+// Adds the claims of a unit that was read: its ranges, its bytes, its table of abbreviations and its line program.
 #[tactic(auto, using(claim_sheet::proofs::SheetLemmas::adding_more), unfolding(crate::specs::UnitClaims::told_claims))]
-fn add_told(
+fn add_parts(
     unit: &DwarfUnit<'_>,
     root: &Root<'_>,
     label: &[u8],
@@ -90,9 +74,7 @@ fn add_told(
     program: Option<Span>,
     sheet: &mut ClaimSheet,
 ) -> Result<(), NoMemory>
-    ensures made { OnOk result (sheet.new
-        ≡ adding sheet.old (told_claims unit.now (shown_root root.now) label.now ranges.now program)) }
-    ensures kept { sheet.new.pool ≡ sheet.old.pool }
+    ensures { Adds result sheet.old sheet.new (told_claims unit.now (shown_root root.now) label.now ranges.now program) }
 {
     add_ranges(ranges, label, sheet)?;
     add_bytes(unit.place, unit.len, label, sheet)?;
@@ -100,26 +82,24 @@ fn add_told(
     sheet.add_some(program_reach(program), Wrap::Plain, label)
 }
 
-/// Adds the claims of a unit, or tells its first fault. It gives the unit's label.
+/// Adds the claims of a unit, and returns its label. Bad is the first fault of the unit.
 #[tactic(auto, unfolding(crate::specs::UnitClaims::unit_claims))]
 pub fn add_unit<'a>(
     alloc: Global,
     sections: &Sections<'a>,
     unit: &DwarfUnit<'a>,
-    last: &mut Option<LastTable<'a>>,
+    last: &mut LastUnit<'a>,
     sheet: &mut ClaimSheet,
 ) -> Result<&'a [u8], Stop>
-    requires { IsTableOf sections.now last.old }
-    ensures made { OnOk result (adding_read sheet.old (unit_claims sections.now unit.now) ≡ Ok sheet.new) }
+    requires { IsUnitOf sections.now last.old }
+    ensures adds { AddsRead result sheet.old sheet.new (unit_claims sections.now unit.now) }
     ensures label { IfOk result (λ t. t.now ≡ unit_label sections.now unit.now) }
-    ensures bad { (bad : BadFileSpec) → IsErrOf result (Stop.Bad bad) → unit_claims sections.now unit.now ≡ Err bad }
-    ensures table { IsTableOf sections.now last.new }
-    ensures kept { sheet.new.pool ≡ sheet.old.pool }
+    ensures last { IsUnitOf sections.now last.new }
 {
-    let root = root_of(sections, unit, last)?;
+    let root = root_of(sections, unit, &mut last.tables)?;
     let label = label_of(&root, sections)?;
-    let ranges = ranges_of(alloc, sections, &root)?;
+    read_ranges(alloc, sections, &root, &mut last.ranges)?;
     let program = program_bytes(sections, program_of(&root))?;
-    add_told(unit, &root, label, &ranges, program, sheet)?;
+    add_parts(unit, &root, label, &last.ranges.ranges, program, sheet)?;
     Ok(label)
 }

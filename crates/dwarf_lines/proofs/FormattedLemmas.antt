@@ -1,4 +1,4 @@
--- A table of version 5, one part after another.
+-- A table of DWARF 5, one part after another.
 use Rattle.std.proofs.Common.{◌≡◌, ℕ, Ok, refl}
 use Rattle.byte_cursor.specs.Window.{Window}
 use Rattle.dwarf_abbrev.specs.declared.shape.UnitShape.{UnitShape}

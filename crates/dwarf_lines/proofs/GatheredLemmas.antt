@@ -1,4 +1,4 @@
--- What an entry says, one value after another.
+-- The values of an entry, one after another.
 use Rattle.std.proofs.Common.{◌≡◌, ℕ, ◌+◌, ◌-◌, ◌<◌, ◌≤◌, Bool, true, false, List, [], ◌∷◌, Option, Some, None, Ok, Err, refl, sym, ap, ◌∙◌}
 use Rattle.std.specs.Prelude.{nat_eq, is_ok}
 use Rattle.size_core.specs.declared.fault.BadFile.{BadFile}
@@ -30,7 +30,7 @@ items_before : {X : Type 0} (x : X) (r : Reading (List X)) → is_ok (before x r
 items_before x (Ok xs) good = refl
 items_before x (Err e) good = cc
 
--- where a pair follows, its value is read, and the values of the other pairs behind it
+-- Where a pair follows, its value is read, and then the values of the other pairs.
 pub gathered_more : (s : UnitShape) (held : EntryValues) (n i : ℕ) (pairs pairs' w next : Window) (p : Spec) (v : ValueRecord) → i < n → pair_from pairs ≡ Ok (p, pairs') → value_from s p w ≡ Ok (v, next) → is_ok (many_from pair_from (n - i) pairs) ≡ true
     → gathered s held (many_from pair_from (n - i) pairs) w ≡ gathered s (with_value held (record { content = p.attribute; value = v })) (many_from pair_from (n - (i + 1)) pairs') next
 unfolding gathered values_from
@@ -59,7 +59,7 @@ gathered_end s held n i pairs w le = rw (many_end pair_from n i pairs le) (by_va
     by_values : (held : EntryValues) → with_rest held (Ok ([], w)) ≡ Ok (held, w)
     by_values held = rw (by_held held.path, by_held held.directory) refl
 
--- the pairs that are left can be read
+-- The pairs that are left can be read.
 pub pairs_good : (n i : ℕ) (pairs pairs' : Window) (p : Spec) → i < n → pair_from pairs ≡ Ok (p, pairs') → is_ok (many_from pair_from (n - i) pairs) ≡ true → is_ok (many_from pair_from (n - (i + 1)) pairs') ≡ true
 pairs_good n i pairs pairs' p lt pair good =
     let more = many_more pair_from n i pairs pairs' p lt pair in
@@ -68,7 +68,7 @@ pairs_good n i pairs pairs' p lt pair good =
 pub pairs_stop : (n i : ℕ) (pairs : Window) (e : BadFile) → i < n → pair_from pairs ≡ Err e → is_ok (many_from pair_from (n - i) pairs) ≡ false
 pairs_stop n i pairs e lt bad = rw (many_bad pair_from n i pairs e lt bad) refl
 
--- where nothing is held, it is what the values say
+-- Where nothing is known, the result is that of the values alone.
 pub gathered_is : (s : UnitShape) (pairs : Reading (List Spec)) (w : Window) → gathered s (record { path = None; directory = None }) pairs w ≡ entry_values_from s (items_of pairs) w
 unfolding gathered entry_values_from
 gathered_is s pairs w = by_values (values_from s (items_of pairs) w)

@@ -1,4 +1,4 @@
--- The entries of a table, gathered one after another.
+-- The entries of a table, collected one after another.
 use Rattle.std.proofs.Common.{◌≡◌, ℕ, suc, ◌-◌, ◌+◌, ◌<◌, ◌≤◌, true, List, [], ◌∷◌, ◌++◌, length, map, Ok, Err, refl, sym, ap, ◌∙◌, append_assoc, arith}
 use Rattle.std.specs.Prelude.{is_ok, nat_eq}
 use Rattle.std.proofs.lemmas.List.{append-nil, map-append}
@@ -10,12 +10,12 @@ use Rattle.dwarf_lines.specs.PlainTables.{plain_entry, plain_from}
 use Rattle.dwarf_lines.specs.Tables.{Entry, Reading, before, items_of, many_from, shown}
 use Rattle.dwarf_lines.proofs.TableLemmas.{many_bad, many_end}
 
--- an item is the first of a reading that goes on with the others
+-- The first item of a read that continues with the others.
 items_before : {X : Type 0} (x : X) (r : Reading (List X)) → is_ok (before x r) ≡ true → items_of (before x r) ≡ x ∷ items_of r
 items_before x (Ok xs) good = refl
 items_before x (Err e) good = cc
 
--- the entries that were gathered, one more, and those that are left
+-- The entries collected so far, one more, and those that are left.
 pub one_more : (all all_new : List FileEntry) (x : FileEntry) (r rest : Reading (List Entry)) → r ≡ before (shown x) rest → is_ok r ≡ true → all_new ≡ all ++ x ∷ []
     → map shown all_new ++ items_of rest ≡ map shown all ++ items_of r
 one_more all all_new x r rest is good pushed =
@@ -25,7 +25,7 @@ one_more all all_new x r rest is good pushed =
 none_left : (front whole rest : List Entry) → rest ≡ [] → front ++ rest ≡ whole → front ≡ whole
 none_left front whole rest none e = sym (append-nil front) ∙ (ap (λ (ys : List Entry). front ++ ys) (sym none) ∙ e)
 
--- a table of versions 2 to 4 whose next entry can't be read, is the empty one, or isn't there
+-- A table of DWARF 2 to 4 whose next entry can't be read, is the empty one, or is absent.
 pub plain_bad : (front whole : List Entry) (kind : TableKind) (n i : ℕ) (w : Window) (e : BadFile) → i < n → plain_entry kind w ≡ Err e
     → front ++ items_of (plain_from kind (n - i) w) ≡ whole → front ≡ whole
 unfolding plain_from
@@ -46,7 +46,7 @@ plain_out front whole kind n i w le h =
     let m : n - i ≡ 0 = omega arith in
     none_left front whole (items_of (plain_from kind (n - i) w)) (rw m refl) h
 
--- so many entries, of which the next can't be read, or none is left
+-- A number of entries whose next one can't be read, or where none is left.
 pub many_bad_front : (front whole : List Entry) (read : Window → Reading Entry) (n i : ℕ) (w : Window) (e : BadFile) → i < n → read w ≡ Err e
     → front ++ items_of (many_from read (n - i) w) ≡ whole → front ≡ whole
 many_bad_front front whole read n i w e lt is h = none_left front whole (items_of (many_from read (n - i) w)) (rw (many_bad read n i w e lt is) refl) h

@@ -1,4 +1,4 @@
--- A table of versions 2 to 4 is read one entry after another.
+-- A table of DWARF 2 to 4 is read entry by entry.
 use Rattle.std.proofs.Common.{◌≡◌, ℕ, zero, suc, ◌+◌, ◌-◌, ◌<◌, ◌≤◌, Bool, true, false, List, length, Ok, Err, refl, ap, subst, ◌∙◌, arith}
 use Rattle.std.proofs.lemmas.Grind.{common_steps}
 use Rattle.std.proofs.lemmas.List.{drop_all}
@@ -14,7 +14,7 @@ use Rattle.dwarf_lines.specs.declared.entry.TableKind.TheVariants.{Directories, 
 use Rattle.dwarf_lines.specs.Tables.{Entry, Reading}
 use Rattle.dwarf_lines.specs.PlainTables.{numbers_from, plain_entry, plain_from, plain_table, up_to_empty}
 
--- behind a name and behind a number stands more of the same window
+-- More of the same window follows a name and a number.
 name_moves : (w : Window) (x : List ℕ × Window) → text_from w ≡ Ok x → (x.1.bytes ≡ w.bytes) × (w.at < x.1.at)
 unfolding text_from
 name_moves w x h = grind (arith, common_steps)
@@ -48,7 +48,7 @@ numbers_move Files false w x h = by_first (uleb_from w) refl h
     by_first (Err e) hr g = cc
     by_first (Ok a) hr g = by_second a hr (uleb_from a.1) refl g
 
--- an entry of this name and this directory
+-- An entry with this name and this directory.
 abbrev made : List ℕ → ℕ × Window → Reading Entry
 made name directory = Ok (record { name = name; directory = directory.0 }, directory.1)
 
@@ -70,12 +70,12 @@ entry_moves kind w next x h = by_name (text_from w) refl h
     by_name (Err e) hr g = cc
     by_name (Ok a) hr g = by_numbers a hr (numbers_from kind (nat_eq (length a.0) 0) a.1) refl g
 
--- none stands at the end
+-- No entry is at the end of the window.
 entry_past : (kind : TableKind) (w : Window) → length w.bytes ≤ w.at → plain_entry kind w ≡ bad Truncated (place_of w)
 unfolding plain_entry text_from text
 entry_past kind w past = rw (drop_all w.at w.bytes past) refl
 
--- enough fuel is as good as more
+-- Enough fuel is as good as more.
 same_plain : (kind : TableKind) (m n : ℕ) (w : Window) → length w.bytes ≤ w.at + m → length w.bytes ≤ w.at + n → plain_from kind m w ≡ plain_from kind n w
 unfolding plain_from
 same_plain kind zero zero w p q = refl

@@ -1,4 +1,4 @@
--- A table of versions 2 to 4, one entry after another.
+-- A table of DWARF 2 to 4, one entry after another.
 use Rattle.std.proofs.Common.{◌≡◌, ℕ, suc, ◌+◌, ◌-◌, ◌<◌, ◌≤◌, true, false, List, length, None, Ok, Err, refl, sym, ap, ◌∙◌, arith}
 use Rattle.std.specs.Prelude.{nat_eq, is_ok, slice_get}
 use Rattle.size_core.specs.declared.fault.BadFile.{BadFile}
@@ -10,22 +10,22 @@ use Rattle.dwarf_lines.specs.Tables.{Entry, Reading, before, items_of, passed_ov
 use Rattle.dwarf_lines.proofs.TableLemmas.{passed_over-before, is_ok-before}
 use Rattle.dwarf_lines.specs.PlainTables.{plain_entry, plain_from}
 
--- passing a table whose first entry can't be read
+-- Skipping a table whose first entry can't be read.
 pub pass_bad : (kind : TableKind) (n i : ℕ) (w : Window) (e : BadFile) → i < n → plain_entry kind w ≡ Err e → passed_over (plain_from kind (n - i) w) ≡ Err e
 unfolding plain_from passed_over
 pass_bad kind n i w e lt is = let k : n - i ≡ suc (n - (i + 1)) = omega arith in rw (k, is) refl
 
--- one that ends here
+-- Skipping a table that ends here.
 pub pass_last : (kind : TableKind) (n i : ℕ) (w next : Window) (x : Entry) → i < n → plain_entry kind w ≡ Ok (x, next) → nat_eq (length x.name) 0 ≡ true → passed_over (plain_from kind (n - i) w) ≡ Ok (tt, next)
 unfolding plain_from passed_over
 pass_last kind n i w next x lt is none = let k : n - i ≡ suc (n - (i + 1)) = omega arith in rw (k, is, none) refl
 
--- one that has no end
+-- Skipping a table that has no end.
 pub pass_out : (kind : TableKind) (n i : ℕ) (w : Window) → n ≤ i → passed_over (plain_from kind (n - i) w) ≡ bad Truncated (place_of w)
 unfolding plain_from passed_over
 pass_out kind n i w le = let k : n - i ≡ 0 = omega arith in rw k refl
 
--- a table that goes on
+-- A table that goes on.
 pub plain_more : (kind : TableKind) (n i : ℕ) (w next : Window) (x : Entry) → i < n → plain_entry kind w ≡ Ok (x, next) → nat_eq (length x.name) 0 ≡ false
     → plain_from kind (n - i) w ≡ before x (plain_from kind (n - (i + 1)) next)
 unfolding plain_from
@@ -35,7 +35,7 @@ pub pass_more : (kind : TableKind) (n i : ℕ) (w next : Window) (x : Entry) →
     → passed_over (plain_from kind (n - i) w) ≡ passed_over (plain_from kind (n - (i + 1)) next)
 pass_more kind n i w next x lt is some = ap (λ (r : Reading (List Entry)). passed_over r) (plain_more kind n i w next x lt is some) ∙ passed_over-before x (plain_from kind (n - (i + 1)) next)
 
--- the same, seen by its items
+-- The same, seen by its items.
 pub items_bad : (kind : TableKind) (n i k : ℕ) (w : Window) (e : BadFile) → i < n → plain_entry kind w ≡ Err e → slice_get (items_of (plain_from kind (n - i) w)) k ≡ None
 unfolding plain_from
 items_bad kind n i k w e lt is = let m : n - i ≡ suc (n - (i + 1)) = omega arith in rw (m, is) refl

@@ -17,7 +17,7 @@ use Rattle.dwarf_lines.specs.Machine.{run, row_of, after}
 use Rattle.dwarf_lines.specs.Rows.{good, bad_line, rows_of, to_come}
 use Rattle.dwarf_lines.specs.Steps.{Found, IsUnreadable}
 
--- an instruction takes a byte at least
+-- An instruction takes at least one byte.
 pub goes_on : (s : LineEncoding) (lengths : List ℕ) (bytes : List ℕ) (at : ℕ) (x : Instruction × ℕ) → instruction_at s lengths bytes at ≡ Some x → at < x.1
 unfolding instruction_at
 goes_on s lengths bytes at x h = by_opcode (num bytes at w8 Little) h
@@ -33,7 +33,7 @@ goes_on s lengths bytes at x h = by_opcode (num bytes at w8 Little) h
     by_opcode None e = cc
     by_opcode (Some opcode) e = by_operands (operands s lengths bytes opcode (at + 1)) e
 
--- enough fuel is as good as more
+-- Enough fuel is as good as more.
 pub same_fuel : (s : LineEncoding) (lengths : List ℕ) (base : ℕ) (bytes : List ℕ) (m n at : ℕ) → length bytes ≤ at + m → length bytes ≤ at + n → program_from s lengths base bytes m at ≡ program_from s lengths base bytes n at
 unfolding program_from
 same_fuel s lengths base bytes zero zero at p q = refl
@@ -46,7 +46,7 @@ same_fuel s lengths base bytes (suc m) (suc n) at p q = by_reading (λ next forw
     by_reading rests None is = rw is refl
     by_reading rests (Some x) is = rw (is, rests x.1 (goes_on s lengths bytes at x is)) refl
 
--- nothing stands at the end
+-- Nothing is at the end.
 pub program_end : (s : LineEncoding) (lengths : List ℕ) (base : ℕ) (bytes : List ℕ) (at : ℕ) → length bytes ≤ at → program s lengths base bytes at ≡ record { instructions = []; fault = None }
 unfolding program_from
 program_end s lengths base bytes at past = let none : length bytes - at ≡ 0 = omega arith in rw none refl
@@ -61,7 +61,7 @@ one_bad : (s : LineEncoding) (lengths : List ℕ) (base : ℕ) (bytes : List ℕ
 unfolding program_from
 one_bad s lengths base bytes at fuel lt is = let within : nat_lt at (length bytes) ≡ true = grind (arith, common_steps) in rw (within, is) refl
 
--- the program goes on with the instruction at a place
+-- The program goes on with the instruction at a position.
 pub program_more : (s : LineEncoding) (lengths : List ℕ) (base : ℕ) (bytes : List ℕ) (at : ℕ) (i : Instruction) (next : ℕ) → at < length bytes → instruction_at s lengths bytes at ≡ Some (i, next)
     → program s lengths base bytes at ≡ record { instructions = i ∷ (program s lengths base bytes next).instructions; fault = (program s lengths base bytes next).fault }
 program_more s lengths base bytes at i next lt is =
@@ -71,18 +71,18 @@ program_more s lengths base bytes at i next lt is =
     ∙ one_more s lengths base bytes at (length bytes - at) i next lt is
     ∙ ap (λ (p : Program). record { instructions = i ∷ p.instructions; fault = p.fault }) rest
 
--- or ends with the fault there
+-- The program ends with the fault at a position.
 pub program_bad : (s : LineEncoding) (lengths : List ℕ) (base : ℕ) (bytes : List ℕ) (at : ℕ) → at < length bytes → instruction_at s lengths bytes at ≡ None
     → program s lengths base bytes at ≡ record { instructions = []; fault = Some (record { fault = BadLine; offset = base + at }) }
 program_bad s lengths base bytes at lt is =
     same_fuel s lengths base bytes (length bytes - at) (suc (length bytes - at)) at (omega arith) (omega arith) ∙ one_bad s lengths base bytes at (length bytes - at) lt is
 
--- nothing comes at the end of the bytes
+-- Nothing follows at the end of the bytes.
 pub comes_none : (s : LineEncoding) (lengths : List ℕ) (r : Registers) (w : Window) → length w.bytes ≤ w.at → to_come s lengths r w ≡ []
 unfolding to_come rows_of run
 comes_none s lengths r w past = rw (program_end s lengths w.base w.bytes w.at past) refl
 
--- the fault is the last that comes
+-- The fault is the last item.
 pub comes_fault : (s : LineEncoding) (lengths : List ℕ) (r : Registers) (w : Window) (e : BadFile) → w.at < length w.bytes → IsUnreadable s lengths w e → to_come s lengths r w ≡ Err e ∷ []
 unfolding to_come rows_of run
 comes_fault s lengths r w e lt h = rw (program_bad s lengths w.base w.bytes w.at lt h.none, h.fault) refl
@@ -93,7 +93,7 @@ by_row : (s : LineEncoding) (r : Registers) (i : Instruction) (p : Program) (row
 by_row s r i p None = refl
 by_row s r i p (Some x) = refl
 
--- what comes behind an instruction, and the row that it makes before it
+-- An instruction's row comes first, and then what follows the instruction.
 pub comes_next : (s : LineEncoding) (lengths : List ℕ) (r : Registers) (w next : Window) (i : Instruction) → w.at < length w.bytes → Found (instruction_at s lengths w.bytes w.at) w i next
     → to_come s lengths r w ≡ map good (option_to_list (row_of s r i)) ++ to_come s lengths (after s r i) next
 unfolding to_come rows_of run

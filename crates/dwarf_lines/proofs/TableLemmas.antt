@@ -5,7 +5,7 @@ use Rattle.size_core.specs.declared.fault.BadFile.{BadFile}
 use Rattle.byte_cursor.specs.Window.{Window}
 use Rattle.dwarf_lines.specs.Tables.{Reading, before, items_of, many_from, passed_over}
 
--- what an item before a reading changes
+-- What an item before a read changes.
 pub passed_over-before : {X : Type 0} (x : X) (r : Reading (List X)) → passed_over (before x r) ≡ passed_over r
 unfolding passed_over
 passed_over-before x (Ok xs) = refl
@@ -15,7 +15,7 @@ pub is_ok-before : {X : Type 0} (x : X) (r : Reading (List X)) → is_ok (before
 is_ok-before x (Ok xs) = refl
 is_ok-before x (Err e) = refl
 
--- an item is the first of a reading that goes on with the others
+-- The first item of a read that continues with the others.
 pub item_here : {X : Type 0} (x : X) (r : Reading (List X)) → is_ok (before x r) ≡ true → slice_get (items_of (before x r)) 0 ≡ Some x
 item_here x (Ok xs) good = refl
 item_here x (Err e) good = cc
@@ -24,7 +24,7 @@ pub item_later : {X : Type 0} (x : X) (r : Reading (List X)) (k : ℕ) → slice
 item_later x (Ok xs) k = refl
 item_later x (Err e) k = refl
 
--- what is passed can be read, and this is the window behind it
+-- What is skipped can be read, and this is the window after it.
 pub passed_is : {X : Type 0} (r : Reading (List X)) (w : Window) → passed_over r ≡ Ok (tt, w) → r ≡ Ok (items_of r, w)
 unfolding passed_over
 passed_is (Ok x) w h = let both : (tt, x.1) ≡ (tt, w) = cc in let e : x.1 ≡ w = ap (λ (p : Unit {0} × Window). p.1) both in rw e refl
@@ -38,7 +38,7 @@ unfolding passed_over
 passed_is_not (Ok x) e h = cc
 passed_is_not (Err d) e h = cc
 
--- where the number of an item is reached, or not yet
+-- Whether the index of an item is reached.
 pub walk_here : {X : Type 0} (k i : ℕ) (x : X) (r rest : Reading (List X)) → r ≡ before x rest → is_ok r ≡ true → i ≡ k → slice_get (items_of r) (k - i) ≡ Some x
 walk_here {X = X} k i x r rest is good same =
     let none : k - i ≡ 0 = omega arith in
@@ -50,22 +50,22 @@ walk_on k i x r rest is lt =
     let more : k - i ≡ suc (k - (i + 1)) = omega arith in
     rw (more, is) (item_later x rest (k - (i + 1)))
 
--- so many items, of which the next can't be read
+-- A number of items whose next one can't be read.
 pub many_bad : {X : Type 0} (read : Window → Reading X) (n i : ℕ) (w : Window) (e : BadFile) → i < n → read w ≡ Err e → many_from read (n - i) w ≡ Err e
 unfolding many_from
 many_bad read n i w e lt is = let k : n - i ≡ suc (n - (i + 1)) = omega arith in rw (k, is) refl
 
--- or which go on
+-- A number of items of which one more follows.
 pub many_more : {X : Type 0} (read : Window → Reading X) (n i : ℕ) (w next : Window) (x : X) → i < n → read w ≡ Ok (x, next) → many_from read (n - i) w ≡ before x (many_from read (n - (i + 1)) next)
 unfolding many_from
 many_more read n i w next x lt is = let k : n - i ≡ suc (n - (i + 1)) = omega arith in rw (k, is) refl
 
--- or which have come to their end
+-- A number of items that has come to its end.
 pub many_end : {X : Type 0} (read : Window → Reading X) (n i : ℕ) (w : Window) → n ≤ i → many_from read (n - i) w ≡ Ok ([], w)
 unfolding many_from
 many_end read n i w le = let k : n - i ≡ 0 = omega arith in rw k refl
 
--- the same, passed over
+-- The same, for skipping them.
 pub pass_bad : {X : Type 0} (read : Window → Reading X) (n i : ℕ) (w : Window) (e : BadFile) → i < n → read w ≡ Err e → passed_over (many_from read (n - i) w) ≡ Err e
 unfolding passed_over
 pass_bad read n i w e lt is = rw (many_bad read n i w e lt is) refl
@@ -77,7 +77,7 @@ pub pass_end : {X : Type 0} (read : Window → Reading X) (n i : ℕ) (w : Windo
 unfolding passed_over
 pass_end read n i w le = rw (many_end read n i w le) refl
 
--- the same, seen by its items
+-- The same, seen by its items.
 pub items_bad : {X : Type 0} (read : Window → Reading X) (n i k : ℕ) (w : Window) (e : BadFile) → i < n → read w ≡ Err e → slice_get (items_of (many_from read (n - i) w)) k ≡ None
 items_bad read n i k w e lt is = rw (many_bad read n i w e lt is) refl
 

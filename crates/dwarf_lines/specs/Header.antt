@@ -18,11 +18,13 @@ use Rattle.dwarf_units.specs.declared.sections.Sections.{Sections}
 use Rattle.dwarf_lines.specs.PlainTables.{plain_table}
 use Rattle.dwarf_lines.specs.Tables.{Entry, Reading}
 
--- the sizes of an address and of a segment selector, which version 5 has
+-- The sizes of an address and of a segment selector, which are stored from DWARF 5 on (DWARF 2 to 5, section
+-- 6.2.4).
 unfoldable pub sizes_from : ℕ → Window → Reading (Unit {0})
 sizes_from version w = if nat_lt version 5 then Ok (tt, w) else skip_from 2 w
 
--- the window at the first instruction, which stands header_length bytes behind that field
+-- The window at the first instruction, which is header_length bytes after the field header_length (DWARF 2 to
+-- 5, section 6.2.4).
 unfoldable pub instructions_from : UnitShape → Window → Reading Window
 instructions_from s w = do
   sizes ← sizes_from s.version w
@@ -30,24 +32,25 @@ instructions_from s w = do
   demand (nat_le (len.1.at + len.0) (length len.1.bytes)) Truncated (place_of len.1)
   Ok (record len.1 { at = len.1.at + len.0 }, len.1)
 
--- how many operations an instruction has at most, which version 4 was the first to say: 0 counts as 1
+-- The maximum number of operations in an instruction, which is stored from DWARF 4 on. A stored 0 counts as 1
+-- (DWARF 2 to 5, section 6.2.4).
 unfoldable pub max_ops_from : ℕ → Window → Reading ℕ
 max_ops_from version w =
     if nat_lt version 4 then Ok (1, w)
     else byte_from w >>= λ n. Ok ((if n.0 == 0 then 1 else n.0), n.1)
 
--- a number that isn't 0
+-- A number that isn't 0 (DWARF 2 to 5, section 6.2.4).
 unfoldable pub divisor_from : Window → Reading ℕ
 divisor_from w = do
   n ← byte_from w
   demand (not (n.0 == 0)) BadHeader (place_of w)
   Ok n
 
--- how many bytes an address of this size has: another than 2 and 4 is taken for 8
+-- The size of an address. A number of bytes other than 2 and 4 counts as 8 (DWARF 2 to 5, section 6.2.4).
 abbrev pub address_size : ℕ → AddressSize
 address_size n = if n == 2 then Two else if n == 4 then Four else Eight
 
--- the numbers by which the instructions are read and run
+-- The parameters that the instructions depend on (DWARF 2 to 5, section 6.2.4).
 unfoldable pub encoding_from : UnitShape → Window → Reading LineEncoding
 encoding_from s w = do
   min_inst ← byte_from w
@@ -69,16 +72,16 @@ encoding_from s w = do
     opcode_base.1,
   )
 
--- how many numbers each standard opcode has
+-- The number of operands of each standard opcode (DWARF 2 to 5, section 6.2.4).
 unfoldable pub lengths_from : ℕ → Window → Reading (List ℕ)
 lengths_from count w = sub_window w w.at count >>= λ lengths. Ok (lengths.bytes, moved w true count)
 
--- a table, in the form that the version has
+-- A table, in the format of the version (DWARF 2 to 5, section 6.2.4).
 unfoldable pub table_from : Sections → UnitShape → TableKind → Window → Reading (List Entry)
 table_from sections s kind w = if nat_lt s.version 5 then plain_table kind w else formatted_table sections s w
 
--- a line program: its version, the numbers of its header, how many numbers each standard opcode has, its directories
--- and its files, and the window at its first instruction
+-- A line program: its version, the parameters of its header, the number of operands of each standard opcode,
+-- its directories, its files, and the window at its first instruction (DWARF 2 to 5, section 6.2.4).
 pub record LineHeader : Type 0 where
   pub version : ℕ
   pub encoding : LineEncoding
@@ -87,7 +90,7 @@ pub record LineHeader : Type 0 where
   pub files : List Entry
   pub instructions : Window
 
--- the header behind its version
+-- The header after its version (DWARF 2 to 5, section 6.2.4).
 unfoldable pub header_from : Sections → UnitShape → Window → Result LineHeader BadFile
 header_from sections s w = do
   instructions ← instructions_from s w

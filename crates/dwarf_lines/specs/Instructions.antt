@@ -1,4 +1,4 @@
--- The instructions that the bytes of a line program spell (DWARF 5, section 6.2.5).
+-- The encoding of the instructions of a line program (DWARF 5, section 6.2.5).
 use Rattle.std.specs.Prelude.{ℕ, ◌≤◌, zero, suc, ◌+◌, ◌-◌, ◌==◌, ◌||◌, List, [], ◌∷◌, length, slice_index, Option, Some, None, Result, Ok, Err, nat_lt, nat_le, if◌then◌else◌, option_map, option_and_then}
 use Rattle.std.specs.Int.{w8, w16, w32, w64}
 use Rattle.size_core.specs.declared.fault.BadFile.{BadFile}
@@ -12,7 +12,7 @@ use Rattle.dwarf_lines.specs.declared.instruction.Instruction.{Instruction}
 use Rattle.dwarf_lines.specs.declared.instruction.Instruction.TheVariants.{Special, CopyRow, AdvancePc, AdvanceLine, SetFile, SetColumn, NegateStatement, SetBasicBlock, ConstAddPc, FixedAdvancePc, SetPrologueEnd, SetEpilogueBegin, SetIsa, UnknownStandard, EndSequence, SetAddress, OtherExtended}
 use Rattle.dwarf_lines.specs.declared.constants.TheConstants.{EXTENDED_OPCODE, DW_LNS_COPY, DW_LNS_ADVANCE_PC, DW_LNS_ADVANCE_LINE, DW_LNS_SET_FILE, DW_LNS_SET_COLUMN, DW_LNS_NEGATE_STMT, DW_LNS_SET_BASIC_BLOCK, DW_LNS_CONST_ADD_PC, DW_LNS_FIXED_ADVANCE_PC, DW_LNS_SET_PROLOGUE_END, DW_LNS_SET_EPILOGUE_BEGIN, DW_LNS_SET_ISA, DW_LNE_END_SEQUENCE, DW_LNE_SET_ADDRESS}
 
--- the address of so many bytes at a place
+-- An address of size bytes at a position (DWARF 5, section 6.2.5).
 unfoldable pub address_at : LineEncoding → List ℕ → ℕ → ℕ → Option ℕ
 address_at s bytes at size =
     if size == 2 then num bytes at w16 s.order
@@ -20,28 +20,28 @@ address_at s bytes at size =
     else if size == 8 then num bytes at w64 s.order
     else None
 
--- the extended instruction of size bytes at a place that holds so many
-unfoldable pub extended_of : LineEncoding → List ℕ → ℕ → ℕ → Option Instruction
-extended_of s bytes at size =
+-- An extended instruction of size bytes at a position with that many bytes left (DWARF 5, section 6.2.5).
+unfoldable pub extended_instruction_of : LineEncoding → List ℕ → ℕ → ℕ → Option Instruction
+extended_instruction_of s bytes at size =
     if field bytes at w8 Little == DW_LNE_END_SEQUENCE then Some EndSequence
     else if field bytes at w8 Little == DW_LNE_SET_ADDRESS then option_map (λ n. SetAddress n) (address_at s bytes (at + 1) (size - 1))
     else Some (OtherExtended (field bytes at w8 Little))
 
--- the same, behind its size in bytes, which is at least 1
-unfoldable pub extended : LineEncoding → List ℕ → ℕ → Reading Instruction
-extended s bytes at = option_and_then
+-- An extended instruction after its first byte. Its size is at least 1 (DWARF 5, section 6.2.5).
+unfoldable pub extended_instruction : LineEncoding → List ℕ → ℕ → Reading Instruction
+extended_instruction s bytes at = option_and_then
     (λ size. if (size.0 == 0) || nat_lt (length bytes) (at + size.1 + size.0) then None
-    else option_map (λ i. (i, size.1 + size.0)) (extended_of s bytes (at + size.1) size.0))
+    else option_map (λ i. (i, size.1 + size.0)) (extended_instruction_of s bytes (at + size.1) size.0))
     (unsigned_at bytes at)
 
--- each standard opcode has a length
+-- Each standard opcode has a number of operands (DWARF 5, section 6.2.5).
 abbrev pub HasLengths : LineEncoding → List ℕ → Type 0
 HasLengths s lengths = s.opcode_base ≤ length lengths + 1
 
--- The instruction of a standard opcode whose operands stand at a place, and how many bytes these take: an opcode
--- that isn't known has as many numbers as the header says.
-unfoldable pub standard : Order → List ℕ → ℕ → ℕ → ℕ → Reading Instruction
-standard order bytes opcode count at =
+-- The instruction of a standard opcode whose operands are at a position, and the number of bytes that they
+-- take. An unknown opcode has as many operands as the header says (DWARF 5, section 6.2.5).
+unfoldable pub standard_instruction : Order → List ℕ → ℕ → ℕ → ℕ → Reading Instruction
+standard_instruction order bytes opcode count at =
     if opcode == DW_LNS_COPY then Some (CopyRow, 0)
     else if opcode == DW_LNS_ADVANCE_PC then made AdvancePc (unsigned_at bytes at)
     else if opcode == DW_LNS_ADVANCE_LINE then made AdvanceLine (signed_at bytes at)
@@ -56,39 +56,40 @@ standard order bytes opcode count at =
     else if opcode == DW_LNS_SET_ISA then made SetIsa (unsigned_at bytes at)
     else made (λ x. UnknownStandard opcode) (passed bytes count at)
 
--- the instruction of an opcode whose operands stand at a place, and how many bytes these take
+-- The instruction of an opcode whose operands are at a position, and the number of bytes that they take (DWARF
+-- 5, section 6.2.5).
 unfoldable pub operands : LineEncoding → List ℕ → List ℕ → ℕ → ℕ → Reading Instruction
 operands s lengths bytes opcode at =
     if nat_le s.opcode_base opcode then Some (Special (opcode - s.opcode_base), 0)
-    else if opcode == EXTENDED_OPCODE then extended s bytes at
-    else standard s.order bytes opcode (slice_index lengths (opcode - 1)) at
+    else if opcode == EXTENDED_OPCODE then extended_instruction s bytes at
+    else standard_instruction s.order bytes opcode (slice_index lengths (opcode - 1)) at
 
--- the instruction at a place, and the next place
+-- The instruction at a position, and the position after it (DWARF 5, section 6.2.5).
 unfoldable pub instruction_at : LineEncoding → List ℕ → List ℕ → ℕ → Reading Instruction
 instruction_at s lengths bytes at = option_and_then (λ opcode. option_map (λ x. (x.0, at + 1 + x.1)) (operands s lengths bytes opcode (at + 1))) (num bytes at w8 Little)
 
--- the same, or BadLine at the instruction's place in the file
+-- The instruction that was read, or BadLine at its file offset (DWARF 5, section 6.2.5).
 abbrev pub readable : Option (Instruction × ℕ) → ℕ → Result (Instruction × ℕ) BadFile
 readable None place = Err (record { fault = BadLine; offset = place })
 readable (Some x) place = Ok x
 
--- the instructions that a program spells, up to the first that can't be read
+-- The instructions of a program up to the first that can't be read, and its fault (DWARF 5, section 6.2.5).
 pub record Program : Type 0 where
   pub instructions : List Instruction
   pub fault : Option BadFile
 
--- a program that goes on with an instruction, and then from its next place
+-- The program that begins with an instruction and goes on at the next position (DWARF 5, section 6.2.5).
 abbrev pub going_on : Result (Instruction × ℕ) BadFile → (ℕ → Program) → Program
 going_on (Err e) rest = record { instructions = []; fault = Some e }
 going_on (Ok x) rest = record { instructions = x.0 ∷ (rest x.1).instructions; fault = (rest x.1).fault }
 
--- the program from a place on, of at most so many instructions
+-- The program from a position on, of at most fuel instructions (DWARF 5, section 6.2.5).
 unfoldable pub program_from : LineEncoding → List ℕ → ℕ → List ℕ → ℕ → ℕ → Program
 program_from s lengths base bytes zero at = record { instructions = []; fault = None }
 program_from s lengths base bytes (suc fuel) at =
     if nat_lt at (length bytes) then going_on (readable (instruction_at s lengths bytes at) (base + at)) (program_from s lengths base bytes fuel)
     else record { instructions = []; fault = None }
 
--- the program from a place on: each instruction takes a byte at least
+-- The program from a position on. Each instruction takes at least one byte (DWARF 5, section 6.2.5).
 abbrev pub program : LineEncoding → List ℕ → ℕ → List ℕ → ℕ → Program
 program s lengths base bytes at = program_from s lengths base bytes (length bytes - at) at

@@ -1,4 +1,4 @@
--- A line program is read one instruction after another, up to the end of its bytes.
+-- A line program is read instruction by instruction, up to the end of its bytes.
 use Rattle.std.specs.Prelude.{◌≡◌, ◌==◌, ℕ, ◌+◌, ◌<◌, ◌≤◌, List, [], ◌∷◌, length, Some, None, Ok, Err}
 use Rattle.size_core.specs.declared.fault.BadFile.{BadFile}
 use Rattle.byte_cursor.specs.Window.{Window}
@@ -10,24 +10,24 @@ use Rattle.dwarf_lines.specs.declared.encoding.LineEncoding.{LineEncoding}
 use Rattle.dwarf_lines.specs.declared.instruction.Instruction.{Instruction}
 use Rattle.dwarf_lines.specs.Instructions.{instruction_at, program}
 
--- behind an instruction come those from its next place on
+-- A program is its first instruction and then the program at the next position.
 abbrev pub GoesOn : Type 0
 GoesOn = (s : LineEncoding) (lengths : List ℕ) (base : ℕ) (bytes : List ℕ) (at : ℕ) (i : Instruction) (next : ℕ) → at < length bytes → instruction_at s lengths bytes at ≡ Some (i, next)
     → program s lengths base bytes at ≡ record { instructions = i ∷ (program s lengths base bytes next).instructions; fault = (program s lengths base bytes next).fault }
 
--- what can't be read is the fault
+-- An instruction that can't be read is the fault.
 abbrev pub StopsAtFault : Type 0
 StopsAtFault = (s : LineEncoding) (lengths : List ℕ) (base : ℕ) (bytes : List ℕ) (at : ℕ) → at < length bytes → instruction_at s lengths bytes at ≡ None
     → program s lengths base bytes at ≡ record { instructions = []; fault = Some (record { fault = BadLine; offset = base + at }) }
 
--- nothing comes behind the bytes
+-- Nothing follows at the end of the bytes.
 abbrev pub StopsAtEnd : Type 0
 StopsAtEnd = (s : LineEncoding) (lengths : List ℕ) (base : ℕ) (bytes : List ℕ) (at : ℕ) → length bytes ≤ at → program s lengths base bytes at ≡ record { instructions = []; fault = None }
 
--- behind an entry with a name come those from the next one on, in a table of versions 2 to 4
+-- A table of DWARF 2 to 4 is its first entry with a name and then the rest of the table.
 abbrev pub TableGoesOn : Type 0
 TableGoesOn = (kind : TableKind) (w next : Window) (x : Entry) → plain_entry kind w ≡ Ok (x, next) → plain_table kind w ≡ up_to_empty (length x.name == 0) (x, next) (plain_table kind next)
 
--- an entry that can't be read is its fault
+-- An entry that can't be read is the table's fault.
 abbrev pub TableStops : Type 0
 TableStops = (kind : TableKind) (w : Window) (e : BadFile) → plain_entry kind w ≡ Err e → plain_table kind w ≡ Err e

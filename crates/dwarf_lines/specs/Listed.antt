@@ -4,7 +4,7 @@ use Rattle.dwarf_lines.specs.declared.table.Table.{Table}
 use Rattle.dwarf_lines.specs.declared.table.Table.TheVariants.{Plain, Formatted, Kept, Empty}
 use Rattle.dwarf_lines.specs.Tables.{Entry, shown}
 
--- the entries of a table
+-- The entries of a table.
 abbrev pub entries : Table → List Entry
 entries (Plain table) = table
 entries (Formatted table) = table

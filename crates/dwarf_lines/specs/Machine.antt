@@ -9,41 +9,41 @@ use Rattle.dwarf_lines.specs.declared.registers.LineRow.{LineRow}
 use Rattle.dwarf_lines.specs.declared.instruction.Instruction.{Instruction}
 use Rattle.dwarf_lines.specs.declared.instruction.Instruction.TheVariants.{Special, CopyRow, AdvancePc, AdvanceLine, SetFile, SetColumn, NegateStatement, SetBasicBlock, ConstAddPc, FixedAdvancePc, SetPrologueEnd, SetEpilogueBegin, SetIsa, UnknownStandard, EndSequence, SetAddress, OtherExtended}
 
--- how many addresses there are
+-- The number of addresses of a size (DWARF 5, sections 6.2.2 and 6.2.5).
 abbrev pub address_count : AddressSize → ℕ
 address_count Two = 2 ^ 16
 address_count Four = 2 ^ 32
 address_count Eight = 2 ^ 64
 
--- the numbers by which the machine divides are not 0
+-- The numbers that the machine divides by aren't 0 (DWARF 5, sections 6.2.2 and 6.2.5).
 pub record IsUsable (s : LineEncoding) : Type 0 where
   pub ops : 0 < s.max_ops
   pub range : 0 < s.line_range
 
--- the registers at the beginning of a sequence
+-- The registers at the start of a sequence (DWARF 5, sections 6.2.2 and 6.2.5).
 abbrev pub start : Registers
 start = record { address = 0; op_index = 0; file = 1; line = 1 }
 
--- the address so many units further on, which wraps
+-- The address by units further on. It wraps (DWARF 5, sections 6.2.2 and 6.2.5).
 abbrev pub address_plus : LineEncoding → ℕ → ℕ → ℕ
 address_plus s address by = (address + by) % address_count s.address_size
 
--- the line so many lines further on, which wraps
+-- The line by lines further on. It wraps (DWARF 5, sections 6.2.2 and 6.2.5).
 abbrev pub line_plus : ℕ → ℤ → ℕ
 line_plus line by = unsigned_abs (int_rem_euclid (pos line +ℤ by) (pos (2 ^ 32)))
 
--- the registers advanced by so many operations
+-- The registers advanced by this many operations (DWARF 5, sections 6.2.2 and 6.2.5).
 unfoldable pub advance : LineEncoding → Registers → ℕ → Registers
 advance s r by = record r {
   address = address_plus s r.address (s.min_inst * ((r.op_index + by) / s.max_ops));
   op_index = (r.op_index + by) % s.max_ops;
 }
 
--- how many lines a special opcode goes on
+-- The line increment of a special opcode (DWARF 5, sections 6.2.2 and 6.2.5).
 abbrev pub line_step : LineEncoding → ℕ → ℤ
 line_step s adj = s.line_base +ℤ pos (adj % s.line_range)
 
--- the registers after an instruction
+-- The registers after an instruction (DWARF 5, sections 6.2.2 and 6.2.5).
 unfoldable pub after : LineEncoding → Registers → Instruction → Registers
 after s r (Special adj) = record (advance s r (adj / s.line_range)) { line = line_plus r.line (line_step s adj) }
 after s r CopyRow = r
@@ -63,11 +63,11 @@ after s r (SetIsa n) = r
 after s r (UnknownStandard opcode) = r
 after s r (OtherExtended opcode) = r
 
--- the row of the registers
+-- The row that the registers describe (DWARF 5, sections 6.2.2 and 6.2.5).
 abbrev pub row : Registers → Bool → LineRow
 row r end = record { address = r.address; file = r.file; line = r.line; end = end }
 
--- the row that an instruction makes
+-- The row that an instruction emits, where it emits one (DWARF 5, sections 6.2.2 and 6.2.5).
 unfoldable pub row_of : LineEncoding → Registers → Instruction → Option LineRow
 row_of s r (Special adj) = Some (row (after s r (Special adj)) false)
 row_of s r CopyRow = Some (row r false)
@@ -87,7 +87,7 @@ row_of s r (SetIsa n) = None
 row_of s r (UnknownStandard opcode) = None
 row_of s r (OtherExtended opcode) = None
 
--- the rows that instructions make
+-- The rows that instructions emit (DWARF 5, sections 6.2.2 and 6.2.5).
 unfoldable pub run : LineEncoding → Registers → List Instruction → List LineRow
 run s r [] = []
 run s r (i ∷ is) = option_to_list (row_of s r i) ++ run s (after s r i) is

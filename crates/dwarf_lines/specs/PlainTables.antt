@@ -1,4 +1,4 @@
--- The tables of versions 2 to 4: entries up to one with an empty name (DWARF 4, section 6.2.4).
+-- The tables of DWARF 2 to 4: entries up to one with an empty name (DWARF 4, section 6.2.4).
 use Rattle.std.specs.Prelude.{ℕ, zero, suc, ◌-◌, ◌==◌, Bool, true, false, List, [], length, Ok}
 use Rattle.size_core.specs.declared.fault.Fault.TheVariants.{Truncated}
 use Rattle.size_core.specs.Checks.{◌>>=◌, bad}
@@ -8,7 +8,8 @@ use Rattle.dwarf_lines.specs.declared.entry.TableKind.TheVariants.{Directories, 
 use Rattle.dwarf_abbrev.specs.Reads.{text_from, uleb_from}
 use Rattle.dwarf_lines.specs.Tables.{Entry, Reading, before}
 
--- the number of a file's directory, behind which stand its time and its length; behind an empty name stands nothing
+-- The number of a file's directory. The file's time and length follow it. Nothing follows an empty name (DWARF
+-- 4, section 6.2.4).
 unfoldable pub numbers_from : TableKind → Bool → Window → Reading ℕ
 numbers_from kind true w = Ok (0, w)
 numbers_from Directories false w = Ok (0, w)
@@ -18,25 +19,26 @@ numbers_from Files false w = do
   len ← uleb_from time.1
   Ok (directory.0, len.1)
 
--- an entry
+-- An entry of a table (DWARF 4, section 6.2.4).
 unfoldable pub plain_entry : TableKind → Window → Reading Entry
 plain_entry kind w = do
   name ← text_from w
   directory ← numbers_from kind (length name.0 == 0) name.1
   Ok (record { name = name.0; directory = directory.0 }, directory.1)
 
--- the entries up to one with an empty name, where that is the empty one, or comes behind the others
+-- The entries up to one with an empty name: none where this entry is that one, or else this one and the rest
+-- (DWARF 4, section 6.2.4).
 abbrev pub up_to_empty : Bool → Entry × Window → Reading (List Entry) → Reading (List Entry)
 up_to_empty true x rest = Ok ([], x.1)
 up_to_empty false x rest = before x.0 rest
 
--- the same, if it is among the first so many
+-- The entries up to one with an empty name, where that is among the first n (DWARF 4, section 6.2.4).
 unfoldable pub plain_from : TableKind → ℕ → Window → Reading (List Entry)
 plain_from kind zero w = bad Truncated (place_of w)
 plain_from kind (suc n) w = do
   x ← plain_entry kind w
   up_to_empty (length x.0.name == 0) x (plain_from kind n x.1)
 
--- a table: each entry takes a byte at least
+-- A table. Each entry takes at least one byte (DWARF 4, section 6.2.4).
 abbrev pub plain_table : TableKind → Window → Reading (List Entry)
 plain_table kind w = plain_from kind (length w.bytes - w.at) w

@@ -13,9 +13,10 @@ use Rattle.dwarf_abbrev.specs.Reads.{inside}
 use Rattle.dwarf_lines.specs.Header.{LineHeader, address_size, header_from}
 use Rattle.dwarf_units.specs.declared.sections.Sections.{Sections}
 
--- a program that isn't read: it has no rows, no directories and no files
-abbrev pub unread : UnitShape → LineHeader
-unread s = record {
+-- A program that isn't supported: it has no rows, no directories and no files (DWARF 5, sections 6.2.4 and
+-- 7.4).
+abbrev pub empty_program : UnitShape → LineHeader
+empty_program s = record {
   version = s.version;
   encoding = record { order = s.order; address_size = address_size s.address; min_inst = 1; max_ops = 1; line_base = pos 0; line_range = 1; opcode_base = 1 };
   lengths = [];
@@ -24,39 +25,41 @@ unread s = record {
   instructions = record { base = 0; bytes = []; at = 0 };
 }
 
--- a version that is read
+-- A version, where it is supported (DWARF 5, sections 6.2.4 and 7.4).
 abbrev pub known : Option ℕ → Option ℕ
 known None = None
 known (Some version) = if nat_le 2 version && nat_le version 5 then Some version else None
 
--- the same reading, each of whose faults is BadLine at this place
+-- A read whose faults are all BadLine at the file offset `place` (DWARF 5, sections 6.2.4 and 7.4).
 abbrev pub bad_lines_at : {X : Type 0} → ℕ → Result X BadFile → Result X BadFile
 bad_lines_at place (Ok x) = Ok x
 bad_lines_at place (Err e) = bad BadLine place
 
--- a program of a version: the sizes of its values go by the version and the offsets of the program, and by the
--- addresses of the unit
+-- A program of a version. The encoding of its values depends on the version and the offset size of the program,
+-- and on the address size of the unit (DWARF 5, sections 6.2.4 and 7.4).
 abbrev pub header_by : Sections → UnitShape → ℕ → Bool → Window → Option ℕ → Result LineHeader BadFile
-header_by sections s place wide w None = Ok (unread s)
+header_by sections s place wide w None = Ok (empty_program s)
 header_by sections s place wide w (Some version) =
     bad_lines_at place (header_from sections (record { version = version; wide = wide; address = s.address; order = s.order }) (record w { at = 2 }))
 
--- the program of these contents
+-- The program with these contents (DWARF 5, sections 6.2.4 and 7.4).
 abbrev pub program_of : Sections → UnitShape → ℕ → Bool → Window → Result LineHeader BadFile
 program_of sections s place wide contents = header_by sections s place wide contents (known (num contents.bytes 0 w16 s.order))
 
--- the program that begins in this window: its contents lie behind its length
+-- The program at the begin of a window. Its contents follow its length (DWARF 5, sections 6.2.4 and 7.4).
 unfoldable pub program_here : Sections → UnitShape → Window → Result LineHeader BadFile
 program_here sections s w = do
   initial ← initial_length_from s.order w
   contents ← sub_window initial.1 initial.1.at initial.0.len
   program_of sections s (place_of w) initial.0.wide contents
 
--- the program in this window of the section, if the offset lies in it
+-- The program in this window of the section; OffsetOutside where there is none (DWARF 5, sections 6.2.4 and
+-- 7.4).
 abbrev pub program_in : Sections → UnitShape → ℕ → Option Window → Result LineHeader BadFile
 program_in sections s place None = bad OffsetOutside place
 program_in sections s place (Some w) = program_here sections s w
 
--- the program at an offset of `.debug_line`, whose fault outside the section stands at this place
+-- The program at an offset of `.debug_line`. Where the offset is outside the section, the fault has the file
+-- offset `place` (DWARF 5, sections 6.2.4 and 7.4).
 abbrev pub program_at : Sections → ℕ → ℕ → UnitShape → Result LineHeader BadFile
 program_at sections offset place s = program_in sections s place (inside sections.lines offset)

@@ -9,21 +9,23 @@ use Rattle.dwarf_lines.specs.Instructions.{Program, program}
 use Rattle.dwarf_lines.specs.Machine.{run, start}
 use Rattle.dwarf_lines.specs.Header.{LineHeader}
 
--- the items of the list: a row, and a fault
+-- A row, as an item of the list (DWARF 5, section 6.2).
 abbrev pub good : LineRow → Result LineRow BadFile
 good row = Ok row
 
+-- A fault, as an item of the list (DWARF 5, section 6.2).
 abbrev pub bad_line : BadFile → Result LineRow BadFile
 bad_line fault = Err fault
 
--- the rows of a program's instructions, and then its fault
+-- The rows of a program's instructions, and then its fault (DWARF 5, section 6.2).
 unfoldable pub rows_of : LineEncoding → Registers → Program → List (Result LineRow BadFile)
 rows_of s r p = map good (run s r p.instructions) ++ option_to_list (option_map bad_line p.fault)
 
--- what the rest of a window gives
+-- The rows and the fault in the rest of a window (DWARF 5, section 6.2).
 unfoldable pub to_come : LineEncoding → List ℕ → Registers → Window → List (Result LineRow BadFile)
 to_come s lengths r w = rows_of s r (program s lengths w.base w.bytes w.at)
 
--- the rows of a line program, and then its fault: its instructions are read to their end, and then run
+-- The rows of a line program, and then its fault. Its instructions are read to their end, and then run (DWARF
+-- 5, section 6.2).
 abbrev pub line_rows : LineHeader → List (Result LineRow BadFile)
 line_rows h = rows_of h.encoding start (program h.encoding h.lengths h.instructions.base h.instructions.bytes h.instructions.at)

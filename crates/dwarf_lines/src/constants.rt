@@ -1,33 +1,33 @@
-//! The numbers of the standard that are told apart in line programs (DWARF 5, sections 6.2.4, 6.2.5 and 7.22).
+//! The constants of line programs that this crate distinguishes (DWARF 5, sections 6.2.4, 6.2.5 and 7.22).
 
-/// The byte before an extended opcode and its length.
+/// The byte that begins an extended instruction. Its length and its opcode follow.
 pub const EXTENDED_OPCODE: u8 = 0;
 
-/// Makes a row (`DW_LNS_copy`).
+/// Emits a row (`DW_LNS_copy`).
 pub const DW_LNS_COPY: u8 = 1;
 
-/// Advances the address and the operation (`DW_LNS_advance_pc`).
+/// Advances the address and the operation index (`DW_LNS_advance_pc`).
 pub const DW_LNS_ADVANCE_PC: u8 = 2;
 
-/// Adds to the line (`DW_LNS_advance_line`).
+/// Adds to the line number (`DW_LNS_advance_line`).
 pub const DW_LNS_ADVANCE_LINE: u8 = 3;
 
-/// Sets the file (`DW_LNS_set_file`).
+/// Sets the file number (`DW_LNS_set_file`).
 pub const DW_LNS_SET_FILE: u8 = 4;
 
-/// Sets the column (`DW_LNS_set_column`).
+/// Sets the column number (`DW_LNS_set_column`).
 pub const DW_LNS_SET_COLUMN: u8 = 5;
 
-/// Says whether statements begin here (`DW_LNS_negate_stmt`).
+/// Toggles whether rows begin statements (`DW_LNS_negate_stmt`).
 pub const DW_LNS_NEGATE_STMT: u8 = 6;
 
 /// A basic block begins (`DW_LNS_set_basic_block`).
 pub const DW_LNS_SET_BASIC_BLOCK: u8 = 7;
 
-/// Advances as the special opcode 255 does (`DW_LNS_const_add_pc`).
+/// Advances the address as the special opcode 255 does (`DW_LNS_const_add_pc`).
 pub const DW_LNS_CONST_ADD_PC: u8 = 8;
 
-/// Adds two bytes to the address (`DW_LNS_fixed_advance_pc`).
+/// Adds a two-byte number to the address (`DW_LNS_fixed_advance_pc`).
 pub const DW_LNS_FIXED_ADVANCE_PC: u8 = 9;
 
 /// A function's prologue ends (`DW_LNS_set_prologue_end`).
@@ -51,11 +51,12 @@ pub const DW_LNCT_PATH: u64 = 1;
 /// The number of a file's directory (`DW_LNCT_directory_index`).
 pub const DW_LNCT_DIRECTORY_INDEX: u64 = 2;
 
-/// A form whose value stands in the declaration (`DW_FORM_implicit_const`), which a line program has not.
+/// The form whose value is stored in the declaration (`DW_FORM_implicit_const`). It isn't allowed in line
+/// programs.
 pub const DW_FORM_IMPLICIT_CONST: u64 = 0x21;
 
-/// What stands between a directory and a name.
+/// The separator between a directory and a name.
 pub const SLASH: u8 = b'/';
 
-/// What stands for the path of a file that isn't there.
+/// The path that is reported for a file that doesn't exist.
 pub const UNKNOWN_FILE: &[u8] = b"[Unknown file]";

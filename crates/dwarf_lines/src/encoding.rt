@@ -1,8 +1,8 @@
-//! The numbers of a line program's header.
+//! The parameters in a line program's header.
 
 use byte_cursor::Order;
 
-/// How many bytes an address takes.
+/// The size of an address.
 #[derive(Clone, Copy, Debug, PartialEq, Eq)]
 pub enum AddressSize {
     /// 2 bytes.
@@ -13,10 +13,10 @@ pub enum AddressSize {
     Eight,
 }
 
-/// The numbers of a line program's header by which its instructions are read and run (DWARF 5, section 6.2.4).
+/// The parameters in a line program's header that its instructions depend on (DWARF 5, section 6.2.4).
 #[derive(Clone, Copy, Debug, PartialEq, Eq)]
 pub struct LineEncoding {
-    /// The order of the bytes of numbers.
+    /// The byte order.
     pub order: Order,
     /// The size of the unit's addresses.
     pub address_size: AddressSize,
@@ -24,10 +24,10 @@ pub struct LineEncoding {
     pub min_inst: u8,
     /// `maximum_operations_per_instruction`, at least 1.
     pub max_ops: u8,
-    /// `line_base`: the least number of lines that a special opcode goes on.
+    /// `line_base`: the least line increment of a special opcode.
     pub line_base: i8,
-    /// `line_range`: how many numbers of lines special opcodes tell apart. Not 0.
+    /// `line_range`: the number of different line increments of special opcodes. Not 0.
     pub line_range: u8,
-    /// `opcode_base`: the first special opcode. Not 0.
+    /// `opcode_base`: the number of the first special opcode. Not 0.
     pub opcode_base: u8,
 }

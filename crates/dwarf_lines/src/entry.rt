@@ -1,15 +1,15 @@
-//! The directories and the files of a line program.
+//! Entries of the directory table and the file table of a line program.
 
 /// A directory or a file of a line program (DWARF 5, section 6.2.4).
 #[derive(Clone, Copy, Debug)]
 pub struct FileEntry<'a> {
-    /// Its name, as the program has it.
+    /// The name, as the program stores it.
     pub name: &'a [u8],
-    /// The number of a file's directory.
+    /// The number of the file's directory.
     pub directory: u64,
 }
 
-/// Which of the two tables of a line program.
+/// One of the two tables of a line program.
 #[derive(Clone, Copy, Debug, PartialEq, Eq)]
 pub enum TableKind {
     Directories,

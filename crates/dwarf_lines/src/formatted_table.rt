@@ -1,5 +1,5 @@
-//! The tables of version 5: the contents and forms of an entry's values, and then the entries (DWARF 5,
-//! section 6.2.4.1).
+//! The tables of DWARF 5: first the content and the form of each value, and then the entries (DWARF 5, section
+//! 6.2.4.1).
 
 ghost use Rattle.size_core.specs.Checks.{demand};
 ghost use Rattle.size_core.specs.declared.fault.Fault.TheVariants.{Truncated};
@@ -13,7 +13,7 @@ ghost use Rattle.dwarf_lines.specs.Tables.{items_of, many_from, passed_over, sho
 
 use crate::constants::{DW_FORM_IMPLICIT_CONST, DW_LNCT_DIRECTORY_INDEX, DW_LNCT_PATH};
 use crate::entry::FileEntry;
-use crate::names::{copied, name_of};
+use crate::names::{copy_sections, name_of};
 use byte_cursor::Cursor;
 use dwarf_abbrev::{Content, Spec, UnitShape, Value, read_form, u8_from, uleb_from};
 use dwarf_units::Sections;
@@ -21,7 +21,7 @@ use size_core::{BadFile, Fault, NoMemory};
 use std::alloc::Global;
 use std::marker::Model;
 
-/// The content, in the place of an attribute, and the form of its values that stand here.
+/// Reads a pair: the content type of a value, as an attribute number, and the value's form.
 #[tactic(auto, unfolding(crate::specs::FormattedTables::pair_from))]
 fn pair(cursor: &mut Cursor) -> Result<Spec, BadFile>
     ensures { Reads (λ p. p) result cursor.new (pair_from cursor.old) }
@@ -42,7 +42,7 @@ fn pair(cursor: &mut Cursor) -> Result<Spec, BadFile>
     })
 }
 
-/// Passes the pairs that stand here.
+/// Skips `count` pairs.
 #[tactic(auto, using(crate::proofs::TableLemmas::pass_bad, crate::proofs::TableLemmas::pass_end, crate::proofs::TableLemmas::pass_more))]
 fn pass_pairs(count: u8, cursor: &mut Cursor) -> Result<(), BadFile>
     ensures { Reads (λ u. u) result cursor.new (passed_over (many_from pair_from count cursor.old)) }
@@ -53,15 +53,19 @@ fn pass_pairs(count: u8, cursor: &mut Cursor) -> Result<(), BadFile>
     Ok(())
 }
 
-/// The path and the directory of an entry, as far as its values say them.
+/// The values of an entry's path and directory, as far as they are known.
 #[derive(Clone, Copy)]
 struct EntryValues<'a> {
     path: Option<Value<'a>>,
     directory: Option<Value<'a>>,
 }
 
-/// The first value of a content: the one that is held, or this one, if it is of the content.
-fn first<'a>(held: Option<Value<'a>>, is_content: bool, value: Value<'a>) -> Option<Value<'a>>
+/// The first value of a content type: the one that is known, or else this one, where it has this content type.
+fn first_of_content<'a>(
+    held: Option<Value<'a>>,
+    is_content: bool,
+    value: Value<'a>,
+) -> Option<Value<'a>>
     ensures { option_map value_shown result
         ≡ held_first (option_map value_shown held.entry) (if is_content then Some (value_shown value.entry) else None) }
 {
@@ -72,7 +76,7 @@ fn first<'a>(held: Option<Value<'a>>, is_content: bool, value: Value<'a>) -> Opt
     }
 }
 
-/// What the values say, one for each pair, that stand here.
+/// Reads the values of an entry, one for each pair.
 #[tactic(auto, using(crate::proofs::GatheredLemmas::gathered_more, crate::proofs::GatheredLemmas::gathered_bad, crate::proofs::GatheredLemmas::gathered_end, crate::proofs::GatheredLemmas::pairs_good, crate::proofs::GatheredLemmas::pairs_stop, crate::proofs::GatheredLemmas::gathered_is))]
 fn entry_values<'a>(
     shape: &UnitShape,
@@ -90,13 +94,13 @@ fn entry_values<'a>(
     for i in 0..count {
         let pair = pair(&mut rest)?;
         let value = read_form(cursor, &pair, shape)?;
-        path = first(path, pair.attribute == DW_LNCT_PATH, value);
-        directory = first(directory, pair.attribute == DW_LNCT_DIRECTORY_INDEX, value);
+        path = first_of_content(path, pair.attribute == DW_LNCT_PATH, value);
+        directory = first_of_content(directory, pair.attribute == DW_LNCT_DIRECTORY_INDEX, value);
     }
     Ok(EntryValues { path, directory })
 }
 
-/// How the entries of a table are read.
+/// What is needed to read the entries of a table.
 #[derive(Drop)]
 struct Format<'a> {
     sections: Sections<'a>,
@@ -117,7 +121,7 @@ impl<'a> Model for Format<'a> {
     ghost invariant = { λ f. is_ok (many_from pair_from f.count f.pairs) ≡ true };
 }
 
-/// The number of a directory, as far as a value says it.
+/// The directory number that a value gives. It is 0 where the value is absent or no constant.
 fn directory_in(value: Option<Value>) -> u64
     ensures { result ≡ directory_in (option_map value_shown value.entry) }
 {
@@ -133,7 +137,7 @@ fn directory_in(value: Option<Value>) -> u64
 }
 
 impl<'a> Format<'a> {
-    /// The pairs that stand here behind their count.
+    /// Reads the pair count and the pairs.
     #[tactic(auto, unfolding(crate::specs::FormattedTables::format_from), using(crate::proofs::TableLemmas::passed_is, crate::proofs::TableLemmas::passed_is_ok, crate::proofs::TableLemmas::passed_is_not))]
     fn read(
         sections: &Sections<'a>,
@@ -146,14 +150,14 @@ impl<'a> Format<'a> {
         let pairs = cursor.fork();
         pass_pairs(count, cursor)?;
         Ok(Format {
-            sections: copied(sections),
+            sections: copy_sections(sections),
             shape: *shape,
             pairs,
             count,
         })
     }
 
-    /// The entry that stands here.
+    /// Reads an entry.
     #[tactic(auto, unfolding(crate::specs::FormattedTables::formatted_entry))]
     fn entry(&self, cursor: &mut Cursor<'a>) -> Result<FileEntry<'a>, BadFile>
         ensures { Reads shown result cursor.new (formatted_entry self.now cursor.old) }
@@ -167,7 +171,7 @@ impl<'a> Format<'a> {
     }
 }
 
-/// Passes so many entries.
+/// Skips `count` entries.
 #[tactic(auto, using(crate::proofs::TableLemmas::pass_bad, crate::proofs::TableLemmas::pass_end, crate::proofs::TableLemmas::pass_more))]
 fn pass_entries<'a>(format: &Format<'a>, count: u64, cursor: &mut Cursor<'a>) -> Result<(), BadFile>
     ensures { Reads (λ u. u) result cursor.new (passed_over (many_from (formatted_entry format.now) count cursor.old)) }
@@ -178,7 +182,7 @@ fn pass_entries<'a>(format: &Format<'a>, count: u64, cursor: &mut Cursor<'a>) ->
     Ok(())
 }
 
-/// The entry of a number, from 0 on, of so many that stand here.
+/// The entry at index `k`, counted from 0, of `count` entries at the cursor.
 #[tactic(auto, using(crate::proofs::TableLemmas::items_bad, crate::proofs::TableLemmas::items_end))]
 fn entry_at<'a>(
     format: &Format<'a>,
@@ -202,7 +206,7 @@ fn entry_at<'a>(
     None
 }
 
-/// All of so many entries that stand here.
+/// All of the `count` entries at the cursor.
 fn entries_of<'a>(
     alloc: Global,
     format: &Format<'a>,
@@ -224,7 +228,7 @@ fn entries_of<'a>(
     Ok(all)
 }
 
-/// A table, seen as the list of its entries.
+/// A table. Contracts see it as the list of its entries.
 #[derive(Drop)]
 pub struct FormattedTable<'a> {
     format: Format<'a>,
@@ -244,7 +248,7 @@ impl<'a> Model for FormattedTable<'a> {
     ghost invariant = { λ t. is_ok (many_from (formatted_entry t.format) t.count t.entries) ≡ true };
 }
 
-/// A table can't have more entries than bytes are left.
+/// Checks that there aren't more entries than bytes.
 fn can_have(count: u64, cursor: &Cursor) -> Result<(), BadFile>
     ensures { result ≡ demand (nat_le count (length cursor.now.bytes - cursor.now.at)) Truncated (place_of cursor.now) }
 {
@@ -258,7 +262,7 @@ fn can_have(count: u64, cursor: &Cursor) -> Result<(), BadFile>
 }
 
 impl<'a> FormattedTable<'a> {
-    /// The table of so many entries that stand here, which are passed.
+    /// The table of `count` entries at the cursor. The cursor moves past them.
     #[tactic(auto, using(crate::proofs::TableLemmas::passed_is_not))]
     fn of(
         format: Format<'a>,
@@ -276,7 +280,7 @@ impl<'a> FormattedTable<'a> {
         })
     }
 
-    /// The table that stands here, which is passed.
+    /// Reads a table.
     #[tactic(auto, unfolding(crate::specs::FormattedTables::formatted_table, crate::specs::FormattedTables::entries_from))]
     pub fn read(
         sections: &Sections<'a>,
@@ -291,14 +295,14 @@ impl<'a> FormattedTable<'a> {
         FormattedTable::of(format, count, cursor)
     }
 
-    /// The entry of a number, from 0 on.
+    /// The entry at index `k`, counted from 0.
     pub fn get(&self, k: u64) -> Option<FileEntry<'a>>
         ensures { option_map shown result ≡ slice_get self.now k }
     {
         entry_at(&self.format, self.count, &self.entries, k)
     }
 
-    /// All entries in order.
+    /// All entries, in order.
     pub fn all(&self, alloc: Global) -> Result<Vec<FileEntry<'a>>, NoMemory>
         ensures { IfOk result (λ v. map shown v.items ≡ self.now) }
     {

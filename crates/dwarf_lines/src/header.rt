@@ -10,9 +10,9 @@ use byte_cursor::Cursor;
 use dwarf_abbrev::{UnitShape, offset_from, skip_from, u8_from};
 use size_core::{BadFile, Fault};
 
-/// Passes the sizes of an address and of a segment selector, which version 5 has.
+/// Skips the sizes of an address and of a segment selector, which are stored from DWARF 5 on.
 #[tactic(auto, unfolding(crate::specs::Header::sizes_from))]
-fn sizes(version: u16, cursor: &mut Cursor) -> Result<(), BadFile>
+fn skip_sizes(version: u16, cursor: &mut Cursor) -> Result<(), BadFile>
     ensures { Reads (λ u. u) result cursor.new (sizes_from version cursor.old) }
 {
     if version < 5 {
@@ -21,19 +21,19 @@ fn sizes(version: u16, cursor: &mut Cursor) -> Result<(), BadFile>
     skip_from(cursor, 2)
 }
 
-/// The place of the first instruction, by the length of the header.
+/// The cursor at the first instruction, by the length of the header.
 #[tactic(auto, unfolding(crate::specs::Header::instructions_from))]
 pub fn instructions<'a>(shape: &UnitShape, cursor: &mut Cursor<'a>) -> Result<Cursor<'a>, BadFile>
     ensures { Reads (λ w. w) result cursor.new (instructions_from shape.now cursor.old) }
 {
-    sizes(shape.version, cursor)?;
+    skip_sizes(shape.version, cursor)?;
     let len = offset_from(cursor, shape.order, shape.wide)?;
     let mut instructions = cursor.fork();
     instructions.skip(len)?;
     Ok(instructions)
 }
 
-/// How many operations an instruction has at most: 1 before version 4.
+/// The maximum number of operations in an instruction. It is 1 before DWARF 4.
 #[tactic(auto, unfolding(crate::specs::Header::max_ops_from))]
 fn max_ops(version: u16, cursor: &mut Cursor) -> Result<u8, BadFile>
     ensures reads { Reads (λ n. n) result cursor.new (max_ops_from version cursor.old) }
@@ -63,7 +63,7 @@ fn divisor(cursor: &mut Cursor) -> Result<u8, BadFile>
     Ok(number)
 }
 
-/// How many bytes an address has. Another size than 2 and 4 is taken for 8.
+/// The size of an address. A number of bytes other than 2 and 4 counts as 8.
 pub fn address_size(bytes: u8) -> AddressSize
     ensures { result ≡ address_size bytes }
 {
@@ -74,7 +74,7 @@ pub fn address_size(bytes: u8) -> AddressSize
     }
 }
 
-/// The numbers by which the instructions are read and run.
+/// Reads the parameters that the instructions depend on.
 #[tactic(auto, unfolding(crate::specs::Header::encoding_from))]
 pub fn encoding(shape: &UnitShape, cursor: &mut Cursor) -> Result<LineEncoding, BadFile>
     ensures reads { Reads (λ e. e) result cursor.new (encoding_from shape.now cursor.old) }
@@ -98,7 +98,7 @@ pub fn encoding(shape: &UnitShape, cursor: &mut Cursor) -> Result<LineEncoding, 
     })
 }
 
-/// How many numbers each standard opcode has, where there are so many of these.
+/// The number of operands of each of `count` standard opcodes.
 #[tactic(auto, unfolding(crate::specs::Header::lengths_from))]
 pub fn lengths<'a>(count: u8, cursor: &mut Cursor<'a>) -> Result<&'a [u8], BadFile>
     ensures reads { Reads (λ l. l.now) result cursor.new (lengths_from count cursor.old) }

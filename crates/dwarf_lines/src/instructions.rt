@@ -6,7 +6,7 @@ ghost use Rattle.byte_cursor.specs.Numbers.{num};
 ghost use Rattle.byte_cursor.specs.Window.{moved, place_of};
 ghost use Rattle.byte_cursor.specs.Reads.{leb_len};
 ghost use Rattle.dwarf_lines.specs.Reads.{value_of};
-ghost use Rattle.dwarf_lines.specs.Instructions.{HasLengths, address_at, extended, extended_of, standard, operands, instruction_at};
+ghost use Rattle.dwarf_lines.specs.Instructions.{HasLengths, address_at, extended_instruction, extended_instruction_of, standard_instruction, operands, instruction_at};
 ghost use Rattle.dwarf_lines.specs.Steps.{IsAt, Found, IsUnreadable};
 
 use crate::constants::{
@@ -21,7 +21,7 @@ use crate::reads::{passed, signed, unsigned};
 use byte_cursor::{Cursor, Order};
 use size_core::{BadFile, Fault};
 
-/// The address of `size` bytes that stands here.
+/// Reads an address of `size` bytes.
 #[tactic(auto, unfolding(crate::specs::Instructions::address_at))]
 fn address(encoding: &LineEncoding, cursor: &mut Cursor, size: u64) -> Option<u64>
     ensures { result ≡ address_at encoding.now cursor.old.bytes cursor.old.at size }
@@ -34,12 +34,16 @@ fn address(encoding: &LineEncoding, cursor: &mut Cursor, size: u64) -> Option<u6
     }
 }
 
-/// The extended instruction of `size` bytes that stands here.
-#[tactic(auto, unfolding(crate::specs::Instructions::extended_of))]
-fn extended_of(encoding: &LineEncoding, cursor: &Cursor, size: u64) -> Option<Instruction>
+/// Reads an extended instruction of `size` bytes.
+#[tactic(auto, unfolding(crate::specs::Instructions::extended_instruction_of))]
+fn extended_instruction_of(
+    encoding: &LineEncoding,
+    cursor: &Cursor,
+    size: u64,
+) -> Option<Instruction>
     requires some { 0 < size }
     requires within { cursor.now.at + size ≤ length cursor.now.bytes }
-    ensures { result ≡ extended_of encoding.now cursor.now.bytes cursor.now.at size }
+    ensures { result ≡ extended_instruction_of encoding.now cursor.now.bytes cursor.now.at size }
 {
     let mut inner = cursor.fork();
     match inner.u8().ok()? {
@@ -53,36 +57,41 @@ fn extended_of(encoding: &LineEncoding, cursor: &Cursor, size: u64) -> Option<In
     }
 }
 
-/// The extended instruction that stands here behind its size.
-#[tactic(auto, unfolding(crate::specs::Instructions::extended))]
-fn extended(encoding: &LineEncoding, cursor: &mut Cursor) -> Option<Instruction>
-    ensures value { result ≡ value_of (extended encoding.now cursor.old.bytes cursor.old.at) }
+/// Reads an extended instruction, after its first byte.
+#[tactic(auto, unfolding(crate::specs::Instructions::extended_instruction))]
+fn extended_instruction(encoding: &LineEncoding, cursor: &mut Cursor) -> Option<Instruction>
+    ensures value { result ≡ value_of (extended_instruction encoding.now cursor.old.bytes cursor.old.at) }
     ensures after { OnSome result (cursor.new
-        ≡ moved cursor.old true (leb_len (extended encoding.now cursor.old.bytes cursor.old.at))) }
+        ≡ moved cursor.old true (leb_len (extended_instruction encoding.now cursor.old.bytes cursor.old.at))) }
 {
     let size = unsigned(cursor)?;
     if size == 0 || cursor.left() < size {
         return None;
     }
-    let instruction = extended_of(encoding, cursor, size)?;
+    let instruction = extended_instruction_of(encoding, cursor, size)?;
     cursor.skip(size).ok()?;
     Some(instruction)
 }
 
-/// A number of two bytes.
-fn two(order: Order, cursor: &mut Cursor) -> Option<u16>
+/// Reads a two-byte number.
+fn two_byte_number(order: Order, cursor: &mut Cursor) -> Option<u16>
     ensures value { result ≡ num cursor.old.bytes cursor.old.at w16 order }
     ensures after { OnSome result (cursor.new ≡ moved cursor.old true 2) }
 {
     cursor.u16(order).ok()
 }
 
-/// The instruction of a standard opcode whose operands stand here.
-#[tactic(auto, unfolding(crate::specs::Instructions::standard))]
-fn standard(opcode: u8, count: u8, cursor: &mut Cursor, order: Order) -> Option<Instruction>
-    ensures value { result ≡ value_of (standard order cursor.old.bytes opcode count cursor.old.at) }
+/// Reads the operands of a standard opcode.
+#[tactic(auto, unfolding(crate::specs::Instructions::standard_instruction))]
+fn standard_instruction(
+    opcode: u8,
+    count: u8,
+    cursor: &mut Cursor,
+    order: Order,
+) -> Option<Instruction>
+    ensures value { result ≡ value_of (standard_instruction order cursor.old.bytes opcode count cursor.old.at) }
     ensures after { OnSome result (cursor.new
-        ≡ moved cursor.old true (leb_len (standard order cursor.old.bytes opcode count cursor.old.at))) }
+        ≡ moved cursor.old true (leb_len (standard_instruction order cursor.old.bytes opcode count cursor.old.at))) }
 {
     Some(match opcode {
         DW_LNS_COPY => Instruction::CopyRow,
@@ -93,7 +102,7 @@ fn standard(opcode: u8, count: u8, cursor: &mut Cursor, order: Order) -> Option<
         DW_LNS_NEGATE_STMT => Instruction::NegateStatement,
         DW_LNS_SET_BASIC_BLOCK => Instruction::SetBasicBlock,
         DW_LNS_CONST_ADD_PC => Instruction::ConstAddPc,
-        DW_LNS_FIXED_ADVANCE_PC => Instruction::FixedAdvancePc(two(order, cursor)?),
+        DW_LNS_FIXED_ADVANCE_PC => Instruction::FixedAdvancePc(two_byte_number(order, cursor)?),
         DW_LNS_SET_PROLOGUE_END => Instruction::SetPrologueEnd,
         DW_LNS_SET_EPILOGUE_BEGIN => Instruction::SetEpilogueBegin,
         DW_LNS_SET_ISA => Instruction::SetIsa(unsigned(cursor)?),
@@ -104,7 +113,7 @@ fn standard(opcode: u8, count: u8, cursor: &mut Cursor, order: Order) -> Option<
     })
 }
 
-/// The instruction of an opcode whose operands stand here.
+/// Reads the operands of an opcode.
 #[tactic(auto, unfolding(crate::specs::Instructions::operands))]
 fn operands(
     encoding: &LineEncoding,
@@ -121,14 +130,18 @@ fn operands(
         return Some(Instruction::Special(opcode - encoding.opcode_base));
     }
     if opcode == EXTENDED_OPCODE {
-        return extended(encoding, cursor);
+        return extended_instruction(encoding, cursor);
     }
-    standard(opcode, lengths[opcode as usize - 1], cursor, encoding.order)
+    standard_instruction(opcode, lengths[opcode as usize - 1], cursor, encoding.order)
 }
 
-/// The instruction that stands here, from its opcode on.
+/// Reads an instruction with its opcode.
 #[tactic(auto, unfolding(crate::specs::Instructions::instruction_at))]
-fn whole(encoding: &LineEncoding, lengths: &[u8], cursor: &mut Cursor) -> Option<Instruction>
+fn opcode_and_operands(
+    encoding: &LineEncoding,
+    lengths: &[u8],
+    cursor: &mut Cursor,
+) -> Option<Instruction>
     requires { HasLengths encoding.now lengths.now }
     ensures value { result ≡ value_of (instruction_at encoding.now lengths.now cursor.old.bytes cursor.old.at) }
     ensures after { OnSome result
@@ -138,7 +151,7 @@ fn whole(encoding: &LineEncoding, lengths: &[u8], cursor: &mut Cursor) -> Option
     operands(encoding, lengths, opcode, cursor)
 }
 
-/// The instruction that stands here. BadLine where none does.
+/// Reads an instruction. BadLine where none can be read.
 pub fn instruction(
     encoding: &LineEncoding,
     lengths: &[u8],
@@ -150,7 +163,7 @@ pub fn instruction(
         (λ e. IsUnreadable encoding.now lengths.now cursor.old e) }
 {
     let place = cursor.place();
-    whole(encoding, lengths, cursor).ok_or(BadFile {
+    opcode_and_operands(encoding, lengths, cursor).ok_or(BadFile {
         fault: Fault::BadLine,
         offset: place,
     })

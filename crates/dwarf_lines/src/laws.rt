@@ -4,10 +4,11 @@ ghost use Rattle.std.specs.Prelude.{◌≡◌, [], ◌∷◌};
 ghost use Rattle.dwarf_lines.specs.Laws.{GoesOn, StopsAtEnd, StopsAtFault, TableGoesOn, TableStops};
 ghost use Rattle.dwarf_lines.specs.declared.constants.TheConstants.{EXTENDED_OPCODE, DW_LNS_COPY, DW_LNS_ADVANCE_PC, DW_LNS_ADVANCE_LINE, DW_LNS_SET_FILE, DW_LNS_SET_COLUMN, DW_LNS_NEGATE_STMT, DW_LNS_SET_BASIC_BLOCK, DW_LNS_CONST_ADD_PC, DW_LNS_FIXED_ADVANCE_PC, DW_LNS_SET_PROLOGUE_END, DW_LNS_SET_EPILOGUE_BEGIN, DW_LNS_SET_ISA, DW_LNE_END_SEQUENCE, DW_LNE_SET_ADDRESS, DW_LNCT_PATH, DW_LNCT_DIRECTORY_INDEX, DW_FORM_IMPLICIT_CONST, SLASH};
 
-/// The numbers of the standard that are told apart are these: the standard opcodes 1 to 12 (DWARF 5, section
-/// 7.22, table 7.25), the extended ones behind opcode 0 (table 7.26), the contents of entries (table 7.27), and
-/// the one form that can't stand in a line program (section 7.5.6, table 7.6). A path's parts are joined by `/`.
-pub fn constants_are_those_of_the_standard()
+/// The constants have the numbers of the standard: the standard opcodes 1 to 12 (DWARF 5, section 7.22, table
+/// 7.25), the extended opcodes after opcode 0 (table 7.26), the content types of entries (table 7.27), and the
+/// one form that isn't allowed in line programs (section 7.5.6, table 7.6). The parts of a path are joined by
+/// `/`.
+pub fn standard_numbers()
     ensures standard { (DW_LNS_COPY ∷ DW_LNS_ADVANCE_PC ∷ DW_LNS_ADVANCE_LINE ∷ DW_LNS_SET_FILE ∷ DW_LNS_SET_COLUMN
         ∷ DW_LNS_NEGATE_STMT ∷ DW_LNS_SET_BASIC_BLOCK ∷ DW_LNS_CONST_ADD_PC ∷ DW_LNS_FIXED_ADVANCE_PC
         ∷ DW_LNS_SET_PROLOGUE_END ∷ DW_LNS_SET_EPILOGUE_BEGIN ∷ DW_LNS_SET_ISA ∷ [])
@@ -18,15 +19,15 @@ pub fn constants_are_those_of_the_standard()
     ensures slash { SLASH ≡ 47 }
 {}
 
-/// A line program is read one instruction after another, up to a fault or the end of its bytes.
+/// A line program is read instruction by instruction, up to a fault or the end of its bytes.
 pub fn one_after_another()
     ensures more { GoesOn }
     ensures fault { StopsAtFault }
     ensures end { StopsAtEnd }
 {}
 
-/// A table of directories or files of versions 2 to 4 is read one entry after another, up to one with an empty
-/// name or a fault.
+/// A table of directories or files of DWARF 2 to 4 is read entry by entry, up to an entry with an empty name or
+/// a fault.
 pub fn entries_one_after_another()
     ensures more { TableGoesOn }
     ensures fault { TableStops }

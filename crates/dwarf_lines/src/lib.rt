@@ -1,5 +1,5 @@
-//! Line programs of DWARF 2 to 5: their headers, the paths of their files, and the rows that their instructions
-//! make. A file is borrowed; only paths, and the tables of a program that is kept, take memory.
+//! Line programs of DWARF 2 to 5: their headers, the paths of their files, and their rows. Everything borrows
+//! the file. Only paths and the cached tables of `LineProgram::kept` allocate.
 #![tactic(auto)]
 
 mod constants;
@@ -22,10 +22,7 @@ mod table;
 pub use encoding::{AddressSize, LineEncoding};
 pub use entry::{FileEntry, TableKind};
 pub use instruction::Instruction;
-pub use laws::{constants_are_those_of_the_standard, entries_one_after_another, one_after_another};
+pub use laws::{entries_one_after_another, one_after_another, standard_numbers};
 pub use program::LineProgram;
 pub use registers::{LineRow, Registers};
 pub use rows::LineRows;
-
-#[cfg(test)]
-mod tests;

@@ -7,14 +7,14 @@ use crate::encoding::{AddressSize, LineEncoding};
 use crate::instruction::Instruction;
 use crate::registers::{LineRow, Registers};
 
-/// The line that many lines further on, modulo 2^32.
+/// The line number `by` lines further on, modulo 2^32.
 fn line_plus(line: u32, by: i64) -> u32
     ensures { result ≡ line_plus line by }
 {
     (line as i128 + by as i128).rem_euclid(1 << 32) as u32
 }
 
-/// The address that many units further on, modulo the number of addresses.
+/// The address `count` units further on, modulo the number of addresses.
 fn address_plus(encoding: &LineEncoding, address: u64, unit: u8, count: u128) -> u64
     requires { count ≤ 2 ^ 65 }
     ensures { result ≡ address_plus encoding.now address (unit * count) }
@@ -27,7 +27,7 @@ fn address_plus(encoding: &LineEncoding, address: u64, unit: u8, count: u128) ->
     }
 }
 
-/// The registers at the beginning of a sequence.
+/// The registers at the start of a sequence.
 pub fn start() -> Registers
     ensures { result ≡ start }
 {
@@ -39,7 +39,7 @@ pub fn start() -> Registers
     }
 }
 
-/// The row of the registers.
+/// The row that the registers describe.
 fn row(registers: &Registers, end: bool) -> LineRow
     ensures { result ≡ row registers.now end }
 {
@@ -51,7 +51,7 @@ fn row(registers: &Registers, end: bool) -> LineRow
     }
 }
 
-/// Advances by so many operations.
+/// Advances the address and the operation index by `by` operations.
 #[tactic(auto, unfolding(crate::specs::Machine::advance))]
 fn advance(encoding: &LineEncoding, registers: &mut Registers, by: u64)
     requires { IsUsable encoding.now }
@@ -68,7 +68,7 @@ fn advance(encoding: &LineEncoding, registers: &mut Registers, by: u64)
     registers.op_index = index;
 }
 
-/// Goes on at the first operation of an address.
+/// Sets the address, with operation index 0.
 fn jump(registers: &mut Registers, address: u64)
     ensures { registers.new ≡ record registers.old { address = address; op_index = 0 } }
 {
@@ -76,7 +76,7 @@ fn jump(registers: &mut Registers, address: u64)
     registers.op_index = 0;
 }
 
-/// How many lines a special opcode goes on.
+/// The line increment of a special opcode.
 fn line_step(encoding: &LineEncoding, adj: u8) -> i64
     requires { IsUsable encoding.now }
     ensures { result ≡ line_step encoding.now adj }
@@ -84,7 +84,7 @@ fn line_step(encoding: &LineEncoding, adj: u8) -> i64
     encoding.line_base as i64 + (adj % encoding.line_range) as i64
 }
 
-/// Runs an instruction, and gives the row that it makes.
+/// Runs an instruction. Returns the row that it emits, where it emits one.
 #[tactic(auto, unfolding(crate::specs::Machine::advance, crate::specs::Machine::after, crate::specs::Machine::row_of))]
 pub fn apply(
     encoding: &LineEncoding,

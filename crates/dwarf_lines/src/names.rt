@@ -1,4 +1,4 @@
-//! The names that the values of version 5 say (DWARF 5, section 6.2.4.1).
+//! The names that values of DWARF 5 give (section 6.2.4.1).
 
 ghost use Rattle.std.specs.Prelude.{◌≡◌};
 ghost use Rattle.std.specs.Option.{option_map};
@@ -10,8 +10,8 @@ use dwarf_abbrev::{UnitShape, Value};
 use dwarf_units::{Sections, table_header, text_of};
 use size_core::BadFile;
 
-/// The same sections.
-pub fn copied<'a>(sections: &Sections<'a>) -> Sections<'a>
+/// A copy of the sections' cursors.
+pub fn copy_sections<'a>(sections: &Sections<'a>) -> Sections<'a>
     ensures { result ≡ sections.now }
 {
     Sections {
@@ -29,7 +29,7 @@ pub fn copied<'a>(sections: &Sections<'a>) -> Sections<'a>
     }
 }
 
-/// The string that a value names: no bytes where the value is missing or names none.
+/// The string that a value refers to. It is empty where the value is absent or refers to no string.
 #[tactic(auto, unfolding(crate::specs::Names::name_of))]
 pub fn name_of<'a>(
     sections: &Sections<'a>,

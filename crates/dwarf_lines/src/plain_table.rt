@@ -1,4 +1,4 @@
-//! The tables of versions 2 to 4: entries up to one with an empty name (DWARF 4, section 6.2.4).
+//! The tables of DWARF 2 to 4: entries up to one with an empty name (DWARF 4, section 6.2.4).
 
 ghost use Rattle.std.specs.Prelude.{◌≡◌, ◌==◌, IfOk, length, is_ok, map, option_map, slice_get, true};
 ghost use Rattle.dwarf_lines.specs.PlainTables.{numbers_from, plain_entry, plain_table};
@@ -13,9 +13,9 @@ use size_core::{BadFile, Fault, NoMemory};
 use std::alloc::Global;
 use std::marker::Model;
 
-/// The number of a file's directory, behind which its time and its length are passed.
+/// Reads the directory number of a file, and skips the file's time and length.
 #[tactic(auto, unfolding(crate::specs::PlainTables::numbers_from))]
-fn numbers(kind: TableKind, name: &[u8], cursor: &mut Cursor) -> Result<u64, BadFile>
+fn directory_number(kind: TableKind, name: &[u8], cursor: &mut Cursor) -> Result<u64, BadFile>
     ensures { Reads (λ n. n) result cursor.new (numbers_from kind (length name.now == 0) cursor.old) }
 {
     if name.is_empty() {
@@ -32,17 +32,17 @@ fn numbers(kind: TableKind, name: &[u8], cursor: &mut Cursor) -> Result<u64, Bad
     }
 }
 
-/// The entry that stands here.
+/// Reads an entry.
 #[tactic(auto, unfolding(crate::specs::PlainTables::plain_entry))]
 fn entry<'a>(kind: TableKind, cursor: &mut Cursor<'a>) -> Result<FileEntry<'a>, BadFile>
     ensures { Reads shown result cursor.new (plain_entry kind cursor.old) }
 {
     let name = text_from(cursor)?;
-    let directory = numbers(kind, name, cursor)?;
+    let directory = directory_number(kind, name, cursor)?;
     Ok(FileEntry { name, directory })
 }
 
-/// Passes the entries that stand here, and the empty one behind them.
+/// Skips the entries of a table, and the empty entry at its end.
 #[tactic(auto, using(crate::proofs::PlainLemmas::pass_bad, crate::proofs::PlainLemmas::pass_last, crate::proofs::PlainLemmas::pass_out, crate::proofs::PlainLemmas::pass_more))]
 fn pass_entries(kind: TableKind, cursor: &mut Cursor) -> Result<(), BadFile>
     ensures { Reads (λ u. u) result cursor.new (passed_over (plain_table kind cursor.old)) }
@@ -59,7 +59,7 @@ fn pass_entries(kind: TableKind, cursor: &mut Cursor) -> Result<(), BadFile>
     })
 }
 
-/// The entry of a number, from 0 on, of the table that stands here.
+/// The entry at index `k`, counted from 0, of the table at the cursor.
 #[tactic(auto, using(crate::proofs::PlainLemmas::items_bad, crate::proofs::PlainLemmas::items_last, crate::proofs::PlainLemmas::items_out))]
 fn entry_at<'a>(kind: TableKind, table: &Cursor<'a>, k: u64) -> Option<FileEntry<'a>>
     requires { is_ok (plain_table kind table.now) ≡ true }
@@ -80,7 +80,7 @@ fn entry_at<'a>(kind: TableKind, table: &Cursor<'a>, k: u64) -> Option<FileEntry
     None
 }
 
-/// All entries of the table that stands here.
+/// All entries of the table at the cursor.
 fn entries_of<'a>(
     alloc: Global,
     kind: TableKind,
@@ -103,7 +103,7 @@ fn entries_of<'a>(
     Ok(all)
 }
 
-/// A table, seen as the list of its entries.
+/// A table. Contracts see it as the list of its entries.
 #[derive(Drop)]
 pub struct PlainTable<'a> {
     kind: TableKind,
@@ -123,7 +123,7 @@ impl<'a> Model for PlainTable<'a> {
 }
 
 impl<'a> PlainTable<'a> {
-    /// The table that stands here, which is passed.
+    /// Reads a table.
     #[tactic(auto, using(crate::proofs::TableLemmas::passed_is, crate::proofs::TableLemmas::passed_is_ok, crate::proofs::TableLemmas::passed_is_not))]
     pub fn read(kind: TableKind, cursor: &mut Cursor<'a>) -> Result<PlainTable<'a>, BadFile>
         ensures { Reads (λ t. t) result cursor.new (plain_table kind cursor.old) }
@@ -136,14 +136,14 @@ impl<'a> PlainTable<'a> {
         })
     }
 
-    /// The entry of a number, from 0 on.
+    /// The entry at index `k`, counted from 0.
     pub fn get(&self, k: u64) -> Option<FileEntry<'a>>
         ensures { option_map shown result ≡ slice_get self.now k }
     {
         entry_at(self.kind, &self.cursor, k)
     }
 
-    /// All entries in order.
+    /// All entries, in order.
     pub fn all(&self, alloc: Global) -> Result<Vec<FileEntry<'a>>, NoMemory>
         ensures { IfOk result (λ v. map shown v.items ≡ self.now) }
     {

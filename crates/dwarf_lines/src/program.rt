@@ -6,7 +6,7 @@ ghost use Rattle.byte_cursor.specs.Numbers.{num};
 ghost use Rattle.dwarf_lines.specs.Header.{header_from};
 ghost use Rattle.dwarf_lines.specs.Listed.{entries};
 ghost use Rattle.dwarf_lines.specs.Paths.{entry_numbered, in_directory, is_absolute, path_of, shown_directory};
-ghost use Rattle.dwarf_lines.specs.Programs.{known, program_at, program_here, program_of, unread};
+ghost use Rattle.dwarf_lines.specs.Programs.{known, program_at, program_here, program_of, empty_program};
 ghost use Rattle.dwarf_lines.specs.Rows.{line_rows};
 ghost use Rattle.dwarf_lines.specs.Tables.{shown};
 
@@ -23,8 +23,8 @@ use size_core::{BadFile, Fault, NoMemory};
 use std::alloc::Global;
 use std::marker::Model;
 
-/// A line program (DWARF 5, section 6.2): its header is read and its strings are there, and its instructions are
-/// read as rows are asked for.
+/// A line program (DWARF 5, section 6.2). Its header and its tables have been checked. Its instructions are
+/// read when its rows are requested.
 #[derive(Drop)]
 pub struct LineProgram<'a> {
     version: u16,
@@ -55,7 +55,7 @@ impl<'a> Model for LineProgram<'a> {
     ghost invariant = { λ p. IsUsable p.encoding × HasLengths p.encoding p.lengths.now };
 }
 
-/// The entry of a number of a table. Numbers begin at 1 before version 5, and at 0 from then on.
+/// The entry of a table with this number. Numbers begin at 1 before DWARF 5, and at 0 from DWARF 5 on.
 fn entry_numbered<'a>(version: u16, table: &Table<'a>, number: u64) -> Option<FileEntry<'a>>
     ensures { option_map shown result ≡ entry_numbered version (entries table.now) number }
 {
@@ -68,14 +68,14 @@ fn entry_numbered<'a>(version: u16, table: &Table<'a>, number: u64) -> Option<Fi
     }
 }
 
-/// Whether a name needs no directory.
+/// Whether a name is an absolute path.
 fn is_absolute(name: &[u8]) -> bool
     ensures { result ≡ is_absolute name.now }
 {
     !name.is_empty() && name[0] == SLASH
 }
 
-/// The versions of the standard whose programs are read.
+/// The version of a program, where it is supported.
 fn known_version(contents: &Cursor, order: Order) -> Option<u16>
     ensures { result ≡ known (num contents.now.bytes contents.now.at w16 order) }
 {
@@ -86,7 +86,7 @@ fn known_version(contents: &Cursor, order: Order) -> Option<u16>
     }
 }
 
-/// Appends bytes.
+/// Appends bytes. On an error `out` is unchanged.
 fn append(out: &mut Vec<u8>, bytes: &[u8]) -> Result<(), NoMemory>
     ensures ok { OnOk result (out.new.items ≡ out.old.items ++ bytes.now) }
     ensures err { OnErr result (out.new.items ≡ out.old.items) }
@@ -95,7 +95,7 @@ fn append(out: &mut Vec<u8>, bytes: &[u8]) -> Result<(), NoMemory>
     Ok(())
 }
 
-/// Appends a directory, a slash and a name, or a part of these.
+/// Appends a directory, a slash and a name. On an error some of these may have been appended.
 fn append_parts(out: &mut Vec<u8>, directory: &[u8], name: &[u8]) -> Result<(), NoMemory>
     ensures ok { OnOk result (out.new.items ≡ out.old.items ++ (directory.now ++ SLASH ∷ name.now)) }
     ensures kept { take (vec_len out.old) out.new.items ≡ out.old.items }
@@ -105,7 +105,7 @@ fn append_parts(out: &mut Vec<u8>, directory: &[u8], name: &[u8]) -> Result<(), 
     append(out, name)
 }
 
-/// Appends a directory, a slash and a name.
+/// Appends a directory, a slash and a name. On an error `out` is unchanged.
 fn append_both(out: &mut Vec<u8>, directory: &[u8], name: &[u8]) -> Result<(), NoMemory>
     ensures ok { OnOk result (out.new.items ≡ out.old.items ++ (directory.now ++ SLASH ∷ name.now)) }
     ensures err { OnErr result (out.new.items ≡ out.old.items) }
@@ -119,9 +119,9 @@ fn append_both(out: &mut Vec<u8>, directory: &[u8], name: &[u8]) -> Result<(), N
 }
 
 impl<'a> LineProgram<'a> {
-    /// The program behind its version.
+    /// Reads the rest of a program, after its version.
     #[tactic(auto, unfolding(crate::specs::Header::header_from))]
-    fn behind_version(
+    fn after_version(
         sections: &Sections<'a>,
         shape: &UnitShape,
         mut cursor: Cursor<'a>,
@@ -143,9 +143,9 @@ impl<'a> LineProgram<'a> {
         })
     }
 
-    /// A program that isn't read: it has no rows, no directories and no files.
-    fn unread(shape: &UnitShape) -> LineProgram<'a>
-        ensures { result ≡ unread shape.now }
+    /// A program of a version that isn't supported: it has no rows, no directories and no files.
+    fn empty(shape: &UnitShape) -> LineProgram<'a>
+        ensures { result ≡ empty_program shape.now }
     {
         LineProgram {
             version: shape.version,
@@ -165,7 +165,7 @@ impl<'a> LineProgram<'a> {
         }
     }
 
-    /// The program of these contents.
+    /// Reads the program with these contents.
     fn of(
         sections: &Sections<'a>,
         shape: &UnitShape,
@@ -177,7 +177,7 @@ impl<'a> LineProgram<'a> {
         ensures { result ≡ program_of sections.now shape.now place wide contents.entry }
     {
         let Some(version) = known_version(&contents, shape.order) else {
-            return Ok(LineProgram::unread(shape));
+            return Ok(LineProgram::empty(shape));
         };
         let _ = contents.skip(2);
         let shape = UnitShape {
@@ -186,7 +186,7 @@ impl<'a> LineProgram<'a> {
             address: shape.address,
             order: shape.order,
         };
-        match LineProgram::behind_version(sections, &shape, contents) {
+        match LineProgram::after_version(sections, &shape, contents) {
             Ok(program) => Ok(program),
             Err(_) => Err(BadFile {
                 fault: Fault::BadLine,
@@ -195,7 +195,7 @@ impl<'a> LineProgram<'a> {
         }
     }
 
-    /// The program that begins here.
+    /// Reads the program at the cursor.
     #[tactic(auto, unfolding(crate::specs::Programs::program_here))]
     fn here(
         sections: &Sections<'a>,
@@ -210,10 +210,12 @@ impl<'a> LineProgram<'a> {
         LineProgram::of(sections, shape, place, initial.wide, contents)
     }
 
-    /// The program at an offset of `.debug_line`. OffsetOutside at `place` where the offset isn't below the
-    /// section's length; Truncated or BadUnit at the program's place where its length can't be read or leaves the
-    /// section; BadLine there where its header can't be read, or a string that it names. A program that has no
-    /// whole version, or one that isn't 2 to 5, has no rows and no files.
+    /// The program at an offset of `.debug_line`. A program that has no complete version, or a version other
+    /// than 2 to 5, has no rows and no files.
+    ///
+    /// OffsetOutside at the file offset `place` where the offset isn't below the section's length. The other
+    /// faults have the program's file offset: Truncated or BadUnit where its length can't be read or exceeds
+    /// the section, and BadLine where its header, or a string that the header refers to, can't be read.
     pub fn at(
         sections: &Sections<'a>,
         offset: u64,
@@ -231,8 +233,8 @@ impl<'a> LineProgram<'a> {
         }
     }
 
-    /// The same program, with its directories and files in memory: the path of a file is then found without a walk
-    /// over them.
+    /// A copy of the program with its directories and files in memory. `path` then finds a file without walking
+    /// over the tables.
     pub fn kept(&self, alloc: Global) -> Result<LineProgram<'a>, NoMemory>
         ensures { IfOk result (λ p. p ≡ self.now) }
     {
@@ -246,14 +248,15 @@ impl<'a> LineProgram<'a> {
         })
     }
 
-    /// Its rows in order, and then its fault: BadLine at the first byte of an instruction that can't be read.
+    /// The rows in order, and then the fault, where there is one: BadLine at the file offset of an instruction
+    /// that can't be read.
     pub fn rows(&self) -> LineRows<'a>
         ensures { result ≡ line_rows self.now }
     {
         LineRows::new(self.encoding, self.lengths, self.instructions.fork())
     }
 
-    /// The directory that is shown before a file's name.
+    /// The directory that is printed before a file's name.
     fn shown_directory(&self, file: &FileEntry) -> Option<FileEntry<'a>>
         ensures { option_map shown result ≡ shown_directory self.now (shown file.now) }
     {
@@ -263,9 +266,9 @@ impl<'a> LineProgram<'a> {
         entry_numbered(self.version, &self.directories, file.directory)
     }
 
-    /// Appends the path of the file of a number: its name, behind its directory where that isn't directory 0
-    /// and the name isn't absolute. A file that isn't there is `[Unknown file]`. After a refusal `out` holds
-    /// what it held.
+    /// Appends the path of the file with this number. The path is the file's name, after its directory unless
+    /// that is directory 0 or the name is absolute. It is `[Unknown file]` where there is no such file. On an
+    /// error `out` is unchanged.
     #[tactic(auto, unfolding(crate::specs::Paths::path_of))]
     pub fn path(&self, file: u64, out: &mut Vec<u8>) -> Result<(), NoMemory>
         ensures ok { OnOk result (out.new.items ≡ out.old.items ++ path_of self.now file) }

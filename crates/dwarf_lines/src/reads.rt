@@ -1,4 +1,4 @@
-//! What is read at a cursor's place, where it can be read.
+//! Reads at the cursor that return `None` where nothing can be read.
 
 ghost use Rattle.std.specs.Prelude.{◌≡◌, true, OnSome};
 ghost use Rattle.byte_cursor.specs.Window.{moved};
@@ -9,7 +9,7 @@ ghost use Rattle.dwarf_lines.specs.Reads.{passed, signed_at, unsigned_at, value_
 use byte_cursor::Cursor;
 use size_core::BadFile;
 
-/// An unsigned LEB128 number.
+/// Reads an unsigned LEB128 number.
 #[tactic(auto, unfolding(crate::specs::Reads::unsigned_at))]
 pub fn unsigned(cursor: &mut Cursor) -> Option<u64>
     ensures value { result ≡ value_of (unsigned_at cursor.old.bytes cursor.old.at) }
@@ -19,7 +19,7 @@ pub fn unsigned(cursor: &mut Cursor) -> Option<u64>
     cursor.uleb().ok()
 }
 
-/// A signed LEB128 number.
+/// Reads a signed LEB128 number.
 #[tactic(auto, unfolding(crate::specs::Reads::signed_at))]
 pub fn signed(cursor: &mut Cursor) -> Option<i64>
     ensures value { result ≡ value_of (signed_at cursor.old.bytes cursor.old.at) }
@@ -29,7 +29,7 @@ pub fn signed(cursor: &mut Cursor) -> Option<i64>
     cursor.sleb().ok()
 }
 
-/// Passes so many numbers.
+/// Skips `count` unsigned LEB128 numbers.
 #[tactic(auto, unfolding(crate::specs::Reads::passed))]
 pub fn passed(cursor: &mut Cursor, count: u8) -> Option<()>
     ensures value { result ≡ value_of (passed cursor.old.bytes count cursor.old.at) }
@@ -43,7 +43,7 @@ pub fn passed(cursor: &mut Cursor, count: u8) -> Option<()>
     passed(cursor, count - 1)
 }
 
-/// The bytes before the next zero byte, which is passed.
+/// Reads the bytes up to the next null byte, and skips the null byte.
 #[tactic(auto, unfolding(dwarf_abbrev::specs::Reads::text_from))]
 pub fn text_from<'a>(cursor: &mut Cursor<'a>) -> Result<&'a [u8], BadFile>
     ensures { Takes (λ t. t.now) result cursor.old cursor.new (text_from cursor.old) }

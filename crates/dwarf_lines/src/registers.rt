@@ -1,28 +1,28 @@
-//! The registers of the state machine, and the rows that it makes.
+//! The registers of the state machine, and the rows that it emits.
 
-/// The registers of the state machine that rows are made of (DWARF 5, section 6.2.2).
+/// The registers of the state machine that rows depend on (DWARF 5, section 6.2.2).
 #[derive(Clone, Copy, Debug, PartialEq, Eq)]
 pub struct Registers {
     /// A virtual address.
     pub address: u64,
-    /// Which operation of the instruction at the address.
+    /// The index of an operation in the instruction at the address.
     pub op_index: u8,
-    /// The number of a file, as [`crate::LineProgram::path`] takes it.
+    /// A file number, as [`crate::LineProgram::path`] takes it.
     pub file: u64,
-    /// The number of a line, from 1 on.
+    /// A line number, counted from 1.
     pub line: u32,
 }
 
-/// A row of a line program: the instructions from its address up to that of the next row of its sequence stand
-/// at its line (DWARF 5, section 6.2.1).
+/// A row of a line program. It gives the line of the instructions from its address up to the address of the
+/// next row in its sequence (DWARF 5, section 6.2.1).
 #[derive(Clone, Copy, Debug, PartialEq, Eq)]
 pub struct LineRow {
     /// A virtual address.
     pub address: u64,
-    /// The number of a file, as [`crate::LineProgram::path`] takes it.
+    /// A file number, as [`crate::LineProgram::path`] takes it.
     pub file: u64,
-    /// The number of a line, from 1 on; a program may give 0 where there is none.
+    /// A line number, counted from 1. It is 0 where a program gives no line.
     pub line: u32,
-    /// Whether the row ends its sequence: its address is the first behind it.
+    /// Whether the row ends its sequence. Its address is then the first one after the sequence.
     pub end: bool,
 }

@@ -14,7 +14,7 @@ use byte_cursor::Cursor;
 use size_core::BadFile;
 use std::marker::Model;
 
-/// The next row or fault of what the cursor has left, after which nothing comes behind a fault.
+/// The next row or fault. After a fault nothing follows.
 #[tactic(auto, using(crate::proofs::RowLemmas::comes_none, crate::proofs::RowLemmas::comes_fault, crate::proofs::RowLemmas::comes_row, crate::proofs::RowLemmas::comes_same, crate::proofs::RowLemmas::goes_on))]
 fn next_row(
     encoding: &LineEncoding,
@@ -46,7 +46,7 @@ fn next_row(
     None
 }
 
-/// The rows of a line program, one after another, and then its fault.
+/// The rows of a line program in order, and then its fault, where there is one.
 #[derive(Drop)]
 pub struct LineRows<'a> {
     encoding: LineEncoding,
@@ -71,7 +71,7 @@ impl<'a> Model for LineRows<'a> {
 }
 
 impl<'a> LineRows<'a> {
-    /// The rows of the instructions from the cursor's place on.
+    /// The rows of the instructions from the cursor on.
     #[tactic(auto, unfolding(crate::specs::Rows::to_come))]
     pub fn new(encoding: LineEncoding, lengths: &'a [u8], cursor: Cursor<'a>) -> LineRows<'a>
         requires usable { IsUsable encoding }

@@ -1,4 +1,4 @@
-//! The tables of directories and files of a line program.
+//! The directory table and the file table of a line program.
 
 ghost use Rattle.std.specs.Prelude.{◌≡◌, IfOk, option_map, slice_get};
 ghost use Rattle.dwarf_abbrev.specs.Reads.{Reads};
@@ -15,21 +15,24 @@ use dwarf_units::Sections;
 use size_core::{BadFile, NoMemory};
 use std::alloc::Global;
 
-/// A table of directories or files.
+/// A directory table or a file table.
 #[derive(Drop)]
 pub enum Table<'a> {
-    /// As versions 2 to 4 have it.
+    /// A table of DWARF 2 to 4.
     Plain(PlainTable<'a>),
-    /// As version 5 has it.
+    /// A table of DWARF 5.
     Formatted(FormattedTable<'a>),
-    /// Its entries, in memory.
+    /// The entries, in memory.
     Kept(Vec<FileEntry<'a>>),
-    /// Of a program that isn't read.
+    /// The table of a program that isn't supported.
     Empty,
 }
 
-/// The same entries once more.
-fn copied<'a>(alloc: Global, entries: &[FileEntry<'a>]) -> Result<Vec<FileEntry<'a>>, NoMemory>
+/// A copy of the entries.
+fn copy_entries<'a>(
+    alloc: Global,
+    entries: &[FileEntry<'a>],
+) -> Result<Vec<FileEntry<'a>>, NoMemory>
     ensures { IfOk result (λ v. v.items ≡ entries.now) }
 {
     let mut copy = Vec::new(alloc);
@@ -38,7 +41,7 @@ fn copied<'a>(alloc: Global, entries: &[FileEntry<'a>]) -> Result<Vec<FileEntry<
 }
 
 impl<'a> Table<'a> {
-    /// The table that stands here, which is passed.
+    /// Reads a table.
     #[tactic(auto, unfolding(crate::specs::Header::table_from))]
     pub fn read(
         sections: &Sections<'a>,
@@ -55,7 +58,7 @@ impl<'a> Table<'a> {
         }
     }
 
-    /// The entry of a number, from 0 on.
+    /// The entry at index `k`, counted from 0.
     pub fn get(&self, k: u64) -> Option<FileEntry<'a>>
         ensures { option_map shown result ≡ slice_get (entries self.now) k }
     {
@@ -67,14 +70,14 @@ impl<'a> Table<'a> {
         }
     }
 
-    /// The same table, with its entries in memory.
+    /// A copy of the table with its entries in memory.
     pub fn kept(&self, alloc: Global) -> Result<Table<'a>, NoMemory>
         ensures { IfOk result (λ t. entries t ≡ entries self.now) }
     {
         Ok(match self {
             Table::Plain(table) => Table::Kept(table.all(alloc)?),
             Table::Formatted(table) => Table::Kept(table.all(alloc)?),
-            Table::Kept(entries) => Table::Kept(copied(alloc, entries)?),
+            Table::Kept(entries) => Table::Kept(copy_entries(alloc, entries)?),
             Table::Empty => Table::Empty,
         })
     }

@@ -18,14 +18,14 @@ use Rattle.dwarf_ranges.specs.declared.ranges.High.{High}
 use Rattle.dwarf_ranges.specs.declared.ranges.High.TheVariants.{End as Before, Length}
 use Rattle.dwarf_ranges.specs.Claims.{claims_nothing, kept}
 use Rattle.dwarf_ranges.specs.Entries.{item_from}
-use Rattle.dwarf_ranges.specs.Lists.{appended, behind, list_from}
-use Rattle.dwarf_ranges.specs.Ranges.{list_at, list_name, lists_header, high_of, named_ranges, one_range, or_zero, range_to, ranges_of, told_address, told_ranges}
+use Rattle.dwarf_ranges.specs.Lists.{appended, ranges_from_item, list_from}
+use Rattle.dwarf_ranges.specs.Ranges.{list_at, list_name, lists_header, high_of, named_ranges, one_range, or_zero, range_to, ranges_of, told_address, attribute_ranges}
 use Rattle.dwarf_ranges.specs.Laws.{Claims, RangesClaim}
 
 abbrev Ranges : Type 0
 Ranges = Result (List (ℕ × ℕ)) BadFile
 
--- what is answered claims something
+-- Each range of a result claims something.
 AllClaim : ℕ → Ranges → Type 0
 AllClaim size (Ok ranges) = All (Claims size) ranges
 AllClaim size (Err e) = Unit {0}
@@ -47,7 +47,7 @@ unfolding AllClaim
 appended_claims size start len (Ok ranges) h = All-append (Claims size) (kept size start len) ranges (kept_claims size start len) h
 appended_claims size start len (Err e) h = tt
 
-behind_claims : (size base : ℕ) (rest : ℕ → Window → Ranges) (item : ListItem) (w : Window) → ((other : ℕ) → AllClaim size (rest other w)) → AllClaim size (behind size base rest item w)
+behind_claims : (size base : ℕ) (rest : ℕ → Window → Ranges) (item : ListItem) (w : Window) → ((other : ℕ) → AllClaim size (rest other w)) → AllClaim size (ranges_from_item size base rest item w)
 unfolding AllClaim
 behind_claims size base rest End w h = All-nil (Claims size)
 behind_claims size base rest (Base other) w h = h other
@@ -75,7 +75,7 @@ named_claims s r low place (Some name) =
     bind_claim r.shape.address (list_at s r.shape (base_or r.list_base (lists_header r.shape.wide)) place name) _
     (λ w. list_claims s r.shape (base_or r.addr_base (table_header r.shape.wide)) (suc (left w)) (or_zero low) w)
 
-told_claims : (s : Sections) (r : RootRecord) (low : Option ℕ) (value : Option ValueRecord) → AllClaim r.shape.address (told_ranges s r low value)
+told_claims : (s : Sections) (r : RootRecord) (low : Option ℕ) (value : Option ValueRecord) → AllClaim r.shape.address (attribute_ranges s r low value)
 told_claims s r low None = one_claims s r low
 told_claims s r low (Some v) = named_claims s r low v.place (list_name r.shape.version v.content)
 
@@ -87,5 +87,5 @@ answer_claims size (Err e) ranges h is = cc
 pub ranges_claim : RangesClaim
 unfolding ranges_of
 ranges_claim s r ranges is =
-    answer_claims r.shape.address (told_address s r r.low >>= λ low. told_ranges s r low r.ranges) ranges
+    answer_claims r.shape.address (told_address s r r.low >>= λ low. attribute_ranges s r low r.ranges) ranges
     (bind_claim r.shape.address (told_address s r r.low) _ (λ low. told_claims s r low r.ranges)) is

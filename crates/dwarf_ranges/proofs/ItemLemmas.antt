@@ -1,4 +1,4 @@
--- Each entry of a list, and each tuple, takes a byte at least.
+-- Each entry of a list, and each tuple, takes at least one byte.
 use Rattle.std.proofs.Common.{◌≡◌, ℕ, suc, ◌<◌, ◌≤◌, ◌==◌, Bool, true, false, Result, Ok, Err, arith}
 use Rattle.std.specs.Prelude.{if◌then◌else◌}
 use Rattle.std.specs.Int.{w16, w32, w64}

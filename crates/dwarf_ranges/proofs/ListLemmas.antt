@@ -1,4 +1,4 @@
--- Range lists: more fuel than bytes changes nothing, and each item gives what it says.
+-- Range lists: more fuel than bytes changes nothing, and each item gives what it means.
 use Rattle.std.proofs.Common.{◌≡◌, ℕ, zero, suc, ◌<◌, true, false, List, [], ◌∷◌, ◌++◌, Result, Ok, Err, refl, sym, ap, ◌∙◌, arith, append_assoc}
 use Rattle.std.proofs.lemmas.Grind.{common_steps}
 use Rattle.size_core.specs.declared.fault.BadFile.{BadFile}
@@ -12,22 +12,22 @@ use Rattle.dwarf_ranges.specs.declared.item.ListItem.{ListItem}
 use Rattle.dwarf_ranges.specs.declared.item.ListItem.TheVariants.{End, Base, Range}
 use Rattle.dwarf_ranges.specs.Claims.{claims_nothing, kept}
 use Rattle.dwarf_ranges.specs.Entries.{item_from}
-use Rattle.dwarf_ranges.specs.Lists.{appended, behind, list_from, list_of}
+use Rattle.dwarf_ranges.specs.Lists.{appended, ranges_from_item, list_from, list_of}
 use Rattle.dwarf_ranges.specs.Laws.{ListsFollow}
 use Rattle.dwarf_ranges.proofs.ItemLemmas.{item_below}
 
 abbrev Ranges : Type 0
 Ranges = Result (List (ℕ × ℕ)) BadFile
 
--- what follows the items of windows that are shorter is the same
+-- The rest of a list is the same for two readers that agree on shorter windows.
 same_behind : (size base n : ℕ) (f g : ℕ → Window → Ranges) (r : Result (ListItem × Window) BadFile) → Below n r → ((other : ℕ) (next : Window) → left next < n → f other next ≡ g other next)
-    → (r >>= λ item. behind size base f item.0 item.1) ≡ (r >>= λ item. behind size base g item.0 item.1)
+    → (r >>= λ item. ranges_from_item size base f item.0 item.1) ≡ (r >>= λ item. ranges_from_item size base g item.0 item.1)
 same_behind size base n f g (Err e) h rests = refl
 same_behind size base n f g (Ok (End, next)) h rests = refl
 same_behind size base n f g (Ok (Base other, next)) h rests = rests other next h
 same_behind size base n f g (Ok (Range start len, next)) h rests = ap (λ (r : Ranges). appended (kept size start len) r) (rests base next h)
 
--- two fuels that are both enough
+-- Two amounts of fuel that are both enough give the same ranges.
 same_fuel : (s : Sections) (shape : UnitShape) (table m n base : ℕ) (w : Window) → left w < m → left w < n → list_from s shape table m base w ≡ list_from s shape table n base w
 unfolding list_from
 same_fuel s shape table zero n base w p q = absurd (omega arith)
@@ -51,19 +51,19 @@ appended_twice xs ys (Ok ranges) = ap (λ (zs : List (ℕ × ℕ)). Ok zs) (sym 
 appended_twice xs ys (Err e) = refl
 
 module _ (s : Sections) (shape : UnitShape) (table base : ℕ) (w : Window) where
-  -- the list ends, or has a fault
+  -- The list ends, or has a fault.
   pub list_end : (next : Window) (ranges : List (ℕ × ℕ)) → item_from s shape table base w ≡ Ok (End, next) → appended ranges (list_of s shape table base w) ≡ Ok ranges
   list_end next ranges is = rw (list_follows s shape table base w, is) (grind (arith, common_steps))
 
   pub list_bad : (e : BadFile) (ranges : List (ℕ × ℕ)) → item_from s shape table base w ≡ Err e → appended ranges (list_of s shape table base w) ≡ Err e
   list_bad e ranges is = rw (list_follows s shape table base w, is) refl
 
-  -- or it has another base
+  -- The list has another base.
   pub list_base : (other : ℕ) (next : Window) (ranges : List (ℕ × ℕ)) → item_from s shape table base w ≡ Ok (Base other, next)
       → appended ranges (list_of s shape table base w) ≡ appended ranges (list_of s shape table other next)
   list_base other next ranges is = rw (list_follows s shape table base w, is) refl
 
-  -- or a range, which claims something or nothing
+  -- The list has a range, which claims something or nothing.
   list_range : (start len : ℕ) (next : Window) → item_from s shape table base w ≡ Ok (Range start len, next)
       → list_of s shape table base w ≡ appended (kept shape.address start len) (list_of s shape table base next)
   list_range start len next is = rw (list_follows s shape table base w, is) refl

@@ -18,7 +18,7 @@ contents_below : (len : ℕ) (w : Window) → Below (suc (left w)) (contents_fro
 unfolding contents_from
 contents_below len w = read_below (suc (left w)) (sub_window w w.at len) (moved w true len) (omega arith)
 
--- a set takes a byte at least
+-- A set takes at least one byte.
 set_below : (order : Order) (w : Window) → Below (left w) (set_from order w)
 unfolding set_from
 set_below order w = bind_below (left w) (left w) (initial_length_from order w) _ (length_below order w) (λ initial less.
@@ -27,7 +27,7 @@ set_below order w = bind_below (left w) (left w) (initial_length_from order w) _
 pub set_less : (order : Order) (w next : Window) (set : Option AddressSet) → set_from order w ≡ Ok (set, next) → left next < left w
 set_less order w next set is = below_at (left w) (set_from order w) set next (set_below order w) is
 
--- the record at a place that has bytes left is a set
+-- The record in a window that has bytes left is a set.
 record_is : (order : Order) (w : Window) → w.at < length w.bytes → record_from order w ≡ (set_from order w >>= (λ set. Ok (Some set.0, set.1)))
 unfolding record_from
 record_is order w some = let test : left w == 0 ≡ false = grind (arith, common_steps) in rw test refl
@@ -46,7 +46,7 @@ record_shortens order w next i is = by_end (left w == 0) is
     by_end false e = below_at (left w) (set_from order w >>= (λ set. Ok (Some set.0, set.1))) (Some i) next
         (bind_below (left w) (left w) (set_from order w) _ (set_below order w) (λ set less. less)) e
 
--- nothing comes at the section's end
+-- Nothing follows at the end of the section.
 pub comes_none : (order : Order) (w : Window) → length w.bytes ≤ w.at → sets_from order w ≡ []
 unfolding sets_from record_from handed_out
 comes_none order w past =
@@ -54,21 +54,21 @@ comes_none order w past =
     let reads : record_from order w ≡ Ok (None, w) = rw test refl in
     rw (listing_done (record_from order) (record_shortens order) w w reads) refl
 
--- the fault is the last that comes
+-- The fault is the last item.
 pub comes_fault : (order : Order) (w : Window) (e : BadFile) → w.at < length w.bytes → set_from order w ≡ Err e → sets_from order w ≡ Err e ∷ []
 unfolding sets_from handed_out
 comes_fault order w e some is =
     let reads : record_from order w ≡ Err e = record_is order w some ∙ rw is refl in
     rw (listing_bad (record_from order) (record_shortens order) w e reads) refl
 
--- a set comes before those behind it
+-- A set comes before those after it.
 pub comes_set : (order : Order) (w next : Window) (set : AddressSet) → w.at < length w.bytes → set_from order w ≡ Ok (Some set, next) → sets_from order w ≡ Ok set ∷ sets_from order next
 unfolding sets_from handed_out
 comes_set order w next set some is =
     let reads : record_from order w ≡ Ok (Some (Some set), next) = record_is order w some ∙ rw is refl in
     rw (listing_more (record_from order) (record_shortens order) w next (Some set) reads) refl
 
--- and one that is skipped doesn't
+-- A set that is skipped doesn't come.
 pub comes_same : (order : Order) (w next : Window) → w.at < length w.bytes → set_from order w ≡ Ok (None, next) → sets_from order w ≡ sets_from order next
 unfolding sets_from handed_out
 comes_same order w next some is =

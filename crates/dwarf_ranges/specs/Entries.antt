@@ -1,4 +1,4 @@
--- The entries of range lists (DWARF 5, sections 2.17.3 and 7.25; DWARF 4, section 2.17.3).
+-- Range list entries (DWARF 5, sections 2.17.3 and 7.25; DWARF 4, section 2.17.3).
 use Rattle.std.specs.Prelude.{ℕ, ◌-◌, ◌==◌, ◌&&◌, Result, Ok, Err, if◌then◌else◌}
 use Rattle.size_core.specs.declared.fault.BadFile.{BadFile}
 use Rattle.size_core.specs.declared.fault.Fault.TheVariants.{BadRangeList}
@@ -16,23 +16,23 @@ use Rattle.dwarf_ranges.specs.declared.item.ListItem.{ListItem}
 use Rattle.dwarf_ranges.specs.declared.item.ListItem.TheVariants.{End, Base, Range}
 use Rattle.dwarf_ranges.specs.Claims.{greatest, base_sum}
 
--- two numbers that stand one behind the other
+-- Two numbers that follow one another (DWARF 5, sections 7.6 and 7.25).
 abbrev pub both : (Window → Result (ℕ × Window) BadFile) → (Window → Result (ℕ × Window) BadFile) → Window → Result ((ℕ × ℕ) × Window) BadFile
 both first second w = first w >>= λ a. second a.1 >>= λ b. Ok ((a.0, b.0), b.1)
 
--- two addresses
+-- Two addresses that follow one another (DWARF 5, sections 7.6 and 7.25).
 unfoldable pub addresses_from : Order → ℕ → Window → Result ((ℕ × ℕ) × Window) BadFile
 addresses_from order size w = both (address_from order size) (address_from order size) w
 
--- two LEB128 numbers
+-- Two unsigned LEB128 numbers that follow one another (DWARF 5, sections 7.6 and 7.25).
 unfoldable pub ulebs_from : Window → Result ((ℕ × ℕ) × Window) BadFile
 ulebs_from w = both uleb_from uleb_from w
 
--- an address and a LEB128 number
+-- An address, and then an unsigned LEB128 number (DWARF 5, sections 7.6 and 7.25).
 unfoldable pub address_uleb_from : Order → ℕ → Window → Result ((ℕ × ℕ) × Window) BadFile
 address_uleb_from order size w = both (address_from order size) uleb_from w
 
--- an entry behind its kind
+-- A range list entry after its kind (DWARF 5, sections 2.17.3 and 7.25).
 unfoldable pub operands_from : Order → ℕ → ℕ → Window → Result (Entry × Window) BadFile
 operands_from order size kind w =
     if kind == DW_RLE_END_OF_LIST then Ok (EndOfList, w) else
@@ -45,48 +45,53 @@ operands_from order size kind w =
     if kind == DW_RLE_START_LENGTH then (address_uleb_from order size w >>= λ p. Ok (StartLength p.0.0 p.0.1, p.1)) else
     bad BadRangeList (place_of w)
 
--- what can't be read is a fault of the list at this place
+-- A read whose faults are all BadRangeList at the file offset of the entry.
 abbrev pub or_bad_list : {X : Type 0} → ℕ → Result X BadFile → Result X BadFile
 or_bad_list place (Ok x) = Ok x
 or_bad_list place (Err e) = bad BadRangeList place
 
--- an entry of DWARF 5: a byte that tells its kind, and its operands
+-- A range list entry of DWARF 5: a byte for its kind, and its operands (DWARF 5, sections 2.17.3 and 7.25).
 abbrev pub kind_and_operands : Order → ℕ → Window → Result (Entry × Window) BadFile
 kind_and_operands order size w = byte_from w >>= λ kind. operands_from order size kind.0 kind.1
 
+-- A range list entry; BadRangeList at its file offset where its kind is unknown or it isn't complete (DWARF 5,
+-- sections 2.17.3 and 7.25).
 unfoldable pub entry_from : Order → ℕ → Window → Result (Entry × Window) BadFile
 entry_from order size w = or_bad_list (place_of w) (kind_and_operands order size w)
 
--- the range from a start to an end
-abbrev pub between : ℕ → ℕ → ListItem
-between start end = Range start (end - start)
+-- The range from a start to an end. It is empty where the end isn't above the start (DWARF 5, section 2.17.3).
+abbrev pub range_between : ℕ → ℕ → ListItem
+range_between start end = Range start (end - start)
 
--- What an entry says over the base that holds where it stands. An index names an address of `.debug_addr`.
+-- What an entry means with the base that is current there. An index is into `.debug_addr` (DWARF 5, section
+-- 2.17.3).
 unfoldable pub item_of : Sections → UnitShape → ℕ → ℕ → ℕ → Entry → Result ListItem BadFile
 item_of s shape table place base EndOfList = Ok End
 item_of s shape table place base (BaseAddressx i) = address_at s shape table i place >>= λ a. Ok (Base a)
-item_of s shape table place base (StartxEndx i j) = address_at s shape table i place >>= λ a. address_at s shape table j place >>= λ b. Ok (between a b)
+item_of s shape table place base (StartxEndx i j) = address_at s shape table i place >>= λ a. address_at s shape table j place >>= λ b. Ok (range_between a b)
 item_of s shape table place base (StartxLength i len) = address_at s shape table i place >>= λ a. Ok (Range a len)
-item_of s shape table place base (OffsetPair a b) = Ok (between (base_sum shape.address base a) (base_sum shape.address base b))
+item_of s shape table place base (OffsetPair a b) = Ok (range_between (base_sum shape.address base a) (base_sum shape.address base b))
 item_of s shape table place base (BaseAddress a) = Ok (Base a)
-item_of s shape table place base (StartEnd a b) = Ok (between a b)
+item_of s shape table place base (StartEnd a b) = Ok (range_between a b)
 item_of s shape table place base (StartLength a len) = Ok (Range a len)
 
--- what a pair of DWARF 2 to 4 says: both 0 end the list, the greatest address selects a base, and others are offsets
+-- What a pair of addresses means: two zeros end the list, the greatest address as the first one sets a base,
+-- and others are offsets from the base (DWARF 4, section 2.17.3).
 abbrev pub pair_item : ℕ → ℕ → ℕ → ℕ → ListItem
 pair_item size base begin end =
     if begin == 0 && end == 0 then End
     else if begin == greatest size then Base end
-    else between (base_sum size base begin) (base_sum size base end)
+    else range_between (base_sum size base begin) (base_sum size base end)
 
--- what the pair at a window's place says
+-- What the pair of addresses in a window means (DWARF 4, section 2.17.3).
 unfoldable pub pair_item_from : Order → ℕ → ℕ → Window → Result (ListItem × Window) BadFile
 pair_item_from order size base w = or_bad_list (place_of w) (addresses_from order size w) >>= λ p. Ok (pair_item size base p.0.0 p.0.1, p.1)
 
--- what the entry at a window's place says
+-- What the range list entry in a window means (DWARF 5, section 2.17.3).
 unfoldable pub entry_item_from : Sections → UnitShape → ℕ → ℕ → Window → Result (ListItem × Window) BadFile
 entry_item_from s shape table base w = entry_from s.order shape.address w >>= λ e. item_of s shape table (place_of w) base e.0 >>= λ i. Ok (i, e.1)
 
--- one or the other, by the version
+-- What the item of a list in a window means: an entry in DWARF 5, a pair of addresses in earlier versions
+-- (DWARF 5, section 2.17.3).
 abbrev pub item_from : Sections → UnitShape → ℕ → ℕ → Window → Result (ListItem × Window) BadFile
 item_from s shape table base w = if shape.version == 5 then entry_item_from s shape table base w else pair_item_from s.order shape.address base w

@@ -1,4 +1,4 @@
--- Range lists are read one entry after another, and each range that is given claims something.
+-- Range lists are read entry by entry, and each range that is returned claims something.
 use Rattle.std.specs.Prelude.{◌≡◌, ℕ, false, All, List, Ok}
 use Rattle.size_core.specs.Checks.{◌>>=◌}
 use Rattle.byte_cursor.specs.Window.{Window}
@@ -7,17 +7,18 @@ use Rattle.dwarf_units.specs.declared.sections.Sections.{Sections}
 use Rattle.dwarf_units.specs.Roots.{RootRecord}
 use Rattle.dwarf_ranges.specs.Claims.{claims_nothing}
 use Rattle.dwarf_ranges.specs.Entries.{item_from}
-use Rattle.dwarf_ranges.specs.Lists.{behind, list_of}
+use Rattle.dwarf_ranges.specs.Lists.{ranges_from_item, list_of}
 use Rattle.dwarf_ranges.specs.Ranges.{ranges_of}
 
--- behind what an entry says stands what those behind it say
+-- A list is what its first entry means and then what the rest of the list means (DWARF 5, section 2.17.3).
 abbrev pub ListsFollow : Type 0
 ListsFollow = (s : Sections) (shape : UnitShape) (table base : ℕ) (w : Window)
-    → list_of s shape table base w ≡ (item_from s shape table base w >>= λ item. behind shape.address base (list_of s shape table) item.0 item.1)
+    → list_of s shape table base w ≡ (item_from s shape table base w >>= λ item. ranges_from_item shape.address base (list_of s shape table) item.0 item.1)
 
--- a range claims something
+-- A range claims something.
 abbrev pub Claims : ℕ → ℕ × ℕ → Type 0
 Claims size p = claims_nothing size p.0 p.1 ≡ false
 
+-- Each range of a unit claims something.
 abbrev pub RangesClaim : Type 0
 RangesClaim = (s : Sections) (r : RootRecord) (ranges : List (ℕ × ℕ)) → ranges_of s r ≡ Ok ranges → All (Claims r.shape.address) ranges

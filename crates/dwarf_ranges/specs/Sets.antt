@@ -1,4 +1,4 @@
--- Sets of addresses (DWARF 5, section 6.1.2; also DWARF 2 to 4).
+-- Address sets (DWARF 5, section 6.1.2; also DWARF 2 to 4).
 use Rattle.std.specs.Prelude.{ℕ, ◌+◌, ◌-◌, ◌*◌, ◌/◌, ◌==◌, ◌&&◌, ◌||◌, Bool, true, List, [], ◌∷◌, ◌++◌, length, min, Option, Some, None, Result, Ok, Err, if◌then◌else◌}
 use Rattle.std.specs.Int.{w16}
 use Rattle.size_core.specs.declared.fault.BadFile.{BadFile}
@@ -14,8 +14,8 @@ use Rattle.dwarf_ranges.specs.declared.header.SetHeader.{SetHeader}
 use Rattle.dwarf_ranges.specs.declared.set.AddressSet.{AddressSet}
 use Rattle.dwarf_ranges.specs.Tuples.{tuples_from}
 
--- the header of a set behind its length: a version, an offset into `.debug_info`, and the sizes of an address and of a
--- segment selector
+-- The header of a set after its length: a version, an offset into `.debug_info`, and the sizes of an address
+-- and of a segment selector (DWARF 5, sections 6.1.2 and 7.21).
 unfoldable pub header_from : Order → Bool → Window → Result (SetHeader × Window) BadFile
 header_from order wide w = do
   version ← num_from w16 order w
@@ -24,27 +24,29 @@ header_from order wide w = do
   segment ← byte_from address.1
   Ok (record { version = version.0; info_offset = info_offset.0; address = address.0; segment = segment.0 }, segment.1)
 
--- a set of this header is read: it has version 2, no segments, and addresses of 2, 4 or 8 bytes
+-- Whether a set with this header is supported: it has version 2, no segments, and addresses of 2, 4 or 8 bytes
+-- (DWARF 5, sections 6.1.2 and 7.21).
 abbrev pub is_read : SetHeader → Bool
 is_read h = h.version == 2 && (h.address == 2 || h.address == 4 || h.address == 8) && h.segment == 0
 
--- how many bytes the length field has, and how many stand up to the header's end
+-- The size of the length field of a set in bytes (DWARF 5, section 6.1.2).
 abbrev pub length_len : Bool → ℕ
 length_len wide = if wide then 12 else 4
 
+-- The size of a set's header in bytes, with the length field (DWARF 5, section 6.1.2).
 abbrev pub header_len : Bool → ℕ
 header_len wide = if wide then 24 else 12
 
--- the next multiple of a number
+-- The least multiple of a number that isn't below n (DWARF 5, section 6.1.2).
 abbrev pub aligned : ℕ → ℕ → ℕ
 aligned n to = (n + (to - 1)) / to * to
 
--- The first tuple stands at the next multiple of a tuple's size behind the header, counted from the set's first byte.
--- The set may end before it.
+-- The window at the first tuple: the next multiple of a tuple's size after the header, counted from the set's
+-- first byte. The set may end before it (DWARF 5, section 6.1.2).
 abbrev pub first_tuple : Bool → ℕ → Window → Window
 first_tuple wide address contents = record contents { at = min (length contents.bytes) (contents.at + (aligned (header_len wide) (2 * address) - length_len wide)) }
 
--- the set of a header and its contents, unless it is skipped
+-- The set with this header and these contents, unless it is skipped (DWARF 5, section 6.1.2).
 abbrev pub set_with : Order → ℕ → Bool → Window → SetHeader → Option AddressSet
 set_with order place wide contents h =
     if is_read h then Some (record {
@@ -55,46 +57,52 @@ set_with order place wide contents h =
       tuples = tuples_from order h.address (first_tuple wide h.address contents);
     }) else None
 
--- one that is too short for a header is skipped
+-- The set with this header; none where the contents are too short for one (DWARF 5, section 6.1.2).
 abbrev pub headed : Order → ℕ → Bool → Window → Result (SetHeader × Window) BadFile → Option AddressSet
 headed order place wide contents (Ok header) = set_with order place wide contents header.0
 headed order place wide contents (Err e) = None
 
+-- The set with these contents, or none where it is skipped (DWARF 5, section 6.1.2).
 unfoldable pub set_in : Order → ℕ → Bool → Window → Option AddressSet
 set_in order place wide contents = headed order place wide contents (header_from order wide contents)
 
--- the bytes of this length at a window's place, as a window of their own, and the window behind them
+-- The next len bytes as a window of their own, and the window after them (DWARF 5, section 6.1.2).
 unfoldable pub contents_from : ℕ → Window → Result (Window × Window) BadFile
 contents_from len w = sub_window w w.at len >>= λ contents. Ok (contents, moved w true len)
 
--- the set at a window's place, or None where it is skipped
+-- The set at the begin of a window, or none where it is skipped, and the window after it (DWARF 5, section
+-- 6.1.2).
 unfoldable pub set_from : Order → Window → Result (Option AddressSet × Window) BadFile
 set_from order w = do
   initial ← initial_length_from order w
   contents ← contents_from initial.0.len initial.1
   Ok (set_in order (place_of w) initial.0.wide contents.0, contents.1)
 
--- the same, up to the section's end
+-- The end of the section (DWARF 5, section 6.1.2).
 abbrev pub at_end : Window → Result (Option (Option AddressSet) × Window) BadFile
 at_end w = Ok (None, w)
 
+-- The set at the begin of a window, or none where it is skipped, up to the end of the section (DWARF 5, section
+-- 6.1.2).
 unfoldable pub record_from : Order → Window → Result (Option (Option AddressSet) × Window) BadFile
 record_from order w = if left w == 0 then at_end w else set_from order w >>= (λ set. Ok (Some set.0, set.1))
 
--- the sets of these that are not skipped
+-- The sets of these that aren't skipped (DWARF 5, section 6.1.2).
 unfoldable pub handed_out : List (Option AddressSet) → List (Result AddressSet BadFile)
 handed_out [] = []
 handed_out (None ∷ sets) = handed_out sets
 handed_out (Some set ∷ sets) = Ok set ∷ handed_out sets
 
--- the fault that ends them, if one does
+-- The fault that ends the sets, where one does (DWARF 5, section 6.1.2).
 abbrev pub last_fault : Result Window BadFile → List (Result AddressSet BadFile)
 last_fault (Ok next) = []
 last_fault (Err e) = Err e ∷ []
 
--- the sets of a window of `.debug_aranges`, and then the fault
+-- The sets of a window of `.debug_aranges` that aren't skipped, and then the fault (DWARF 5, section 6.1.2).
 unfoldable pub sets_from : Order → Window → List (Result AddressSet BadFile)
 sets_from order w = handed_out (listing (record_from order) w).items ++ last_fault (listing (record_from order) w).end
 
+-- The address sets of `.debug_aranges`, each with its file offset, its length, its unit's offset, the size of
+-- an address, and its tuples; and then the fault (DWARF 5, section 6.1.2).
 abbrev pub sets_of : Sections → List (Result AddressSet BadFile)
 sets_of s = sets_from s.order s.aranges

@@ -1,4 +1,4 @@
-//! Why there are no ranges.
+//! The errors of reading a unit's ranges.
 
 ghost use Rattle.std.specs.Prelude.{◌≡◌};
 ghost use Rattle.dwarf_ranges.specs.declared.answer.RangeAnswer.TheVariants.{Bad, NoMemory as OutOfMemory};
@@ -7,13 +7,13 @@ use size_core::{BadFile, NoMemory};
 use std::alloc::{AllocError, AllocFailed};
 use thiserror::Error;
 
-/// Why there are no ranges.
+/// Why a unit's ranges can't be returned.
 #[derive(Clone, Copy, Debug, PartialEq, Eq, Error)]
 pub enum RangeAnswer {
     /// The file has a fault.
     #[error("bad file")]
     Bad(BadFile),
-    /// There was not enough memory.
+    /// An allocation failed.
     #[error("out of memory")]
     NoMemory,
 }

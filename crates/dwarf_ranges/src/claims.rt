@@ -1,9 +1,9 @@
-//! Which ranges of addresses claim something.
+//! Which address ranges claim any bytes.
 
 ghost use Rattle.std.specs.Prelude.{◌≡◌};
 ghost use Rattle.dwarf_ranges.specs.Claims.{base_sum, claims_nothing, greatest};
 
-/// The greatest address of a size in bytes, which is 2 or 4, or else 8.
+/// The greatest address of `size` bytes. A size other than 2 and 4 counts as 8.
 pub fn greatest(size: u8) -> u64
     ensures { result ≡ greatest size }
 {
@@ -14,7 +14,7 @@ pub fn greatest(size: u8) -> u64
     }
 }
 
-/// A base and an offset together, modulo the number of addresses of the size.
+/// The sum of a base and an offset, modulo the number of addresses of `size` bytes.
 pub fn base_sum(size: u8, base: u64, offset: u64) -> u64
     ensures { result ≡ base_sum size base offset }
 {
@@ -26,8 +26,8 @@ pub fn base_sum(size: u8, base: u64, offset: u64) -> u64
     }
 }
 
-/// Whether a range of `len` addresses from `start` on, each of `size` bytes, claims nothing: it is empty, or it
-/// starts at 0 or at one of the two greatest addresses of the size, where linkers leave what they dropped.
+/// Whether a range of `len` addresses from `start` on claims nothing: it is empty, or it starts at 0 or at one
+/// of the two greatest addresses of `size` bytes. Linkers write these starts for code that they dropped.
 pub fn claims_nothing(size: u8, start: u64, len: u64) -> bool
     ensures { result ≡ claims_nothing size start len }
 {

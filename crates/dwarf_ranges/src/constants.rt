@@ -1,4 +1,4 @@
-//! The kinds of the entries of range lists (DWARF 5, section 7.25, table 7.30).
+//! The kinds of range list entries (DWARF 5, section 7.25, table 7.30).
 
 /// `DW_RLE_end_of_list`
 pub const DW_RLE_END_OF_LIST: u8 = 0x00;

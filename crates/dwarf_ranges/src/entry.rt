@@ -1,4 +1,4 @@
-//! The entries of range lists of DWARF 5 (sections 2.17.3 and 7.25).
+//! Range list entries of DWARF 5 (sections 2.17.3 and 7.25).
 
 ghost use Rattle.std.specs.Prelude.{◌≡◌};
 ghost use Rattle.size_core.specs.Checks.{bad};
@@ -15,12 +15,12 @@ use byte_cursor::{Cursor, Order};
 use dwarf_abbrev::{address_from, u8_from, uleb_from};
 use size_core::{BadFile, Fault};
 
-/// An entry of a range list: its kind and its operands. Indices are those of addresses in `.debug_addr`.
+/// A range list entry: its kind and its operands. Indices are into `.debug_addr`.
 #[derive(Clone, Copy)]
 pub enum Entry {
-    /// The list ends.
+    /// The end of the list.
     EndOfList,
-    /// Another base, by its index.
+    /// A new base, by its index.
     BaseAddressx(u64),
     /// A start and an end, by their indices.
     StartxEndx(u64, u64),
@@ -28,7 +28,7 @@ pub enum Entry {
     StartxLength(u64, u64),
     /// A start and an end as offsets from the base.
     OffsetPair(u64, u64),
-    /// Another base.
+    /// A new base.
     BaseAddress(u64),
     /// A start and an end.
     StartEnd(u64, u64),
@@ -36,7 +36,7 @@ pub enum Entry {
     StartLength(u64, u64),
 }
 
-/// A fault of a list at this place.
+/// The fault of a list at this file offset.
 pub fn bad_list<T>(place: u64) -> Result<T, BadFile>
     ensures { result ≡ bad BadRangeList place }
 {
@@ -46,7 +46,7 @@ pub fn bad_list<T>(place: u64) -> Result<T, BadFile>
     })
 }
 
-/// An entry behind its kind.
+/// Reads the operands of an entry, after its kind.
 #[tactic(auto, unfolding(crate::specs::Entries::operands_from))]
 fn operands_from(cursor: &mut Cursor, order: Order, size: u8, kind: u8) -> Result<Entry, BadFile>
     ensures { Reads (λ e. e) result cursor.new (operands_from order size kind cursor.old) }
@@ -85,7 +85,7 @@ fn operands_from(cursor: &mut Cursor, order: Order, size: u8, kind: u8) -> Resul
     }
 }
 
-/// The kind of an entry, and then its operands.
+/// Reads the kind of an entry and its operands.
 fn kind_and_operands(cursor: &mut Cursor, order: Order, size: u8) -> Result<Entry, BadFile>
     ensures { Reads (λ e. e) result cursor.new (kind_and_operands order size cursor.old) }
 {
@@ -93,7 +93,7 @@ fn kind_and_operands(cursor: &mut Cursor, order: Order, size: u8) -> Result<Entr
     operands_from(cursor, order, size, kind)
 }
 
-/// An entry. BadRangeList at its place where its kind isn't known or an operand can't be read.
+/// Reads an entry. BadRangeList at its file offset where its kind is unknown or an operand can't be read.
 #[tactic(auto, unfolding(crate::specs::Entries::entry_from))]
 pub fn entry_from(cursor: &mut Cursor, order: Order, size: u8) -> Result<Entry, BadFile>
     ensures { Reads (λ e. e) result cursor.new (entry_from order size cursor.old) }

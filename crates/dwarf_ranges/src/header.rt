@@ -1,4 +1,4 @@
-//! The headers of sets of addresses (DWARF 5, section 6.1.2).
+//! The headers of address sets (DWARF 5, section 6.1.2).
 
 ghost use Rattle.std.specs.Prelude.{◌≡◌};
 ghost use Rattle.dwarf_abbrev.specs.Reads.{Reads};
@@ -8,20 +8,20 @@ use byte_cursor::{Cursor, Order};
 use dwarf_abbrev::{offset_from, u8_from, u16_from};
 use size_core::BadFile;
 
-/// What stands in a set between its length and its tuples.
+/// The fields of an address set between its length and its tuples.
 #[derive(Clone, Copy)]
 pub struct SetHeader {
     /// The version of the section's format.
     pub version: u16,
     /// The offset of the set's unit in `.debug_info`.
     pub info_offset: u64,
-    /// How many bytes an address has.
+    /// The size of an address in bytes.
     pub address: u8,
-    /// How many bytes a segment selector has.
+    /// The size of a segment selector in bytes.
     pub segment: u8,
 }
 
-/// The header of a set behind its length.
+/// Reads the header of an address set, after its length.
 #[tactic(auto, unfolding(crate::specs::Sets::header_from))]
 pub fn header_from(cursor: &mut Cursor, order: Order, wide: bool) -> Result<SetHeader, BadFile>
     ensures { Reads (λ h. h) result cursor.new (header_from order wide cursor.old) }
@@ -38,7 +38,8 @@ pub fn header_from(cursor: &mut Cursor, order: Order, wide: bool) -> Result<SetH
     })
 }
 
-/// Whether a set of this header is read: it has version 2, no segments, and addresses of 2, 4 or 8 bytes.
+/// Whether a set with this header is supported: it has version 2, no segments, and addresses of 2, 4 or 8
+/// bytes.
 pub fn is_read(header: &SetHeader) -> bool
     ensures { result ≡ is_read header.now }
 {

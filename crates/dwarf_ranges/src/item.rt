@@ -1,9 +1,9 @@
-//! What the entries of range lists say.
+//! What range list entries mean.
 
 ghost use Rattle.std.specs.Prelude.{◌≡◌};
 ghost use Rattle.dwarf_abbrev.specs.Reads.{Reads};
 ghost use Rattle.dwarf_units.specs.Strings.{address_at};
-ghost use Rattle.dwarf_ranges.specs.Entries.{between, entry_item_from, item_from, item_of, pair_item, pair_item_from};
+ghost use Rattle.dwarf_ranges.specs.Entries.{range_between, entry_item_from, item_from, item_of, pair_item, pair_item_from};
 
 use crate::claims::{base_sum, greatest};
 use crate::entry::{Entry, bad_list, entry_from};
@@ -13,20 +13,20 @@ use dwarf_abbrev::{Content, UnitShape, Value};
 use dwarf_units::{Sections, address_by};
 use size_core::{BadFile, Fault};
 
-/// What an entry says.
+/// What a range list entry means.
 #[derive(Clone, Copy)]
 pub enum ListItem {
-    /// The list ends.
+    /// The end of the list.
     End,
-    /// From here on offsets count from this base.
+    /// A new base for the offsets that follow.
     Base(u64),
-    /// A range: its start and its length.
+    /// A range: its first address and its length in bytes.
     Range(u64, u64),
 }
 
 /// The range from a start to an end.
-fn between(start: u64, end: u64) -> ListItem
-    ensures { result ≡ between start end }
+fn range_between(start: u64, end: u64) -> ListItem
+    ensures { result ≡ range_between start end }
 {
     ListItem::Range(start, end.saturating_sub(start))
 }
@@ -56,7 +56,7 @@ fn address_at(
     }
 }
 
-/// What an entry at this place says over a base.
+/// What an entry at the file offset `place` means, with this base.
 #[tactic(auto, unfolding(crate::specs::Entries::item_of))]
 fn item_of(
     sections: &Sections,
@@ -77,7 +77,7 @@ fn item_of(
         Entry::StartxEndx(first, second) => {
             let start = address_at(sections, shape, table, first, place)?;
             let end = address_at(sections, shape, table, second, place)?;
-            Ok(between(start, end))
+            Ok(range_between(start, end))
         }
         Entry::StartxLength(index, len) => {
             let start = address_at(sections, shape, table, index, place)?;
@@ -86,15 +86,15 @@ fn item_of(
         Entry::OffsetPair(first, second) => {
             let start = base_sum(shape.address, base, first);
             let end = base_sum(shape.address, base, second);
-            Ok(between(start, end))
+            Ok(range_between(start, end))
         }
         Entry::BaseAddress(other) => Ok(ListItem::Base(other)),
-        Entry::StartEnd(start, end) => Ok(between(start, end)),
+        Entry::StartEnd(start, end) => Ok(range_between(start, end)),
         Entry::StartLength(start, len) => Ok(ListItem::Range(start, len)),
     }
 }
 
-/// What a pair of `.debug_ranges` says over a base.
+/// What a pair of `.debug_ranges` means, with this base.
 fn pair_item(size: u8, base: u64, begin: u64, end: u64) -> ListItem
     ensures { result ≡ pair_item size base begin end }
 {
@@ -103,11 +103,11 @@ fn pair_item(size: u8, base: u64, begin: u64, end: u64) -> ListItem
     } else if begin == greatest(size) {
         ListItem::Base(end)
     } else {
-        between(base_sum(size, base, begin), base_sum(size, base, end))
+        range_between(base_sum(size, base, begin), base_sum(size, base, end))
     }
 }
 
-/// What the pair at the cursor's place says. BadRangeList at its place where it isn't whole.
+/// Reads a pair of `.debug_ranges`. BadRangeList at its file offset where it isn't complete.
 #[tactic(auto, unfolding(crate::specs::Entries::pair_item_from))]
 fn pair_item_from(
     cursor: &mut Cursor,
@@ -124,7 +124,7 @@ fn pair_item_from(
     }
 }
 
-/// What the entry at the cursor's place says.
+/// Reads a range list entry of DWARF 5.
 #[tactic(auto, unfolding(crate::specs::Entries::entry_item_from))]
 fn entry_item_from(
     cursor: &mut Cursor,
@@ -140,7 +140,7 @@ fn entry_item_from(
     item_of(sections, shape, table, place, base, entry)
 }
 
-/// What stands at the cursor's place of a list: an entry in DWARF 5, and before a pair of addresses.
+/// Reads an item of a range list: an entry in DWARF 5, a pair of addresses in earlier versions.
 pub fn item_from(
     cursor: &mut Cursor,
     sections: &Sections,

@@ -1,5 +1,5 @@
-//! The addresses of units, DWARF 2 to 5: `DW_AT_low_pc` and `DW_AT_high_pc`, range lists, and the sets of
-//! `.debug_aranges`. A file is borrowed, and only `unit_ranges` takes memory.
+//! The addresses of units, DWARF 2 to 5: `DW_AT_low_pc` and `DW_AT_high_pc`, range lists, and the address sets
+//! of `.debug_aranges`. Everything borrows the file, and only `unit_ranges` allocates.
 #![tactic(auto)]
 
 mod answer;
@@ -20,13 +20,9 @@ mod tuples;
 pub use answer::RangeAnswer;
 pub use claims::claims_nothing;
 pub use laws::{
-    constants_are_those_of_the_standard, each_range_claims_something,
-    lists_are_read_one_entry_after_another,
+    each_range_claims_something, lists_are_read_one_entry_after_another, standard_numbers,
 };
 pub use ranges::unit_ranges;
 pub use set::AddressSet;
 pub use sets::{AddressSets, arange_sets};
 pub use tuples::Tuples;
-
-#[cfg(test)]
-mod tests;

@@ -11,8 +11,8 @@ use dwarf_abbrev::UnitShape;
 use dwarf_units::Sections;
 use std::alloc::Global;
 
-/// The ranges of the list at the cursor's place over a first base, without those that claim nothing. `table` is
-/// where the unit's addresses begin in `.debug_addr`.
+/// The ranges of the list at the cursor, without those that claim nothing. `base` is the first base, and
+/// `table` is the offset of the unit's addresses in `.debug_addr`.
 #[tactic(auto, using(crate::proofs::ItemLemmas::item_less, crate::proofs::ListLemmas::appended_none, crate::proofs::ListLemmas::list_end, crate::proofs::ListLemmas::list_bad, crate::proofs::ListLemmas::list_base, crate::proofs::ListLemmas::list_kept, crate::proofs::ListLemmas::list_dropped))]
 pub fn list_of(
     alloc: Global,

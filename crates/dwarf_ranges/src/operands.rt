@@ -1,4 +1,4 @@
-//! Two numbers, one behind the other.
+//! Pairs of numbers that follow one another.
 
 ghost use Rattle.dwarf_abbrev.specs.Reads.{Reads};
 ghost use Rattle.dwarf_ranges.specs.Entries.{addresses_from, address_uleb_from, ulebs_from};
@@ -7,7 +7,7 @@ use byte_cursor::{Cursor, Order};
 use dwarf_abbrev::{address_from, uleb_from};
 use size_core::BadFile;
 
-/// Two addresses of this size.
+/// Reads two addresses of this size.
 #[tactic(auto, unfolding(crate::specs::Entries::addresses_from))]
 pub fn addresses_from(cursor: &mut Cursor, order: Order, size: u8) -> Result<(u64, u64), BadFile>
     ensures { Reads (λ p. p) result cursor.new (addresses_from order size cursor.old) }
@@ -17,7 +17,7 @@ pub fn addresses_from(cursor: &mut Cursor, order: Order, size: u8) -> Result<(u6
     Ok((first, second))
 }
 
-/// Two LEB128 numbers.
+/// Reads two unsigned LEB128 numbers.
 #[tactic(auto, unfolding(crate::specs::Entries::ulebs_from))]
 pub fn ulebs_from(cursor: &mut Cursor) -> Result<(u64, u64), BadFile>
     ensures { Reads (λ p. p) result cursor.new (ulebs_from cursor.old) }
@@ -27,7 +27,7 @@ pub fn ulebs_from(cursor: &mut Cursor) -> Result<(u64, u64), BadFile>
     Ok((first, second))
 }
 
-/// An address of this size and a LEB128 number.
+/// Reads an address of this size and an unsigned LEB128 number.
 #[tactic(auto, unfolding(crate::specs::Entries::address_uleb_from))]
 pub fn address_uleb_from(cursor: &mut Cursor, order: Order, size: u8) -> Result<(u64, u64), BadFile>
     ensures { Reads (λ p. p) result cursor.new (address_uleb_from order size cursor.old) }

@@ -1,4 +1,4 @@
-//! Where range lists stand.
+//! The offsets of range lists in their sections.
 
 ghost use Rattle.std.specs.Prelude.{◌≡◌, ◌+◌, ◌*◌};
 ghost use Rattle.size_core.specs.Checks.{bad};
@@ -13,17 +13,17 @@ use dwarf_abbrev::{Content, UnitShape, Value, inside, offset_from};
 use dwarf_units::Sections;
 use size_core::{BadFile, Fault};
 
-/// What names the range list of a unit.
+/// The form in which a unit refers to its range list.
 #[derive(Clone, Copy)]
 pub enum ListName {
-    /// Its offset in its section.
+    /// The list's offset in its section.
     Offset(u64),
-    /// The index of its offset in `.debug_rnglists`.
+    /// The index of the list's offset in `.debug_rnglists`.
     Index(u64),
 }
 
-/// What `DW_AT_ranges` names: an offset, in DWARF 5 also an index, and in DWARF 2 and 3, which had no form of
-/// their own for offsets, also a constant.
+/// The list that a value of `DW_AT_ranges` refers to. The value is an offset; in DWARF 5 it can also be an
+/// index. DWARF 2 and 3 had no form for offsets, so there it can also be a constant.
 pub fn list_name(version: u16, value: &Value) -> Option<ListName>
     ensures { result ≡ list_name version (meaning value.now.content) }
 {
@@ -35,15 +35,16 @@ pub fn list_name(version: u16, value: &Value) -> Option<ListName>
     }
 }
 
-/// How many bytes the header of a table of lists has, behind which its offsets begin if no attribute tells
-/// (DWARF 5, section 7.28).
+/// The size of the header of a table of range lists, in bytes. Its offsets begin after the header where no
+/// attribute gives their base (DWARF 5, section 7.28).
 pub fn lists_header(wide: bool) -> u64
     ensures { result ≡ lists_header wide }
 {
     if wide { 20 } else { 12 }
 }
 
-/// The window at an offset of a section, or at its end. `None` where the offset is above its length.
+/// The window at an offset of a section, or at the section's end. `None` where the offset exceeds the section's
+/// length.
 fn up_to<'a>(section: &Cursor<'a>, offset: u64) -> Option<Cursor<'a>>
     ensures { result ≡ up_to section.now offset }
 {
@@ -54,7 +55,7 @@ fn up_to<'a>(section: &Cursor<'a>, offset: u64) -> Option<Cursor<'a>>
     }
 }
 
-/// The window at the sum of two offsets of a section. `None` where it isn't below the section's length.
+/// The window at the sum of two offsets. `None` where it isn't below the section's length.
 fn inside_sum<'a>(section: &Cursor<'a>, base: u64, offset: u64) -> Option<Cursor<'a>>
     ensures { result ≡ inside section.now (base + offset) }
 {
@@ -65,14 +66,14 @@ fn inside_sum<'a>(section: &Cursor<'a>, base: u64, offset: u64) -> Option<Cursor
     inside(section, sum as u64)
 }
 
-/// How many bytes an offset has.
+/// The size of an offset in bytes.
 fn offset_size(wide: bool) -> u8
     ensures { result ≡ offset_size wide }
 {
     if wide { 8 } else { 4 }
 }
 
-/// The place of an entry of a table of offsets.
+/// The cursor at an entry of a table of offsets. `None` where the entry doesn't begin inside the section.
 fn entry_inside<'a>(section: &Cursor<'a>, base: u64, index: u64, wide: bool) -> Option<Cursor<'a>>
     ensures { result ≡ inside section.now (base + index * offset_size wide) }
 {
@@ -83,7 +84,7 @@ fn entry_inside<'a>(section: &Cursor<'a>, base: u64, index: u64, wide: bool) -> 
     inside(section, offset as u64)
 }
 
-/// A window that is there, or a fault.
+/// The window, or OffsetOutside where there is none.
 fn opened<'a>(window: Option<Cursor<'a>>, place: u64) -> Result<Cursor<'a>, BadFile>
     ensures { result ≡ opened window.entry place }
 {
@@ -96,8 +97,8 @@ fn opened<'a>(window: Option<Cursor<'a>>, place: u64) -> Result<Cursor<'a>, BadF
     }
 }
 
-/// The fault of an entry that isn't whole in its section.
-fn outside(place: u64) -> Result<u64, BadFile>
+/// The fault of an entry that isn't completely inside its section.
+fn outside_section(place: u64) -> Result<u64, BadFile>
     ensures { result ≡ bad OffsetOutside place }
 {
     Err(BadFile {
@@ -106,7 +107,7 @@ fn outside(place: u64) -> Result<u64, BadFile>
     })
 }
 
-/// The offset at an index of the table of `.debug_rnglists` that begins at `base`.
+/// The offset at an index of the table in `.debug_rnglists` that begins at `base`.
 #[tactic(auto, unfolding(crate::specs::Ranges::list_entry))]
 fn list_entry(
     sections: &Sections,
@@ -118,16 +119,17 @@ fn list_entry(
     ensures { result ≡ list_entry sections.now wide base index place }
 {
     let Some(mut cursor) = entry_inside(&sections.rnglists, base, index, wide) else {
-        return outside(place);
+        return outside_section(place);
     };
     match offset_from(&mut cursor, sections.order, wide) {
         Ok(offset) => Ok(offset),
-        Err(_) => outside(place),
+        Err(_) => outside_section(place),
     }
 }
 
-/// Where the list of this name stands: in `.debug_rnglists` in DWARF 5, and before in `.debug_ranges`.
-/// OffsetOutside at `place` where it doesn't stand there, or the entry that has its offset isn't whole.
+/// The window at a unit's range list: in `.debug_rnglists` in DWARF 5, in `.debug_ranges` in earlier versions.
+/// OffsetOutside at the file offset `place` where the list doesn't begin inside the section, or where the entry
+/// that has its offset isn't completely inside it.
 #[tactic(auto, unfolding(crate::specs::Ranges::list_at))]
 pub fn list_at<'a>(
     sections: &Sections<'a>,

@@ -4,7 +4,7 @@ ghost use Rattle.std.specs.Prelude.{◌≡◌, Ok, IfErr, OnErr, OnOk, MatchResu
 ghost use Rattle.std.specs.Option.{option_to_list};
 ghost use Rattle.dwarf_units.specs.Roots.{shown_root, shown_value};
 ghost use Rattle.dwarf_ranges.specs.Lists.{Refuses, appended};
-ghost use Rattle.dwarf_ranges.specs.Ranges.{high_of, list_ranges, one_range, range_to, ranges_of, signed_length, told_address, told_ranges};
+ghost use Rattle.dwarf_ranges.specs.Ranges.{high_of, list_ranges, one_range, range_to, ranges_of, signed_length, told_address, attribute_ranges};
 
 use crate::answer::RangeAnswer;
 use crate::claims::claims_nothing;
@@ -15,16 +15,16 @@ use dwarf_units::{Root, Sections, base_or, table_header};
 use size_core::BadFile;
 use std::alloc::Global;
 
-/// Where the range of a unit without a list ends.
+/// The end of a unit's range, where the unit has no range list.
 #[derive(Clone, Copy)]
 pub enum High {
-    /// Before this address.
+    /// The first address after the range.
     End(u64),
-    /// After so many addresses.
+    /// The range's length in bytes.
     Length(u64),
 }
 
-/// The address that an attribute tells, if it does.
+/// The address that an attribute gives, where it gives one.
 fn told_address(
     root: &Root,
     value: &Option<Value>,
@@ -38,7 +38,7 @@ fn told_address(
     }
 }
 
-/// How many addresses follow the start, unless the number is negative.
+/// The length of a range, unless the number is negative.
 fn signed_length(length: i64) -> Option<High>
     ensures { result ≡ signed_length length }
 {
@@ -49,7 +49,7 @@ fn signed_length(length: i64) -> Option<High>
     }
 }
 
-/// What `DW_AT_high_pc` tells: an address, or a number of addresses behind the start.
+/// What `DW_AT_high_pc` gives: the address after the range, or the range's length.
 fn high_of(root: &Root, sections: &Sections) -> Result<Option<High>, BadFile>
     ensures { result ≡ high_of sections.now (shown_root root.now) (shown_root root.now).high }
 {
@@ -66,7 +66,7 @@ fn high_of(root: &Root, sections: &Sections) -> Result<Option<High>, BadFile>
     }
 }
 
-/// The range from a start to its end, if both are there and it claims something.
+/// The range from its start to its end. None where one of them is absent, or where the range claims nothing.
 fn range_to(size: u8, low: Option<u64>, high: Option<High>) -> Option<(u64, u64)>
     ensures { option_to_list result ≡ range_to size low high }
 {
@@ -100,7 +100,7 @@ fn one_range(
     Ok(ranges)
 }
 
-/// The ranges of the list of this name, over the unit's first address as the first base.
+/// The ranges of a range list. The unit's first address is the first base.
 fn list_ranges(
     alloc: Global,
     root: &Root,
@@ -126,16 +126,16 @@ fn list_ranges(
     )
 }
 
-/// The ranges that the attributes tell, by the first address that they tell.
-fn told_ranges(
+/// The ranges of a unit, given its first address.
+fn attribute_ranges(
     alloc: Global,
     root: &Root,
     sections: &Sections,
     low: Option<u64>,
 ) -> Result<Vec<(u64, u64)>, RangeAnswer>
     ensures { MatchResult result
-        (λ v. told_ranges sections.now (shown_root root.now) low (shown_root root.now).ranges ≡ Ok v.items)
-        (Refuses (told_ranges sections.now (shown_root root.now) low (shown_root root.now).ranges)) }
+        (λ v. attribute_ranges sections.now (shown_root root.now) low (shown_root root.now).ranges ≡ Ok v.items)
+        (Refuses (attribute_ranges sections.now (shown_root root.now) low (shown_root root.now).ranges)) }
 {
     let Some(value) = &root.ranges else {
         return one_range(alloc, root, sections, low);
@@ -157,18 +157,21 @@ fn ranges_of(
         (Refuses (ranges_of sections.now (shown_root root.now))) }
 {
     let low = told_address(root, &root.low, sections)?;
-    told_ranges(alloc, root, sections, low)
+    attribute_ranges(alloc, root, sections, low)
 }
 
-/// Adds the ranges of a unit, each as its first address and the number of its addresses, without those that
-/// claim nothing. They are those of its range list, in order, or without one that from `DW_AT_low_pc` to
-/// `DW_AT_high_pc`. The faults come in this order, each at the place of the value that names what is outside, if
-/// nothing else is said.
+/// Appends the ranges of a unit, each as its first address and its length in bytes. Ranges that claim nothing
+/// are left out. The ranges are those of the unit's range list, in order. A unit without a list has the one
+/// range from `DW_AT_low_pc` to `DW_AT_high_pc`. On an error `out` is unchanged.
 ///
-/// OffsetOutside where the address that `DW_AT_low_pc` names isn't in `.debug_addr`; where the list or its
-/// offset isn't in its section; where an address that an entry names isn't in `.debug_addr`, at the entry's
-/// place; and without a list where the address that `DW_AT_high_pc` names isn't there. BadRangeList at the
-/// place of an entry of an unknown kind, and of one that isn't whole. After a refusal `out` holds what it held.
+/// The first fault is returned, in this order. Unless stated otherwise, it has the file offset of the value
+/// that refers outside.
+///
+/// - OffsetOutside where the address that `DW_AT_low_pc` refers to isn't in `.debug_addr`.
+/// - OffsetOutside where the list or its offset isn't in its section.
+/// - In a list, at the entry's file offset: OffsetOutside where an address that an entry refers to isn't in
+///   `.debug_addr`; BadRangeList where an entry has an unknown kind or isn't complete.
+/// - Without a list: OffsetOutside where the address that `DW_AT_high_pc` refers to isn't in `.debug_addr`.
 pub fn unit_ranges(
     alloc: Global,
     root: &Root,

@@ -1,4 +1,4 @@
-//! Sets of addresses (DWARF 5, section 6.1.2).
+//! Address sets (DWARF 5, section 6.1.2).
 
 ghost use Rattle.std.specs.Prelude.{◌≡◌, ◌<◌};
 ghost use Rattle.dwarf_abbrev.specs.Reads.{Reads, Takes};
@@ -10,37 +10,37 @@ use byte_cursor::{Cursor, Order};
 use dwarf_abbrev::initial_length;
 use size_core::BadFile;
 
-/// A set of `.debug_aranges`: addresses of one unit.
+/// An address set of `.debug_aranges`: the addresses of one unit.
 #[derive(Drop)]
 pub struct AddressSet<'a> {
-    /// Its file offset.
+    /// The set's file offset.
     pub place: u64,
-    /// How many bytes it has, with its length field.
+    /// The set's length in bytes, with its length field.
     pub len: u64,
-    /// The offset of its unit in `.debug_info`.
+    /// The offset of the set's unit in `.debug_info`.
     pub info_offset: u64,
-    /// How many bytes an address has: 2, 4 or 8.
+    /// The size of an address in bytes: 2, 4 or 8.
     pub address: u8,
-    /// Its tuples.
+    /// The set's tuples.
     pub tuples: Tuples<'a>,
 }
 
-/// How many bytes a length field has (section 7.4).
+/// The size of a length field in bytes (section 7.4).
 fn length_len(wide: bool) -> u64
     ensures { result ≡ length_len wide }
 {
     if wide { 12 } else { 4 }
 }
 
-/// How many bytes of a set stand before the end of its header.
+/// The size of a set's header in bytes, with its length field.
 fn header_len(wide: bool) -> u64
     ensures { result ≡ header_len wide }
 {
     if wide { 24 } else { 12 }
 }
 
-/// Where the tuples of a set begin, of whose contents the cursor is at the first byte: at the next multiple of a
-/// tuple's size, counted from the set's first byte.
+/// The cursor at the first tuple of a set: the next multiple of a tuple's size, counted from the set's first
+/// byte. `contents` is at the first byte after the length field.
 fn first_tuple<'a>(wide: bool, address: u8, contents: &Cursor<'a>) -> Cursor<'a>
     requires { 0 < address }
     ensures { result ≡ first_tuple wide address contents.now }
@@ -52,7 +52,7 @@ fn first_tuple<'a>(wide: bool, address: u8, contents: &Cursor<'a>) -> Cursor<'a>
     cursor
 }
 
-/// The set of a header and its contents, unless it is skipped.
+/// The set with this header and these contents. `None` where it is skipped.
 fn set_with<'a>(
     order: Order,
     place: u64,
@@ -75,7 +75,7 @@ fn set_with<'a>(
     })
 }
 
-/// The set of these contents. `None` where it is skipped.
+/// Reads the set with these contents. `None` where it is skipped.
 #[tactic(auto, unfolding(crate::specs::Sets::set_in))]
 fn set_in<'a>(order: Order, place: u64, wide: bool, contents: &Cursor<'a>) -> Option<AddressSet<'a>>
     ensures { result ≡ set_in order place wide contents.now }
@@ -87,7 +87,7 @@ fn set_in<'a>(order: Order, place: u64, wide: bool, contents: &Cursor<'a>) -> Op
     }
 }
 
-/// The bytes of this length, as a window of their own, which are passed.
+/// The next `len` bytes as a window of their own. The cursor moves past them.
 #[tactic(auto, unfolding(crate::specs::Sets::contents_from))]
 fn contents_from<'a>(cursor: &mut Cursor<'a>, len: u64) -> Result<Cursor<'a>, BadFile>
     ensures { Takes (λ x. x) result cursor.old cursor.new (contents_from len cursor.old) }
@@ -95,8 +95,8 @@ fn contents_from<'a>(cursor: &mut Cursor<'a>, len: u64) -> Result<Cursor<'a>, Ba
     cursor.take(len)
 }
 
-/// The set at the cursor's place, which is passed. `None` where it is skipped: it is too short for its header,
-/// has another version than 2, segments, or addresses of another size than 2, 4 and 8.
+/// Reads the set at the cursor. `None` where it is skipped: it is too short for its header, has a version other
+/// than 2, has segments, or has addresses of a size other than 2, 4 and 8.
 #[tactic(auto, unfolding(crate::specs::Sets::set_from))]
 pub fn set_from<'a>(
     cursor: &mut Cursor<'a>,

@@ -1,4 +1,4 @@
-//! The sets of `.debug_aranges`, one after another.
+//! The address sets of `.debug_aranges`, one after another.
 
 ghost use Rattle.std.specs.Prelude.{◌≡◌, [], ◌∷◌, MatchOption};
 ghost use Rattle.std.specs.Iterator.{YieldsFirst, item_count};
@@ -10,7 +10,7 @@ use dwarf_units::Sections;
 use size_core::BadFile;
 use std::marker::Model;
 
-/// The next set or fault of what the cursor has left, after which nothing comes behind a fault.
+/// The next set or fault. After a fault nothing follows.
 #[tactic(auto, using(crate::proofs::SetLemmas::comes_none, crate::proofs::SetLemmas::comes_fault, crate::proofs::SetLemmas::comes_set, crate::proofs::SetLemmas::comes_same, crate::proofs::SetLemmas::set_less))]
 fn next_set<'a>(cursor: &mut Cursor<'a>, order: Order) -> Option<Result<AddressSet<'a>, BadFile>>
     ensures { MatchOption result
@@ -30,8 +30,9 @@ fn next_set<'a>(cursor: &mut Cursor<'a>, order: Order) -> Option<Result<AddressS
     None
 }
 
-/// The sets of `.debug_aranges` in order, and then its fault. Skipped are sets that are too short for a header,
-/// those of another version than 2, of another address size than 2, 4 and 8, and those with segments.
+/// The address sets of `.debug_aranges` in order, and then its fault, where there is one. Sets are skipped that
+/// are too short for a header, have a version other than 2, have addresses of a size other than 2, 4 and 8, or
+/// have segments.
 #[derive(Drop)]
 pub struct AddressSets<'a> {
     order: Order,
@@ -56,14 +57,14 @@ impl<'a> Iterator for AddressSets<'a> {
 
     ghost remaining = { item_count (λ s. s) };
 
-    /// The next set. Truncated or BadUnit at its place where its length can't be read, is reserved, or passes
-    /// the section's end; after a fault no set comes.
+    /// The next set. Truncated or BadUnit at the set's file offset where its length can't be read, is reserved,
+    /// or reaches past the end of the section. After a fault no set follows.
     fn next(&mut self) -> Option<Result<AddressSet<'a>, BadFile>> {
         next_set(&mut self.cursor, self.order)
     }
 }
 
-/// The sets of `.debug_aranges`.
+/// The address sets of `.debug_aranges`.
 pub fn arange_sets<'a>(sections: &Sections<'a>) -> AddressSets<'a>
     ensures { result ≡ sets_of sections.now }
 {

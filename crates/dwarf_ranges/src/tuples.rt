@@ -1,4 +1,4 @@
-//! The tuples of a set of addresses (DWARF 5, section 6.1.2).
+//! The tuples of an address set (DWARF 5, section 6.1.2).
 
 ghost use Rattle.std.specs.Prelude.{◌≡◌};
 ghost use Rattle.std.specs.Iterator.{YieldsFirst, item_count};
@@ -10,7 +10,7 @@ use byte_cursor::{Cursor, Order};
 use size_core::BadFile;
 use std::marker::Model;
 
-/// A tuple, or `None` at one of zeros, which ends them.
+/// Reads a tuple. `None` for a tuple of zeros, the end of the list.
 #[tactic(auto, unfolding(crate::specs::Tuples::tuple_from))]
 fn tuple_from(cursor: &mut Cursor, order: Order, size: u8) -> Result<Option<(u64, u64)>, BadFile>
     ensures { Reads (λ t. t) result cursor.new (tuple_from order size cursor.old) }
@@ -23,8 +23,8 @@ fn tuple_from(cursor: &mut Cursor, order: Order, size: u8) -> Result<Option<(u64
     }
 }
 
-/// The tuples of a set in order, each an address and a length, whether they claim something or not. They end
-/// before one of zeros, or before a rest that is no whole tuple.
+/// The tuples of an address set in order, each an address and a length in bytes. Tuples that claim nothing are
+/// included. The list ends before a tuple of zeros, or where fewer bytes are left than a tuple has.
 #[derive(Drop)]
 pub struct Tuples<'a> {
     order: Order,
@@ -42,7 +42,7 @@ impl<'a> Model for Tuples<'a> {
 }
 
 impl<'a> Tuples<'a> {
-    /// The tuples from the cursor's place on.
+    /// The tuples from the cursor on.
     pub(crate) fn new(order: Order, size: u8, cursor: Cursor<'a>) -> Tuples<'a>
         ensures { result ≡ tuples_from order size cursor.entry }
     {

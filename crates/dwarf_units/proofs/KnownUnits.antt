@@ -1,4 +1,4 @@
--- Each unit that is handed out is of a version and a size of addresses that are read.
+-- Each unit that is returned has a supported version and a supported size of addresses.
 use Rattle.std.proofs.Common.{◌≡◌, ℕ, zero, suc, ◌==◌, Bool, true, false, List, [], ◌∷◌, ◌++◌, Option, Some, None, Result, Ok, Err, refl}
 use Rattle.std.specs.Prelude.{nat_lt, if◌then◌else◌}
 use Rattle.std.specs.Int.{w16}
@@ -17,7 +17,7 @@ use Rattle.dwarf_units.specs.declared.unit.Position.{Position}
 use Rattle.dwarf_units.specs.Units.{contents_from, header_from, headed, or_bad_unit, is_version, is_address_size, position_of, unit_of, unit_in, versioned, unit_from, record_from, handed_out, last_fault, units_from, units_of}
 use Rattle.dwarf_units.specs.Laws.{IsKnown, AllKnown}
 
--- what is read has a property
+-- What is read has a property.
 Every : {X : Type 0} → (X → Type 0) → Result X BadFile → Type 0
 Every P (Ok x) = P x
 Every P (Err e) = Unit {0}
@@ -82,7 +82,7 @@ record_known order start w = by_end (left w == 0)
     by_end true = tt
     by_end false = bind_some (λ x. MaybeKnown x.0) (λ x. RecordKnown x.0) (unit_from order start w) (λ unit. Ok (Some unit.0, unit.1)) (unit_known order start w) (λ unit known. known)
 
--- each of these is one, or is skipped
+-- Each of these units has the properties, or is skipped.
 abbrev ItemsKnown : List (Option DwarfUnit) → Type 0
 ItemsKnown [] = Unit {0}
 ItemsKnown (u ∷ us) = MaybeKnown u × ItemsKnown us

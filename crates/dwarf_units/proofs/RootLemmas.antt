@@ -14,7 +14,7 @@ use Rattle.dwarf_units.specs.Roots.{RootRecord, values_from, first_value}
 abbrev V : Type 0
 V = Option ValueRecord
 
--- roots with equal values are equal
+-- Roots with equal values are equal.
 module _ (r : RootRecord) where
   with_values : V → V → V → V → V → V → V → V → RootRecord
   with_values a b c d e f g h = record r { name = a; low = b; high = c; ranges = d; lines = e; str_base = f; addr_base = g; list_base = h }
@@ -25,7 +25,7 @@ module _ (r : RootRecord) where
       ap (λ (z : V). with_values z b c d e f g h) p ∙ ap (λ (z : V). with_values a' z c d e f g h) q ∙ ap (λ (z : V). with_values a' b' z d e f g h) s ∙ ap (λ (z : V). with_values a' b' c' z e f g h) t
       ∙ ap (λ (z : V). with_values a' b' c' d' z f g h) u ∙ ap (λ (z : V). with_values a' b' c' d' e' z g h) v ∙ ap (λ (z : V). with_values a' b' c' d' e' f' z h) x ∙ ap (λ (z : V). with_values a' b' c' d' e' f' g' z) y
 
--- one value more that is known, or one more that follows
+-- One more value that is known, or one more value that is still to come.
 known_step : (wanted attribute : ℕ) (old : V) (v : ValueRecord) (vs : List (ℕ × ValueRecord)) → known old wanted ((attribute, v) ∷ vs) ≡ known (slot wanted attribute old v) wanted vs
 unfolding first_value
 known_step wanted attribute (Some first) v vs = by_test (attribute == wanted)
@@ -56,12 +56,12 @@ filled_none r = same_values r _ _ _ _ _ _ _ _ _ _ _ _ _ _ _ _
     (known_none DW_AT_NAME r.name) (known_none DW_AT_LOW_PC r.low) (known_none DW_AT_HIGH_PC r.high) (known_none DW_AT_RANGES r.ranges)
     (known_none DW_AT_STMT_LIST r.lines) (known_none DW_AT_STR_OFFSETS_BASE r.str_base) (known_none DW_AT_ADDR_BASE r.addr_base) (known_none DW_AT_RNGLISTS_BASE r.list_base)
 
--- no value is left
+-- No value is left.
 pub filled_end : (shape : UnitShape) (w : Window) (r : RootRecord) → filled_from shape [] w r ≡ Ok r
 unfolding filled_from values_from
 filled_end shape w r = ap (λ (x : RootRecord). Ok x) (filled_none r)
 
--- a value, and those behind it
+-- A value, and then the rest.
 pub filled_more : (shape : UnitShape) (s : Spec) (ss : List Spec) (w next : Window) (v : ValueRecord) (r : RootRecord) → value_from shape s w ≡ Ok (v, next)
     → filled_from shape (s ∷ ss) w r ≡ filled_from shape ss next (with_value s.attribute v r)
 unfolding filled_from values_from
@@ -71,7 +71,7 @@ filled_more shape s ss w next v r is = rw is (by_rest (values_from shape ss next
     by_rest (Ok vs) = ap (λ (x : RootRecord). Ok x) (filled_step r s.attribute v vs)
     by_rest (Err e) = refl
 
--- or the first fault among them
+-- The first fault among the values.
 pub filled_bad : (shape : UnitShape) (s : Spec) (ss : List Spec) (w : Window) (e : BadFile) (r : RootRecord) → value_from shape s w ≡ Err e → filled_from shape (s ∷ ss) w r ≡ Err e
 unfolding filled_from values_from
 filled_bad shape s ss w e r is = rw is refl

@@ -18,7 +18,7 @@ contents_below : (len : ℕ) (w : Window) → Below (suc (left w)) (contents_fro
 unfolding contents_from
 contents_below len w = read_below (suc (left w)) (sub_window w w.at len) (moved w true len) (omega arith)
 
--- a unit takes a byte at least
+-- A unit takes at least one byte.
 unit_below : (order : Order) (start : ℕ) (w : Window) → Below (left w) (unit_from order start w)
 unfolding unit_from
 unit_below order start w = bind_below (left w) (left w) (initial_length_from order w) _ (length_below order w) (λ initial less.
@@ -28,7 +28,7 @@ unit_below order start w = bind_below (left w) (left w) (initial_length_from ord
 pub unit_less : (order : Order) (start : ℕ) (w next : Window) (unit : Option DwarfUnit) → unit_from order start w ≡ Ok (unit, next) → left next < left w
 unit_less order start w next unit is = below_at (left w) (unit_from order start w) unit next (unit_below order start w) is
 
--- the record at a place that has bytes left is a unit
+-- The record in a window that has bytes left is a unit.
 record_is : (order : Order) (start : ℕ) (w : Window) → w.at < length w.bytes → record_from order start w ≡ (unit_from order start w >>= (λ unit. Ok (Some unit.0, unit.1)))
 unfolding record_from
 record_is order start w some = let test : left w == 0 ≡ false = grind (arith, common_steps) in rw test refl
@@ -53,7 +53,7 @@ record_shortens order start w next i is = by_end (left w == 0) is
     by_end false e = below_at (left w) (unit_from order start w >>= (λ unit. Ok (Some unit.0, unit.1))) (Some i) next
         (bind_below (left w) (left w) (unit_from order start w) _ (unit_below order start w) (λ unit less. less)) e
 
--- nothing comes at the section's end
+-- Nothing follows at the end of the section.
 pub comes_none : (order : Order) (start : ℕ) (w : Window) → length w.bytes ≤ w.at → units_from order start w ≡ []
 unfolding units_from record_from handed_out
 comes_none order start w past =
@@ -61,21 +61,21 @@ comes_none order start w past =
     let reads : record_from order start w ≡ Ok (None, w) = rw test refl in
     rw (listing_done (record_from order start) (record_shortens order start) w w reads) refl
 
--- the fault is the last that comes
+-- The fault is the last item.
 pub comes_fault : (order : Order) (start : ℕ) (w : Window) (e : BadFile) → w.at < length w.bytes → unit_from order start w ≡ Err e → units_from order start w ≡ Err e ∷ []
 unfolding units_from handed_out
 comes_fault order start w e some is =
     let reads : record_from order start w ≡ Err e = record_is order start w some ∙ rw is refl in
     rw (listing_bad (record_from order start) (record_shortens order start) w e reads) refl
 
--- a unit comes before those behind it
+-- A unit comes before those after it.
 pub comes_unit : (order : Order) (start : ℕ) (w next : Window) (unit : DwarfUnit) → w.at < length w.bytes → unit_from order start w ≡ Ok (Some unit, next) → units_from order start w ≡ Ok unit ∷ units_from order start next
 unfolding units_from handed_out
 comes_unit order start w next unit some is =
     let reads : record_from order start w ≡ Ok (Some (Some unit), next) = record_is order start w some ∙ rw is refl in
     rw (listing_more (record_from order start) (record_shortens order start) w next (Some unit) reads) refl
 
--- and one that is skipped doesn't
+-- A unit that is skipped doesn't come.
 pub comes_same : (order : Order) (start : ℕ) (w next : Window) → w.at < length w.bytes → unit_from order start w ≡ Ok (None, next) → units_from order start w ≡ units_from order start next
 unfolding units_from handed_out
 comes_same order start w next some is =

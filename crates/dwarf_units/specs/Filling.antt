@@ -1,4 +1,4 @@
--- A root while its values are read: what is known of it, and what the rest adds.
+-- A root while its values are read: the values known so far, and those that are still to come.
 use Rattle.std.specs.Prelude.{ℕ, ◌==◌, List, Option, Some, None, Result, Ok, if◌then◌else◌}
 use Rattle.size_core.specs.declared.fault.BadFile.{BadFile}
 use Rattle.size_core.specs.Checks.{◌>>=◌}
@@ -9,14 +9,16 @@ use Rattle.dwarf_abbrev.specs.Values.{ValueRecord}
 use Rattle.dwarf_units.specs.declared.constants.TheConstants.{DW_AT_NAME, DW_AT_STMT_LIST, DW_AT_LOW_PC, DW_AT_HIGH_PC, DW_AT_RANGES, DW_AT_STR_OFFSETS_BASE, DW_AT_ADDR_BASE, DW_AT_RNGLISTS_BASE}
 use Rattle.dwarf_units.specs.Roots.{RootRecord, values_from, first_value}
 
--- of two values of an attribute the first one, and the root with one more value behind the others
-abbrev pub kept : Option ValueRecord → ValueRecord → Option ValueRecord
-kept None v = Some v
-kept (Some first) v = Some first
+-- Of two values of an attribute the first one.
+abbrev pub earlier_value : Option ValueRecord → ValueRecord → Option ValueRecord
+earlier_value None v = Some v
+earlier_value (Some first) v = Some first
 
+-- The value of one attribute after one more value of any attribute.
 abbrev pub slot : ℕ → ℕ → Option ValueRecord → ValueRecord → Option ValueRecord
-slot wanted attribute old v = if attribute == wanted then kept old v else old
+slot wanted attribute old v = if attribute == wanted then earlier_value old v else old
 
+-- A root with one more value.
 abbrev pub with_value : ℕ → ValueRecord → RootRecord → RootRecord
 with_value attribute v r = record r {
   name = slot DW_AT_NAME attribute r.name v;
@@ -29,12 +31,12 @@ with_value attribute v r = record r {
   list_base = slot DW_AT_RNGLISTS_BASE attribute r.list_base v;
 }
 
--- what is known of an attribute, and the first value of it behind that
+-- The known value of an attribute, or else the first one in the list.
 abbrev pub known : Option ValueRecord → ℕ → List (ℕ × ValueRecord) → Option ValueRecord
 known None attribute vs = first_value attribute vs
 known (Some first) attribute vs = Some first
 
--- the root with these values behind the others
+-- A root with these values added.
 abbrev pub filled : RootRecord → List (ℕ × ValueRecord) → RootRecord
 filled r vs = record r {
   name = known r.name DW_AT_NAME vs;
@@ -47,6 +49,6 @@ filled r vs = record r {
   list_base = known r.list_base DW_AT_RNGLISTS_BASE vs;
 }
 
--- the same with the values that are still to be read
+-- A root with the values that are still to be read, or the first fault among them.
 unfoldable pub filled_from : UnitShape → List Spec → Window → RootRecord → Result RootRecord BadFile
 filled_from shape specs w r = values_from shape specs w >>= λ vs. Ok (filled r vs)

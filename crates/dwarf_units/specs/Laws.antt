@@ -1,20 +1,21 @@
--- What is so of every unit that is handed out.
+-- Properties of each unit that is returned.
 use Rattle.std.specs.Prelude.{◌≡◌, true, List, [], ◌∷◌, Result, Ok, Err}
 use Rattle.size_core.specs.declared.fault.BadFile.{BadFile}
 use Rattle.dwarf_units.specs.declared.sections.Sections.{Sections}
 use Rattle.dwarf_units.specs.declared.unit.DwarfUnit.{DwarfUnit}
 use Rattle.dwarf_units.specs.Units.{is_version, is_address_size, units_of}
 
--- a unit of version 2 to 5 whose addresses have 2, 4 or 8 bytes
+-- A unit has a version from 2 to 5, and its addresses have 2, 4 or 8 bytes.
 pub record IsKnown (u : DwarfUnit) : Type 0 where
   pub version : is_version u.shape.version ≡ true
   pub address : is_address_size u.shape.address ≡ true
 
--- each unit of these is one
+-- Each of these units has the properties.
 abbrev pub AllKnown : List (Result DwarfUnit BadFile) → Type 0
 AllKnown [] = Unit {0}
 AllKnown (Ok u ∷ us) = IsKnown u × AllKnown us
 AllKnown (Err e ∷ us) = AllKnown us
 
+-- Each unit of a file has the properties. This is the contract of `units_are_known`.
 abbrev pub UnitsAreKnown : Type 0
 UnitsAreKnown = (s : Sections) → AllKnown (units_of s)

@@ -1,4 +1,4 @@
--- The root of a unit: the entry of the unit itself (DWARF 5, section 3.1), and the values of its attributes.
+-- The root of a unit: the entry for the unit itself (DWARF 5, section 3.1), and the values of its attributes.
 use Rattle.std.specs.Prelude.{ℕ, ◌==◌, List, [], ◌∷◌, Option, Some, None, Result, Ok, if◌then◌else◌}
 use Rattle.std.specs.Option.{option_map}
 use Rattle.size_core.specs.declared.fault.BadFile.{BadFile}
@@ -18,17 +18,18 @@ use Rattle.dwarf_units.specs.declared.unit.DwarfUnit.{DwarfUnit}
 use Rattle.dwarf_units.specs.declared.root.Root.{Root}
 use Rattle.dwarf_units.specs.Strings.{base_or, table_header, text_of, address_by}
 
--- the values of the attributes of an entry, in order, each with its attribute's number
+-- The values of the attributes of an entry, in order, each with its attribute's number (DWARF 5, sections 7.5.2
+-- and 7.5.3).
 unfoldable pub values_from : UnitShape → List Spec → Window → Result (List (ℕ × ValueRecord)) BadFile
 values_from shape [] w = Ok []
 values_from shape (s ∷ ss) w = value_from shape s w >>= λ v. values_from shape ss v.1 >>= λ vs. Ok ((s.attribute, v.0) ∷ vs)
 
--- the value of the first attribute of a number
+-- The first value of an attribute (DWARF 5, section 2.2).
 unfoldable pub first_value : ℕ → List (ℕ × ValueRecord) → Option ValueRecord
 first_value attribute [] = None
 first_value attribute (v ∷ vs) = if v.0 == attribute then Some v.1 else first_value attribute vs
 
--- the root of a unit
+-- A root: a unit with its first value of each attribute (DWARF 5, section 3.1).
 pub record RootRecord : Type 0 where
   pub place : ℕ
   pub shape : UnitShape
@@ -43,7 +44,7 @@ pub record RootRecord : Type 0 where
   pub addr_base : Option ValueRecord
   pub list_base : Option ValueRecord
 
--- the root with these values
+-- The root with these values (DWARF 5, section 3.1).
 abbrev pub root_with : DwarfUnit → Table → List (ℕ × ValueRecord) → RootRecord
 root_with unit table values = record {
   place = unit.place;
@@ -60,31 +61,34 @@ root_with unit table values = record {
   list_base = first_value DW_AT_RNGLISTS_BASE values;
 }
 
--- the values of the entry at a window's place, which a table declares
+-- The values of an entry with this declaration; BadAbbrev where its code isn't declared (DWARF 5, section
+-- 7.5.2).
 abbrev pub declared_values : UnitShape → ℕ → Option Declaration → Window → Result (List (ℕ × ValueRecord)) BadFile
 declared_values shape place None w = bad BadAbbrev place
 declared_values shape place (Some d) w = values_from shape d.specs w
 
--- The values of a unit's root: none where its code is 0 or no byte is left; BadAbbrev at the unit's place where the
--- table doesn't declare the code.
+-- The values of a unit's root: none where its code is 0 or no byte is left. BadAbbrev at the unit's file offset
+-- where the table doesn't declare the code (DWARF 5, section 7.5.2).
 unfoldable pub root_values : Table → DwarfUnit → Result (List (ℕ × ValueRecord)) BadFile
 root_values table unit =
     if left unit.body == 0 then Ok []
     else uleb_from unit.body >>= (λ code.
     if code.0 == 0 then Ok [] else declared_values unit.shape unit.place (declared table.declarations code.0) code.1)
 
--- the root of a unit whose abbreviations are in this table
+-- The root of a unit, with this table of abbreviations (DWARF 5, section 7.5.1).
 abbrev pub root_in : Table → DwarfUnit → Result RootRecord BadFile
 root_in table unit = root_values table unit >>= λ values. Ok (root_with unit table values)
 
--- the root of a unit
+-- The root of a unit, with the table that its header refers to, or the first fault of either (DWARF 5, section
+-- 7.5.1).
 abbrev pub root_of : Sections → DwarfUnit → Result RootRecord BadFile
 root_of s unit = table_at s.abbrev unit.abbrev_offset unit.place >>= λ table. root_in table unit
 
--- a root as contracts see it
+-- A value, or none, as contracts see it.
 abbrev pub shown_value : Option Value → Option ValueRecord
 shown_value v = option_map shown v
 
+-- A root as contracts see it.
 abbrev pub shown_root : Root → RootRecord
 shown_root r = record {
   place = r.place;
@@ -101,14 +105,15 @@ shown_root r = record {
   list_base = shown_value r.list_base;
 }
 
--- the unit's name
+-- The unit's name by this value, where there is one (DWARF 5, section 3.1.1).
 abbrev pub name_by : Sections → RootRecord → Option ValueRecord → Result (Option (List ℕ)) BadFile
 name_by s r None = Ok None
 name_by s r (Some v) = text_of s r.shape.wide (base_or r.str_base (table_header r.shape.wide)) v
 
+-- The unit's name, where it has one (DWARF 5, section 3.1.1).
 abbrev pub name_of : Sections → RootRecord → Result (Option (List ℕ)) BadFile
 name_of s r = name_by s r r.name
 
--- the address that a value of the unit tells
+-- The address that a value of the unit gives, where it gives one (DWARF 5, section 7.5.5).
 abbrev pub address_of : Sections → RootRecord → ValueRecord → Result (Option ℕ) BadFile
 address_of s r v = address_by s r.shape (base_or r.addr_base (table_header r.shape.wide)) v.place v.content

@@ -17,29 +17,30 @@ use Rattle.dwarf_units.specs.declared.header.Header.{Header}
 use Rattle.dwarf_units.specs.declared.unit.DwarfUnit.{DwarfUnit}
 use Rattle.dwarf_units.specs.declared.unit.Position.{Position}
 
--- the bytes of this length at a window's place, as a window of their own, and the window behind them
+-- The next len bytes as a window of their own, and the window after them.
 unfoldable pub contents_from : ℕ → Window → Result (Window × Window) BadFile
 contents_from len w = sub_window w w.at len >>= λ contents. Ok (contents, moved w true len)
 
--- how many bytes stand behind the offset of the abbreviations, by the type of a unit of version 5
+-- The number of bytes after the offset of the abbreviations, by the type of a unit of DWARF 5 (DWARF 5,
+-- sections 7.5.1.2 and 7.5.1.3).
 abbrev pub extra_len : ℕ → Bool → ℕ
 extra_len kind wide =
     if kind == DW_UT_SKELETON || kind == DW_UT_SPLIT_COMPILE then 8
     else if kind == DW_UT_TYPE || kind == DW_UT_SPLIT_TYPE then (if wide then 16 else 12)
     else 0
 
--- a type of units that the standard names
+-- Whether the standard defines this unit type (DWARF 5, section 7.5.1, table 7.2).
 abbrev pub is_unit_type : ℕ → Bool
 is_unit_type kind = nat_le DW_UT_COMPILE kind && nat_le kind DW_UT_SPLIT_TYPE
 
--- the header of a unit of versions 2 to 4 behind its version
+-- The header of a unit of DWARF 2 to 4, after its version (DWARF 4, section 7.5.1.1).
 unfoldable pub old_header_from : Order → Bool → Window → Result (Header × Window) BadFile
 old_header_from order wide w = do
   abbrev_offset ← offset_from order wide w
   address ← byte_from abbrev_offset.1
   Ok (record { kind = DW_UT_COMPILE; address = address.0; abbrev_offset = abbrev_offset.0 }, address.1)
 
--- that of a unit of version 5 behind its type
+-- The header of a unit of DWARF 5, after its type (DWARF 5, section 7.5.1).
 unfoldable pub typed_header_from : Order → Bool → ℕ → Window → Result (Header × Window) BadFile
 typed_header_from order wide kind w = do
   address ← byte_from w
@@ -47,36 +48,38 @@ typed_header_from order wide kind w = do
   passed ← skip_from (extra_len kind wide) abbrev_offset.1
   Ok (record { kind = kind; address = address.0; abbrev_offset = abbrev_offset.0 }, passed.1)
 
--- the header of a unit that isn't skipped
+-- The header of a unit that isn't skipped (DWARF 5, section 7.5.1).
 abbrev pub read_header : Result (Header × Window) BadFile → Result (Option Header × Window) BadFile
 read_header header = header >>= λ x. Ok (Some x.0, x.1)
 
--- the header of a unit of version 5, which is skipped where the standard doesn't name its type
+-- The header of a unit of DWARF 5, after its version. The unit is skipped where the standard doesn't define its
+-- type (DWARF 5, section 7.5.1).
 unfoldable pub new_header_from : Order → Bool → Window → Result (Option Header × Window) BadFile
 new_header_from order wide w = byte_from w >>= (λ kind.
     if is_unit_type kind.0 then read_header (typed_header_from order wide kind.0 kind.1) else Ok (None, kind.1))
 
--- the header of a unit behind its version
+-- The header of a unit, after its version (DWARF 5, section 7.5.1).
 abbrev pub header_from : Order → Bool → ℕ → Window → Result (Option Header × Window) BadFile
 header_from order wide version w = if version == 5 then new_header_from order wide w else read_header (old_header_from order wide w)
 
--- a header that can't be read is a fault of the unit
+-- A header that can't be read is a fault of the unit.
 abbrev pub or_bad_unit : {X : Type 0} → ℕ → Result X BadFile → Result X BadFile
 or_bad_unit place (Ok x) = Ok x
 or_bad_unit place (Err e) = bad BadUnit place
 
--- the versions, and the sizes of an address, that are read
+-- Whether this version of DWARF is supported.
 abbrev pub is_version : ℕ → Bool
 is_version version = nat_le 2 version && nat_le version 5
 
+-- Whether an address may have this size in bytes.
 abbrev pub is_address_size : ℕ → Bool
 is_address_size size = size == 2 || size == 4 || size == 8
 
--- how many bytes an initial length has
+-- The size of an initial length in bytes (DWARF 5, section 7.5.1).
 abbrev pub length_len : Bool → ℕ
 length_len wide = if wide then 12 else 4
 
--- what a unit is told by beside its header
+-- What is known of a unit before its header is read (DWARF 5, section 7.5.1).
 abbrev pub position_of : ℕ → Window → InitialLength → Window → Position
 position_of start w initial contents = record {
   place = place_of w;
@@ -85,7 +88,7 @@ position_of start w initial contents = record {
   wide = initial.wide;
 }
 
--- the unit of a header whose body begins here
+-- The unit with this header, whose entries are this window (DWARF 5, section 7.5.1).
 abbrev pub unit_of : Order → Position → ℕ → Header → Window → DwarfUnit
 unit_of order p version header body = record {
   place = p.place;
@@ -97,23 +100,26 @@ unit_of order p version header body = record {
   body = body;
 }
 
+-- The unit with this header, where there is one; BadUnit where its addresses have a size other than 2, 4 or 8
+-- (DWARF 5, section 7.5.1).
 abbrev pub headed : Order → Position → ℕ → Option Header → Window → Result (Option DwarfUnit) BadFile
 headed order p version None body = Ok None
 headed order p version (Some header) body = demand (is_address_size header.address) BadUnit p.place >> Ok (Some (unit_of order p version header body))
 
--- the unit behind its version
+-- The unit after its version, or none where the version isn't supported (DWARF 5, section 7.5.1).
 unfoldable pub versioned : Order → Position → ℕ → Window → Result (Option DwarfUnit) BadFile
 versioned order p version w =
     if is_version version then or_bad_unit p.place (header_from order p.wide version w) >>= (λ header. headed order p version header.0 header.1)
     else Ok None
 
--- The unit of these contents. One that is too short for a version, of another version than 2 to 5, or of a type that
--- the standard doesn't name is skipped. BadUnit at its place where its header doesn't fit, or addresses have another
--- size than 2, 4 and 8.
+-- The unit with these contents. It is skipped where it is too short for a version, has a version other than 2
+-- to 5, or has a type that the standard doesn't define. BadUnit at its file offset where its header doesn't
+-- fit, or its addresses have a size other than 2, 4 and 8 (DWARF 5, section 7.5.1).
 unfoldable pub unit_in : Order → Position → Window → Result (Option DwarfUnit) BadFile
 unit_in order p contents = if nat_lt (left contents) 2 then Ok None else num_from w16 order contents >>= (λ version. versioned order p version.0 version.1)
 
--- the unit at a window's place, or None where it is skipped
+-- The unit at the begin of a window, or none where it is skipped, and the window after it (DWARF 5, section
+-- 7.5.1).
 unfoldable pub unit_from : Order → ℕ → Window → Result (Option DwarfUnit × Window) BadFile
 unit_from order start w = do
   initial ← initial_length_from order w
@@ -121,24 +127,26 @@ unit_from order start w = do
   unit ← unit_in order (position_of start w initial.0 contents.0) contents.0
   Ok (unit, contents.1)
 
--- the same, up to the section's end
+-- The same, up to the end of the section (DWARF 5, section 7.5.1).
 unfoldable pub record_from : Order → ℕ → Window → Result (Option (Option DwarfUnit) × Window) BadFile
 record_from order start w = if left w == 0 then Ok (None, w) else unit_from order start w >>= (λ unit. Ok (Some unit.0, unit.1))
 
--- the units of these that are not skipped
+-- The units of these that aren't skipped.
 unfoldable pub handed_out : List (Option DwarfUnit) → List (Result DwarfUnit BadFile)
 handed_out [] = []
 handed_out (None ∷ us) = handed_out us
 handed_out (Some u ∷ us) = Ok u ∷ handed_out us
 
--- the fault that ends them, if one does
+-- The fault that ends the units, where one does.
 abbrev pub last_fault : Result Window BadFile → List (Result DwarfUnit BadFile)
 last_fault (Ok next) = []
 last_fault (Err e) = Err e ∷ []
 
--- the units of a window of `.debug_info`, which begins at start in the file, and then the fault
+-- The units of a window of `.debug_info` in order, and then the fault. The section begins at the file offset
+-- start (DWARF 5, section 7.5.1).
 unfoldable pub units_from : Order → ℕ → Window → List (Result DwarfUnit BadFile)
 units_from order start w = handed_out (listing (record_from order start) w).items ++ last_fault (listing (record_from order start) w).end
 
+-- The units of `.debug_info` in order, and then the fault (DWARF 5, section 7.5.1).
 abbrev pub units_of : Sections → List (Result DwarfUnit BadFile)
 units_of s = units_from s.order (place_of s.info) s.info

@@ -1,7 +1,7 @@
-//! The numbers of the standard that are told apart: the types of units (DWARF 5, section 7.5.1, table 7.2), and
-//! the attributes of a unit's root (section 7.5.4, table 7.5).
+//! The constants of the standard that this crate distinguishes: the types of units (DWARF 5, section 7.5.1,
+//! table 7.2), and the attributes of a unit's root (section 7.5.4, table 7.5).
 
-/// `DW_UT_compile`, also the type of every unit of DWARF 2 to 4.
+/// `DW_UT_compile`. Every unit of DWARF 2 to 4 has this type too.
 pub const DW_UT_COMPILE: u8 = 0x01;
 
 /// `DW_UT_type`
@@ -13,7 +13,7 @@ pub const DW_UT_SKELETON: u8 = 0x04;
 /// `DW_UT_split_compile`
 pub const DW_UT_SPLIT_COMPILE: u8 = 0x05;
 
-/// `DW_UT_split_type`, the greatest of the types that are not an implementation's own.
+/// `DW_UT_split_type`. It is the greatest type that the standard defines; greater ones are the producer's own.
 pub const DW_UT_SPLIT_TYPE: u8 = 0x06;
 
 /// `DW_AT_name`

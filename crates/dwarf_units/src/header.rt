@@ -11,7 +11,7 @@ use byte_cursor::{Cursor, Order};
 use dwarf_abbrev::{offset_from, skip_from, u8_from};
 use size_core::BadFile;
 
-/// What a unit's header says behind its version.
+/// The fields of a unit's header after its version.
 #[derive(Clone, Copy, Debug)]
 pub struct Header {
     pub kind: u8,
@@ -19,14 +19,14 @@ pub struct Header {
     pub abbrev_offset: u64,
 }
 
-/// Whether the standard names this type of units.
+/// Whether the standard defines this unit type.
 fn is_unit_type(kind: u8) -> bool
     ensures { result ≡ is_unit_type kind }
 {
     DW_UT_COMPILE <= kind && kind <= DW_UT_SPLIT_TYPE
 }
 
-/// How many bytes stand behind the offset of the abbreviations, by the type of a unit of version 5.
+/// The number of bytes after the offset of the abbreviations, by the type of a unit of DWARF 5.
 fn extra_len(kind: u8, wide: bool) -> u64
     ensures { result ≡ extra_len kind wide }
 {
@@ -38,7 +38,7 @@ fn extra_len(kind: u8, wide: bool) -> u64
     }
 }
 
-/// The header of a unit of versions 2 to 4 behind its version.
+/// Reads the header of a unit of DWARF 2 to 4, after its version.
 #[tactic(auto, unfolding(crate::specs::Units::old_header_from))]
 fn old_header(cursor: &mut Cursor, order: Order, wide: bool) -> Result<Header, BadFile>
     ensures { Reads (λ x. x) result cursor.new (old_header_from order wide cursor.old) }
@@ -52,7 +52,7 @@ fn old_header(cursor: &mut Cursor, order: Order, wide: bool) -> Result<Header, B
     })
 }
 
-/// The header of a unit of version 5 behind its type.
+/// Reads the header of a unit of DWARF 5, after its type.
 #[tactic(auto, unfolding(crate::specs::Units::typed_header_from))]
 fn typed_header(cursor: &mut Cursor, order: Order, wide: bool, kind: u8) -> Result<Header, BadFile>
     ensures { Reads (λ x. x) result cursor.new (typed_header_from order wide kind cursor.old) }
@@ -67,7 +67,7 @@ fn typed_header(cursor: &mut Cursor, order: Order, wide: bool, kind: u8) -> Resu
     })
 }
 
-/// The header of a unit of version 5 behind its version. `None` where the standard doesn't name its type.
+/// Reads the header of a unit of DWARF 5, after its version. `None` where the standard doesn't define its type.
 #[tactic(auto, unfolding(crate::specs::Units::new_header_from))]
 fn new_header(cursor: &mut Cursor, order: Order, wide: bool) -> Result<Option<Header>, BadFile>
     ensures { Reads (λ x. x) result cursor.new (new_header_from order wide cursor.old) }
@@ -81,7 +81,7 @@ fn new_header(cursor: &mut Cursor, order: Order, wide: bool) -> Result<Option<He
     }
 }
 
-/// The header of a unit behind its version.
+/// Reads the header of a unit, after its version. `None` where the unit is skipped.
 pub fn header_from(
     cursor: &mut Cursor,
     order: Order,

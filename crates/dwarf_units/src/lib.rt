@@ -1,5 +1,5 @@
-//! The units of DWARF 2 to 5, with their roots, names and addresses. A file is borrowed, and nothing here takes
-//! memory.
+//! The units of DWARF 2 to 5, with their roots, names and addresses. Everything borrows the file, and nothing
+//! allocates.
 #![tactic(auto)]
 
 mod constants;
@@ -12,12 +12,9 @@ mod strings;
 mod unit;
 mod units;
 
-pub use laws::{constants_are_those_of_the_standard, units_are_known};
+pub use laws::{standard_numbers, units_are_known};
 pub use root::Root;
 pub use sections::Sections;
 pub use strings::{address_by, base_or, table_header, text_of};
 pub use unit::DwarfUnit;
 pub use units::Units;
-
-#[cfg(test)]
-mod tests;

@@ -4,7 +4,7 @@ ghost use Rattle.std.specs.Prelude.{◌≡◌};
 ghost use Rattle.std.specs.Option.{option_copied};
 ghost use Rattle.size_core.specs.Checks.{Gives};
 ghost use Rattle.dwarf_abbrev.specs.Values.{shown};
-ghost use Rattle.dwarf_units.specs.Filling.{kept, with_value};
+ghost use Rattle.dwarf_units.specs.Filling.{earlier_value, with_value};
 ghost use Rattle.dwarf_units.specs.Roots.{address_of, name_of, shown_root, shown_value};
 
 use crate::constants::{
@@ -16,16 +16,17 @@ use crate::strings::{address_by, base_or, table_header, text_of};
 use dwarf_abbrev::{UnitShape, Value};
 use size_core::BadFile;
 
-/// The values of a unit's root that are told apart: of each attribute the first, if there is one.
+/// The attribute values of a unit's root that this crate distinguishes. Of each attribute it has the first
+/// value, where there is one.
 #[derive(Clone, Copy, Debug)]
 pub struct Root<'a> {
-    /// The file offset of the unit.
+    /// The unit's file offset.
     pub place: u64,
-    /// By which the unit's values are read.
+    /// The format of the unit's values.
     pub shape: UnitShape,
-    /// The file offset of the table of its abbreviations.
+    /// The file offset of the unit's abbreviation table.
     pub table_place: u64,
-    /// How many bytes that table has.
+    /// The length of that table in bytes.
     pub table_len: u64,
     /// `DW_AT_name`
     pub name: Option<Value<'a>>,
@@ -46,8 +47,8 @@ pub struct Root<'a> {
 }
 
 /// The first of two values of an attribute.
-fn kept<'a>(old: Option<Value<'a>>, value: Value<'a>) -> Option<Value<'a>>
-    ensures { shown_value result ≡ kept (shown_value old.entry) (shown value.entry) }
+fn earlier_value<'a>(old: Option<Value<'a>>, value: Value<'a>) -> Option<Value<'a>>
+    ensures { shown_value result ≡ earlier_value (shown_value old.entry) (shown value.entry) }
 {
     match old {
         Some(first) => Some(first),
@@ -55,28 +56,29 @@ fn kept<'a>(old: Option<Value<'a>>, value: Value<'a>) -> Option<Value<'a>>
     }
 }
 
-/// Adds the value of an attribute behind the others.
+/// Adds the next value of the root. A value counts only where it is the first of its attribute.
 pub fn add_value<'a>(root: &mut Root<'a>, attribute: u64, value: Value<'a>)
     ensures { shown_root root.new ≡ with_value attribute (shown value.entry) (shown_root root.old) }
 {
     match attribute {
-        DW_AT_NAME => root.name = kept(root.name, value),
-        DW_AT_LOW_PC => root.low = kept(root.low, value),
-        DW_AT_HIGH_PC => root.high = kept(root.high, value),
-        DW_AT_RANGES => root.ranges = kept(root.ranges, value),
-        DW_AT_STMT_LIST => root.lines = kept(root.lines, value),
-        DW_AT_STR_OFFSETS_BASE => root.str_base = kept(root.str_base, value),
-        DW_AT_ADDR_BASE => root.addr_base = kept(root.addr_base, value),
-        DW_AT_RNGLISTS_BASE => root.list_base = kept(root.list_base, value),
+        DW_AT_NAME => root.name = earlier_value(root.name, value),
+        DW_AT_LOW_PC => root.low = earlier_value(root.low, value),
+        DW_AT_HIGH_PC => root.high = earlier_value(root.high, value),
+        DW_AT_RANGES => root.ranges = earlier_value(root.ranges, value),
+        DW_AT_STMT_LIST => root.lines = earlier_value(root.lines, value),
+        DW_AT_STR_OFFSETS_BASE => root.str_base = earlier_value(root.str_base, value),
+        DW_AT_ADDR_BASE => root.addr_base = earlier_value(root.addr_base, value),
+        DW_AT_RNGLISTS_BASE => root.list_base = earlier_value(root.list_base, value),
         _ => {}
     }
 }
 
 impl<'a> Root<'a> {
-    /// The unit's name, if it has one: a string of the unit, of `.debug_str` or of `.debug_line_str`.
-    /// OffsetOutside where its offset isn't below the length of the section, or the entry that has the offset
-    /// isn't whole in `.debug_str_offsets`; BadString where it has no zero byte. Each fault stands at the value's
-    /// place.
+    /// The unit's name, where it has one. It is a string in the unit, in `.debug_str` or in `.debug_line_str`.
+    ///
+    /// OffsetOutside where its offset isn't below the section's length, or where the entry that has the offset
+    /// isn't completely inside `.debug_str_offsets`. BadString where it has no null byte. Each fault has the
+    /// value's file offset.
     pub fn name_text(&self, sections: &Sections<'a>) -> Result<Option<&'a [u8]>, BadFile>
         ensures { Gives option_copied result (name_of sections.now (shown_root self.now)) }
     {
@@ -89,8 +91,9 @@ impl<'a> Root<'a> {
         }
     }
 
-    /// The address that a value of the unit tells: itself, or by its index in `.debug_addr`. `None` where it
-    /// tells none. OffsetOutside at the value's place where the entry isn't whole in the section.
+    /// The address that a value of the unit gives, directly or by its index in `.debug_addr`. `None` where it
+    /// gives none. OffsetOutside at the value's file offset where the entry isn't completely inside the
+    /// section.
     pub fn address(
         &self,
         value: &Value<'a>,

@@ -12,7 +12,7 @@ use byte_cursor::Cursor;
 use dwarf_abbrev::{Abbrevs, Entry, UnitShape, read_form, uleb_from};
 use size_core::{BadFile, Fault};
 
-/// The root with the values of a declaration, which stand at the cursor's place.
+/// Reads the values of a declaration into the root. The cursor is at the first value.
 #[tactic(auto, using(crate::proofs::RootLemmas::filled_end, crate::proofs::RootLemmas::filled_more, crate::proofs::RootLemmas::filled_bad))]
 fn read_values<'a>(
     declared: Entry<'a>,
@@ -30,7 +30,7 @@ fn read_values<'a>(
     Ok(root)
 }
 
-/// The root of a unit without a value.
+/// The root of a unit with no values.
 #[tactic(auto, unfolding(crate::specs::Roots::first_value))]
 fn bare_root<'a>(unit: &DwarfUnit<'a>, table: &Abbrevs<'a>) -> Root<'a>
     ensures { shown_root result ≡ root_with unit.now table.now [] }
@@ -52,13 +52,13 @@ fn bare_root<'a>(unit: &DwarfUnit<'a>, table: &Abbrevs<'a>) -> Root<'a>
 }
 
 impl<'a> DwarfUnit<'a> {
-    /// The root of the unit, whose abbreviations are in this table: `Abbrevs::at` of the unit's `abbrev_offset`.
-    /// Units that share a table need it read but once, and the table keeps the declaration that it found, so that roots
-    /// of one code don't look for it again.
+    /// The root of the unit, with the table of its abbreviations: `Abbrevs::at` of the unit's `abbrev_offset`.
+    /// Units that share a table need it read only once. The table caches the declaration that it found, so
+    /// roots with the same code don't search for it again.
     ///
-    /// The root has no value where its code is 0, or no byte stands behind the header. Truncated or BadLeb at the
-    /// code's place where that can't be read; BadAbbrev at the unit's place where the table doesn't declare it;
-    /// and then the first fault of `read_form` among the values.
+    /// The root has no values where its code is 0, or where no byte follows the header. Truncated or BadLeb at
+    /// the code's file offset where the code can't be read. BadAbbrev at the unit's file offset where the table
+    /// doesn't declare the code. After those comes the first fault of `read_form` among the values.
     #[tactic(auto, unfolding(crate::specs::Roots::root_values, crate::specs::Filling::filled_from, crate::specs::Roots::first_value))]
     pub fn root_in(&self, table: &mut Abbrevs<'a>) -> Result<Root<'a>, BadFile>
         ensures root { Gives shown_root result (root_in table.old self.now) }
@@ -82,8 +82,8 @@ impl<'a> DwarfUnit<'a> {
         }
     }
 
-    /// The root of the unit: first the faults of `Abbrevs::at`, with OffsetOutside at the unit's place, and then
-    /// those of `root_in`.
+    /// The root of the unit. The faults of `Abbrevs::at` come first, with OffsetOutside at the unit's file
+    /// offset, and then those of `root_in`.
     pub fn root(&self, sections: &Sections<'a>) -> Result<Root<'a>, BadFile>
         ensures { Gives shown_root result (root_of sections.now self.now) }
     {

@@ -2,12 +2,11 @@
 
 use byte_cursor::{Cursor, Order};
 
-/// The debug sections of a file (DWARF 5, section 7, and `.debug_ranges` of DWARF 4). Each cursor is over the
-/// bytes of its section, and empty where the section is absent or has no bytes. A section is what its cursor
-/// has left.
+/// The debug sections of a file (DWARF 5, section 7, and `.debug_ranges` of DWARF 4). Each section is what its
+/// cursor has left. The cursor is empty where the section is absent or has no bytes.
 #[derive(Drop)]
 pub struct Sections<'a> {
-    /// The order of the bytes of numbers.
+    /// The byte order.
     pub order: Order,
     /// `.debug_info`
     pub info: Cursor<'a>,

@@ -1,4 +1,4 @@
-//! Strings and addresses that values name (DWARF 5, sections 7.26 and 7.27).
+//! Strings and addresses that attribute values refer to (DWARF 5, sections 7.26 and 7.27).
 
 ghost use Rattle.std.specs.Prelude.{◌≡◌, ◌+◌, ◌*◌};
 ghost use Rattle.std.specs.Option.{option_copied};
@@ -14,7 +14,7 @@ use byte_cursor::Cursor;
 use dwarf_abbrev::{Content, UnitShape, Value, address_from, inside, offset_from};
 use size_core::{BadFile, Fault};
 
-/// The string at an offset of a section. Its faults stand at `place`.
+/// The string at an offset of a section. Its faults have the file offset `place`.
 #[tactic(auto, unfolding(crate::specs::Strings::string_at))]
 fn string_at<'a>(section: &Cursor<'a>, offset: u64, place: u64) -> Result<&'a [u8], BadFile>
     ensures { Gives (λ t. t.now) result (string_at section.now offset place) }
@@ -34,7 +34,7 @@ fn string_at<'a>(section: &Cursor<'a>, offset: u64, place: u64) -> Result<&'a [u
     }
 }
 
-/// The place of an entry of a table, where it is inside the section.
+/// The cursor at an entry of a table, where the entry begins inside the section.
 fn entry_inside<'a>(section: &Cursor<'a>, base: u64, index: u64, size: u8) -> Option<Cursor<'a>>
     ensures { result ≡ inside section.now (base + index * size) }
 {
@@ -45,14 +45,14 @@ fn entry_inside<'a>(section: &Cursor<'a>, base: u64, index: u64, size: u8) -> Op
     inside(section, offset as u64)
 }
 
-/// How many bytes an offset has.
+/// The size of an offset in bytes.
 fn offset_size(wide: bool) -> u8
     ensures { result ≡ offset_size wide }
 {
     if wide { 8 } else { 4 }
 }
 
-/// How many bytes an address has.
+/// The size of an address in bytes.
 fn address_size(shape: &UnitShape) -> u8
     ensures { result ≡ address_size shape.now }
 {
@@ -63,8 +63,8 @@ fn address_size(shape: &UnitShape) -> u8
     }
 }
 
-/// A fault of an entry that isn't whole in its section.
-fn outside(place: u64) -> Result<u64, BadFile>
+/// The fault of an entry that isn't completely inside its section.
+fn outside_section(place: u64) -> Result<u64, BadFile>
     ensures { result ≡ bad OffsetOutside place }
 {
     Err(BadFile {
@@ -86,11 +86,11 @@ fn string_offset_at(
 {
     let Some(mut cursor) = entry_inside(&sections.str_offsets, base, index, offset_size(wide))
     else {
-        return outside(place);
+        return outside_section(place);
     };
     match offset_from(&mut cursor, sections.order, wide) {
         Ok(offset) => Ok(offset),
-        Err(_) => outside(place),
+        Err(_) => outside_section(place),
     }
 }
 
@@ -107,23 +107,24 @@ fn address_at(
 {
     let Some(mut cursor) = entry_inside(&sections.addresses, base, index, address_size(shape))
     else {
-        return outside(place);
+        return outside_section(place);
     };
     match address_from(&mut cursor, sections.order, shape.address) {
         Ok(address) => Ok(address),
-        Err(_) => outside(place),
+        Err(_) => outside_section(place),
     }
 }
 
-/// Where the entries of a table of offsets or addresses begin if no attribute tells: behind its header, which
-/// has 8 bytes, or 16 in the 64-bit format (DWARF 5, sections 7.26 and 7.27).
+/// The offset in the section of the first entry of a table of offsets or addresses, where no attribute gives
+/// it. It is the size of the table's header: 8 bytes, or 16 in the 64-bit format (DWARF 5, sections 7.26 and
+/// 7.27).
 pub fn table_header(wide: bool) -> u64
     ensures { result ≡ table_header wide }
 {
     if wide { 16 } else { 8 }
 }
 
-/// The base that an attribute tells, or this one.
+/// The base that an attribute gives, or else `other`.
 pub fn base_or(value: &Option<Value>, other: u64) -> u64
     ensures { result ≡ base_or (shown_value value.now) other }
 {
@@ -138,12 +139,12 @@ pub fn base_or(value: &Option<Value>, other: u64) -> u64
     }
 }
 
-/// The string that a value names: its own text, one of `.debug_str` or `.debug_line_str` by its offset, or one of
-/// `.debug_str` by the index of its offset, whose table's entries begin at `base` of `.debug_str_offsets`. `None`
-/// where the value names none.
+/// The string that a value refers to: its own text, a string of `.debug_str` or `.debug_line_str` by its
+/// offset, or a string of `.debug_str` by the index of its offset. The entries of the index begin at `base` in
+/// `.debug_str_offsets`. `None` where the value refers to no string.
 ///
-/// OffsetOutside where an offset isn't below the length of its section, or where the entry isn't whole;
-/// BadString where the string has no zero byte. Each fault stands at the value's place.
+/// OffsetOutside where an offset isn't below the length of its section, or where the entry isn't completely
+/// inside it. BadString where the string has no null byte. Each fault has the value's file offset.
 #[tactic(auto, unfolding(crate::specs::Strings::text_by))]
 pub fn text_of<'a>(
     value: &Value<'a>,
@@ -172,8 +173,9 @@ pub fn text_of<'a>(
     }
 }
 
-/// The address that a value tells: itself, or by its index, whose table's entries begin at `base` of
-/// `.debug_addr`. `None` where it tells none, and OffsetOutside at the value's place where the entry isn't whole.
+/// The address that a value gives, directly or by its index. The entries of the index begin at `base` in
+/// `.debug_addr`. `None` where it gives none, and OffsetOutside at the value's file offset where the entry
+/// isn't completely inside the section.
 #[tactic(auto, unfolding(crate::specs::Strings::address_by))]
 pub fn address_by(
     value: &Value,

@@ -15,24 +15,24 @@ use size_core::{BadFile, Fault};
 /// A unit of `.debug_info`.
 #[derive(Drop)]
 pub struct DwarfUnit<'a> {
-    /// Its file offset.
+    /// The unit's file offset.
     pub place: u64,
-    /// How many bytes it has, with its length field.
+    /// The unit's length in bytes, with its length field.
     pub len: u64,
-    /// Its offset in `.debug_info`.
+    /// The unit's offset in `.debug_info`.
     pub offset: u64,
-    /// By which its values are read.
+    /// The format of the unit's values.
     pub shape: UnitShape,
-    /// Its type (section 7.5.1, table 7.2), and 1 in DWARF 2 to 4.
+    /// The unit's type (section 7.5.1, table 7.2). It is 1 in DWARF 2 to 4.
     pub kind: u8,
-    /// The offset of the table of its abbreviations in `.debug_abbrev`.
+    /// The offset of the unit's abbreviation table in `.debug_abbrev`.
     pub abbrev_offset: u64,
-    /// Its entries, from behind its header to its end.
+    /// The unit's entries: all bytes after its header.
     pub body: Cursor<'a>,
 }
 
-/// What a unit is told by beside its header: its place in the file, its offset in `.debug_info`,
-/// how many bytes it has, and how many an offset has.
+/// What is known of a unit before its header is read: its file offset, its offset in `.debug_info`, its length
+/// in bytes, and the size of its offsets.
 #[derive(Clone, Copy)]
 pub struct Position {
     pub place: u64,
@@ -41,14 +41,14 @@ pub struct Position {
     pub wide: bool,
 }
 
-/// Whether this version of DWARF is read.
+/// Whether this version of DWARF is supported.
 fn is_version(version: u16) -> bool
     ensures { result ≡ is_version version }
 {
     2 <= version && version <= 5
 }
 
-/// Whether an address may have this size.
+/// Whether an address may have this size in bytes.
 fn is_address_size(size: u8) -> bool
     ensures { result ≡ is_address_size size }
 {
@@ -65,7 +65,7 @@ fn bad_unit<'a>(place: u64) -> Result<Option<DwarfUnit<'a>>, BadFile>
     })
 }
 
-/// Where a unit stands, and how many bytes it has: those of its length field, and its contents.
+/// The position of a unit. Its length is that of the length field and the contents together.
 fn position_of(start: u64, place: u64, initial: InitialLength, contents: &Cursor) -> Position
     ensures { (w : Window) → place ≡ place_of w → result ≡ position_of start w initial contents.now }
 {
@@ -78,7 +78,7 @@ fn position_of(start: u64, place: u64, initial: InitialLength, contents: &Cursor
     }
 }
 
-/// The unit of a header whose body begins at the cursor's place.
+/// The unit with this header. The cursor is at the first byte after the header.
 fn headed<'a>(
     order: Order,
     position: &Position,
@@ -110,7 +110,7 @@ fn headed<'a>(
     }))
 }
 
-/// The unit behind its version.
+/// Reads the rest of a unit, after its version.
 #[tactic(auto, unfolding(crate::specs::Units::versioned))]
 fn versioned<'a>(
     order: Order,
@@ -129,7 +129,7 @@ fn versioned<'a>(
     }
 }
 
-/// The unit of these contents. `None` where it is skipped.
+/// Reads the unit with these contents. `None` where it is skipped.
 #[tactic(auto, unfolding(crate::specs::Units::unit_in))]
 fn unit_in<'a>(
     order: Order,
@@ -145,7 +145,7 @@ fn unit_in<'a>(
     versioned(order, position, version, contents)
 }
 
-/// The bytes of this length, as a window of their own, which are passed.
+/// The next `len` bytes as a window of their own. The cursor moves past them.
 #[tactic(auto, unfolding(crate::specs::Units::contents_from))]
 fn contents_from<'a>(cursor: &mut Cursor<'a>, len: u64) -> Result<Cursor<'a>, BadFile>
     ensures { Takes (λ x. x) result cursor.old cursor.new (contents_from len cursor.old) }
@@ -153,7 +153,7 @@ fn contents_from<'a>(cursor: &mut Cursor<'a>, len: u64) -> Result<Cursor<'a>, Ba
     cursor.take(len)
 }
 
-/// The unit at the cursor's place, or `None` where it is skipped.
+/// Reads the unit at the cursor. `None` where it is skipped.
 #[tactic(auto, unfolding(crate::specs::Units::unit_from))]
 pub fn unit_from<'a>(
     cursor: &mut Cursor<'a>,

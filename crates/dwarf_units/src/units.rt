@@ -10,7 +10,7 @@ use byte_cursor::{Cursor, Order};
 use size_core::BadFile;
 use std::marker::Model;
 
-/// The next unit or fault of what the cursor has left, after which nothing comes behind a fault.
+/// The next unit or fault. After a fault nothing follows.
 #[tactic(auto, using(crate::proofs::UnitLemmas::comes_none, crate::proofs::UnitLemmas::comes_fault, crate::proofs::UnitLemmas::comes_unit, crate::proofs::UnitLemmas::comes_same, crate::proofs::UnitLemmas::unit_less))]
 fn next_unit<'a>(
     cursor: &mut Cursor<'a>,
@@ -34,8 +34,9 @@ fn next_unit<'a>(
     None
 }
 
-/// The units of `.debug_info` in order, and then its fault. Skipped are units that are too short for a version,
-/// those of another version than 2 to 5, and those of a type that the standard doesn't name.
+/// The units of `.debug_info` in order, and then its fault, where there is one. Three kinds of units are
+/// skipped: those too short for a version, those of a version other than 2 to 5, and those of a type that the
+/// standard doesn't define.
 #[derive(Drop)]
 pub struct Units<'a> {
     order: Order,
@@ -74,8 +75,8 @@ impl<'a> Iterator for Units<'a> {
 
     ghost remaining = { item_count (λ s. s) };
 
-    /// The next unit. Truncated or BadUnit at its place where its length or its header can't be read or
-    /// doesn't fit the section; after a fault no unit comes.
+    /// The next unit. Truncated or BadUnit at the unit's file offset where its length or its header can't be
+    /// read or doesn't fit the section. After a fault no unit follows.
     fn next(&mut self) -> Option<Result<DwarfUnit<'a>, BadFile>> {
         next_unit(&mut self.cursor, self.order, self.start)
     }

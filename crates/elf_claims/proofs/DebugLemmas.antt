@@ -1,4 +1,4 @@
--- Where the bytes of a section stand, and which number a section has that a name finds.
+-- The offset of the bytes of a section, and the number of a section that is found by its name.
 use Rattle.std.proofs.Common.{◌≡◌, ℕ, zero, suc, ◌+◌, ◌-◌, ◌^◌, ◌<◌, ◌≤◌, Bool, true, false, List, [], length, take, drop, Some, arith, length-drop}
 use Rattle.std.proofs.lemmas.List.{length-take}
 use Rattle.std.specs.Prelude.{if◌then◌else◌}
@@ -6,7 +6,7 @@ use Rattle.size_core.specs.Gather.{first_from}
 use Rattle.elf_file.specs.Names.{has_name, section_named}
 use Rattle.elf_file.specs.Tables.{has_bytes, section_at, section_bytes, section_count}
 
--- bytes that are there end in the file
+-- the bytes of a section end in the file
 bytes_fit : (file : List ℕ) (i : ℕ) → 0 < length (section_bytes file i) → (section_at file i).offset + length (section_bytes file i) ≤ length file
 unfolding section_bytes
 bytes_fit file i some = by_bytes (has_bytes file i) some
@@ -16,7 +16,7 @@ bytes_fit file i some = by_bytes (has_bytes file i) some
     by_bytes true some = omega (arith, length-take (section_at file i).size (drop (section_at file i).offset file), length-drop (section_at file i).offset file)
     by_bytes false some = absurd (omega arith)
 
--- and so below 2^63
+-- so their end is below 2^63
 pub window_fits : (file bytes : List ℕ) (i offset : ℕ) → length file < 2 ^ 32 → bytes ≡ section_bytes file i → offset ≡ (section_at file i).offset → 0 < length bytes → offset + length bytes < 2 ^ 63
 window_fits file bytes i offset small is at some =
     let there : 0 < length (section_bytes file i) = rw (← is) some in

@@ -1,4 +1,4 @@
--- A table of symbols that was opened has no fault of its own.
+-- A symbol table that was opened has no fault of its own.
 use Rattle.std.proofs.Common.{◌≡◌, ℕ, List, ◌==◌, true, Ok, Err, refl, arith}
 use Rattle.std.proofs.lemmas.Grind.{common_steps}
 use Rattle.size_core.specs.Checks.{◌>>◌, Check}
@@ -11,12 +11,12 @@ same-table : (check : Check) (t u : Table) → Ok t ≡ (check >> Ok u) → t �
 same-table (Ok x) t u e = cc e
 same-table (Err b) t u e = cc e
 
--- the table that was opened is that of the section
+-- the table that was opened is the table of the section
 pub opened-table : (file : List ℕ) (i : ℕ) (t : Table) → Ok t ≡ table_at file i → t ≡ record { file = file; index = i }
 unfolding table_at
 opened-table file i t e = same-table _ t (record { file = file; index = i }) e
 
--- and its claims are those of its symbols
+-- its claims are those of its symbols
 pub table-claims : (file : List ℕ) (i : ℕ) (t : Table) → Ok t ≡ table_at file i → table_claims file i ≡ symbol_list file i
 unfolding table_claims
 table-claims file i t e = rw (← e) refl
@@ -28,7 +28,7 @@ of-type file kind i r same e = rw (same, same-number kind, e) refl
     same-number : (k : ℕ) → (k == k) ≡ true
     same-number k = grind (arith, common_steps)
 
--- where the section is of the type, its claims are those of its symbols
+-- if the section has the type, its claims are those of the symbols
 pub claims-are : (file : List ℕ) (kind i : ℕ) (t : Table) → (section_at file i).kind ≡ kind → Ok t ≡ table_at file i → claims_of_type kind file i ≡ symbol_list file t.index
 claims-are file kind i t same e =
     rw (opened-table file i t e) (of-type file kind i (symbol_list file i) same (table-claims file i t e))

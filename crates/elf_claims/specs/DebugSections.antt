@@ -13,8 +13,7 @@ use Rattle.elf_claims.specs.declared.debug.DebugSection.{DebugSection}
 use Rattle.elf_claims.specs.declared.debug.DebugSection.TheVariants.{Info, Abbrev, Str, LineStr, StrOffsets, Addr, Ranges, Rnglists, Aranges, Line}
 use Rattle.elf_claims.specs.Loads.{has_flag, is_relocatable}
 
--- the names of the debug sections (DWARF 5, section 7.1, and DWARF 4, section 7.1), and those that tools gave them
--- which compressed them before SHF_COMPRESSED
+-- The names of the debug sections (DWARF 5, section 7.1; DWARF 4, section 7.1).
 unfoldable pub debug_name : DebugSection → List ℕ
 debug_name Info = codes ".debug_info"
 debug_name Abbrev = codes ".debug_abbrev"
@@ -27,6 +26,7 @@ debug_name Rnglists = codes ".debug_rnglists"
 debug_name Aranges = codes ".debug_aranges"
 debug_name Line = codes ".debug_line"
 
+-- The names that older tools gave compressed debug sections, before SHF_COMPRESSED.
 unfoldable pub renamed : DebugSection → List ℕ
 renamed Info = codes ".zdebug_info"
 renamed Abbrev = codes ".zdebug_abbrev"
@@ -39,24 +39,26 @@ renamed Rnglists = codes ".zdebug_rnglists"
 renamed Aranges = codes ".zdebug_aranges"
 renamed Line = codes ".zdebug_line"
 
--- a section that is absent
+-- The window of a section that the file doesn't have: it is empty.
 abbrev pub no_window : Window
 no_window = record { base = 0; bytes = []; at = 0 }
 
--- the bytes of section i, and where they stand in the file; one without bytes is as if it were absent
+-- The bytes of section i, with their offset in the file. A section without bytes is like a missing one.
 unfoldable pub window_over : List ℕ → ℕ → Window
 window_over file i =
     if length (section_bytes file i) == 0 then no_window
     else record { base = (section_at file i).offset; bytes = section_bytes file i; at = 0 }
 
+-- The bytes of the section of this number, if there is one.
 abbrev pub window_at : List ℕ → Option ℕ → Window
 window_at file None = no_window
 window_at file (Some i) = window_over file i
 
--- those of the first section of the name
+-- The bytes of the first section that has the name of a debug section (DWARF 5, section 7.1).
 abbrev pub window_named : List ℕ → DebugSection → Window
 window_named file section = window_at file (section_named file (debug_name section))
 
+-- All debug sections of a file, and its byte order (DWARF 5, section 7.1).
 unfoldable pub sections_of : List ℕ → Sections
 sections_of file = record {
   order = (encoding_of file).order;
@@ -72,24 +74,26 @@ sections_of file = record {
   lines = window_named file Line;
 }
 
--- section i is compressed (gABI, Sections: SHF_COMPRESSED)
+-- Section i is compressed (gABI, Sections: SHF_COMPRESSED).
 abbrev pub is_compressed : List ℕ → ℕ → Bool
 is_compressed file i = has_flag (section_at file i).flags SHF_COMPRESSED && not ((section_at file i).kind == SHT_NOBITS)
 
--- there is no section of the other name
+-- CompressedDebugInfo at the header of a section with the older name, if there is one (gABI, Sections: SHF_COMPRESSED).
 abbrev pub renamed_check : List ℕ → Option ℕ → Check
 renamed_check file None = Ok tt
 renamed_check file (Some i) = bad CompressedDebugInfo (section_at file i).place
 
--- the section isn't compressed, and where it is absent there is none of the other name
+-- CompressedDebugInfo if the section is compressed, or if only a section of the older name is there (gABI, Sections:
+-- SHF_COMPRESSED).
 abbrev pub found_check : List ℕ → DebugSection → Option ℕ → Check
 found_check file section None = renamed_check file (section_named file (renamed section))
 found_check file section (Some i) = demand (not (is_compressed file i)) CompressedDebugInfo (section_at file i).place
 
+-- The check of one debug section, which is found by its name (gABI, Sections: SHF_COMPRESSED).
 unfoldable pub section_check : List ℕ → DebugSection → Check
 section_check file section = found_check file section (section_named file (debug_name section))
 
--- those of entries and their strings, and those of addresses and lines
+-- The checks of `.debug_info`, `.debug_abbrev` and the string sections, in order (gABI, Sections: SHF_COMPRESSED).
 unfoldable pub entry_checks : List ℕ → Check
 entry_checks file = do
   section_check file Info
@@ -98,6 +102,7 @@ entry_checks file = do
   section_check file LineStr
   section_check file StrOffsets
 
+-- The checks of the sections of addresses, ranges and lines, in order (gABI, Sections: SHF_COMPRESSED).
 unfoldable pub address_checks : List ℕ → Check
 address_checks file = do
   section_check file Addr
@@ -106,8 +111,9 @@ address_checks file = do
   section_check file Aranges
   section_check file Line
 
--- The debug sections of a file, or the first fault: the file is relocatable, so that its debug sections aren't yet what
--- they say; or one of them is compressed.
+-- The debug sections of a file, or the first fault: SourceNotForFile if the file is relocatable, since its debug
+-- sections aren't relocated yet; then CompressedDebugInfo if one of them is compressed (gABI, Sections:
+-- SHF_COMPRESSED).
 unfoldable pub debug_sections : List ℕ → Result Sections BadFile
 debug_sections file = do
   demand (not (is_relocatable file)) SourceNotForFile 0

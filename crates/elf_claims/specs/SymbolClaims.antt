@@ -12,63 +12,71 @@ use Rattle.claim_sheet.specs.Reaches.{claim_on_some, in_memory, span}
 use Rattle.elf_claims.specs.Loads.{has_addresses, is_relocatable}
 use Rattle.claim_sheet.specs.Read.{joined, read_each}
 
--- the types of data and functions, and none
+-- The symbol's type is data, a function, or no type (gABI, Symbol Table).
 abbrev pub is_data_or_code : ℕ → Bool
 is_data_or_code kind = kind == STT_NOTYPE || kind == STT_OBJECT || kind == STT_FUNC || kind == STT_GNU_IFUNC
 
--- the symbol stands in a section: st_shndx is no reserved number but SHN_XINDEX
+-- The symbol is defined in a section: st_shndx is not SHN_UNDEF, and no reserved number except SHN_XINDEX (gABI, Symbol
+-- Table).
 abbrev pub is_in_section : SymbolRecord → Bool
 is_in_section s = not (s.section == 0) && not (nat_le SHN_LORESERVE s.shndx && nat_lt s.shndx SHN_XINDEX)
 
--- the symbol names bytes
+-- The symbol names bytes: it is data or code in a section, and has a size and a name (gABI, Symbol Table).
 unfoldable pub names_bytes : SymbolRecord → Bool
 names_bytes s = is_data_or_code s.kind && (nat_lt 0 s.size && (not (length s.name == 0) && is_in_section s))
 
--- the symbol's address: bit 0 of a function's value tells the instruction set of an Arm processor
+-- The symbol's address. Bit 0 of an Arm function's value is the instruction set and not part of the address (gABI,
+-- Symbol Table).
 abbrev pub symbol_address : List ℕ → SymbolRecord → ℕ
 symbol_address file s = if (header_of file).machine == EM_ARM && s.kind == STT_FUNC then s.value - s.value % 2 else s.value
 
--- in a relocatable file a symbol stands in the space of its section, where that has addresses
+-- The symbol has an address space: in a relocatable file, its section has addresses (gABI, Symbol Table).
 abbrev pub has_space : List ℕ → SymbolRecord → Bool
 has_space file s = not (is_relocatable file) || (nat_lt s.section (section_count file) && has_addresses file s.section)
 
+-- The symbol's address space: that of its section in a relocatable file, and 0 in others (gABI, Symbol Table).
 abbrev pub symbol_space : List ℕ → SymbolRecord → ℕ
 symbol_space file s = if is_relocatable file then s.section else 0
 
--- what a symbol's claim covers: its addresses
+-- What a symbol covers: its addresses, if it names bytes (gABI, Symbol Table).
 unfoldable pub symbol_reach : List ℕ → SymbolRecord → Option Reach
 symbol_reach file s =
     if names_bytes s && has_space file s then Some (in_memory (span (symbol_space file s) (symbol_address file s) s.size)) else None
 
+-- The claim of a symbol under its name, if it names bytes (gABI, Symbol Table).
 abbrev pub claim_of_symbol : List ℕ → SymbolRecord → List LabelledClaim
 claim_of_symbol file s = claim_on_some (symbol_reach file s) s.name
 
--- the claim of symbol k of the table in section i, or the symbol's fault
+-- The claim of symbol k of the table in section i, or the fault of the symbol (gABI, Symbol Table).
 unfoldable pub symbol_claim : List ℕ → ℕ → ℕ → Result (List LabelledClaim) BadFile
 symbol_claim file i k = do
   s ← symbol_at file i k
   Ok (claim_of_symbol file s)
 
+-- The claims of all symbols of the table in section i, in order, or the first fault (gABI, Symbol Table).
 unfoldable pub symbol_list : List ℕ → ℕ → Result (List LabelledClaim) BadFile
 symbol_list file i = read_each (symbol_claim file i) 0 (symbol_count file i)
 
--- the claims of a table's symbols, or its first fault
+-- The claims of the table in section i, or the first fault: that of the table, then those of its symbols (gABI, Symbol
+-- Table).
 unfoldable pub table_claims : List ℕ → ℕ → Result (List LabelledClaim) BadFile
 table_claims file i = do
   table_at file i
   symbol_list file i
 
--- the types of sections that are tables of symbols
+-- The types of sections that are symbol tables (gABI, Symbol Table).
 abbrev pub IsTableType : ℕ → Type 0
 IsTableType kind = (kind ≡ SHT_SYMTAB) ⊎ (kind ≡ SHT_DYNSYM)
 
--- those of section i, where it is a table of this type
+-- The claims of section i if it is a symbol table of this type, or the first fault (gABI, Symbol Table).
 unfoldable pub claims_of_type : ℕ → List ℕ → ℕ → Result (List LabelledClaim) BadFile
 claims_of_type kind file i = if (section_at file i).kind == kind then table_claims file i else Ok []
 
+-- The claims of all symbol tables of this type, in the order of the sections, or the first fault (gABI, Symbol Table).
 unfoldable pub tables_claims : ℕ → List ℕ → Result (List LabelledClaim) BadFile
 tables_claims kind file = read_each (claims_of_type kind file) 1 (section_count file - 1)
 
--- the symbols of each table of type SHT_SYMTAB, and then of each of type SHT_DYNSYM
+-- The claims of all symbols: first the tables of type SHT_SYMTAB, then those of type SHT_DYNSYM; or the first fault
+-- (gABI, Symbol Table).
 unfoldable pub symbols_claims : List ℕ → Result (List LabelledClaim) BadFile
 symbols_claims file = joined (tables_claims SHT_SYMTAB file) (tables_claims SHT_DYNSYM file)

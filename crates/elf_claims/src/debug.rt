@@ -1,4 +1,4 @@
-//! The debug sections of a file (DWARF 5, section 7.1, and ELF gABI, Sections: SHF_COMPRESSED).
+//! Finding the debug sections of a file (DWARF 5, section 7.1; ELF gABI, Sections: SHF_COMPRESSED).
 
 ghost use Rattle.std.specs.Prelude.{◌≡◌, ◌<◌};
 ghost use Rattle.elf_file.specs.Tables.{section_count};
@@ -26,7 +26,7 @@ pub enum DebugSection {
 }
 
 impl DebugSection {
-    // The section's name.
+    // Returns the name of the section.
     #[tactic(auto, unfolding(crate::specs::DebugSections::debug_name))]
     fn name(self) -> &'static [u8]
         ensures { result.now ≡ debug_name self }
@@ -45,7 +45,7 @@ impl DebugSection {
         }
     }
 
-    // The name that tools gave it which compressed it before there was a flag for that.
+    // Returns the name that older tools gave the section when they compressed it, before SHF_COMPRESSED.
     #[tactic(auto, unfolding(crate::specs::DebugSections::renamed))]
     fn renamed(self) -> &'static [u8]
         ensures { result.now ≡ renamed self }
@@ -65,13 +65,13 @@ impl DebugSection {
     }
 }
 
-// The bytes of a section, and where they stand in the file.
+// Returns the bytes of a section, with their offset in the file.
 #[tactic(auto, unfolding(crate::specs::DebugSections::window_over))]
 fn window_over<'a>(file: &ElfFile<'a>, i: u32) -> Cursor<'a>
     requires { i < section_count file.now }
     ensures { result ≡ window_over file.now i }
 {
-    // That a file is small.
+    // The file's length is below 2^63, and so is the sum in the invariant of the cursor.
     let _file = file.bytes();
     let bytes = file.section_bytes(i);
     if bytes.is_empty() {
@@ -90,7 +90,7 @@ fn window_named<'a>(file: &ElfFile<'a>, section: DebugSection) -> Cursor<'a>
     }
 }
 
-// The debug sections, whether they are compressed or not.
+// Returns the debug sections, without a look at whether they are compressed.
 #[tactic(auto, unfolding(crate::specs::DebugSections::sections_of))]
 fn sections_of<'a>(file: &ElfFile<'a>) -> Sections<'a>
     ensures { result ≡ sections_of file.now }
@@ -118,7 +118,7 @@ fn is_compressed(file: &ElfFile<'_>, i: u32) -> bool
     section.flags & SHF_COMPRESSED != 0 && section.kind != SHT_NOBITS
 }
 
-// A section isn't compressed, nor is there one of its other name in its place.
+// Fails if a section is compressed: by its flag, or by the older name if none has the plain one.
 #[tactic(auto, using(crate::proofs::DebugLemmas::named_within), unfolding(crate::specs::DebugSections::section_check))]
 fn check_section(file: &ElfFile<'_>, section: DebugSection) -> Result<(), BadFile>
     ensures { result ≡ section_check file.now section }
@@ -159,11 +159,12 @@ fn check_addresses(file: &ElfFile<'_>) -> Result<(), BadFile>
     check_section(file, DebugSection::Line)
 }
 
-/// The debug sections of a file, found by their names; a name means the first section that has it. SourceNotForFile
-/// at 0 for a relocatable file. CompressedDebugInfo at the header of a section that is compressed: one with
-/// SHF_COMPRESSED, or one named `.zdebug_..` where none is named `.debug_..`; in the order .debug_info,
-/// .debug_abbrev, .debug_str, .debug_line_str, .debug_str_offsets, .debug_addr, .debug_ranges, .debug_rnglists,
-/// .debug_aranges, .debug_line.
+/// Returns the debug sections of a file. A section is found by its name: the first section that has the name.
+///
+/// SourceNotForFile at 0 if the file is relocatable: its debug sections aren't relocated yet. CompressedDebugInfo at
+/// the section header if a section is compressed: it has SHF_COMPRESSED, or it is named `.zdebug_..` and no section is
+/// named `.debug_..`. The sections are tested in this order: .debug_info, .debug_abbrev, .debug_str, .debug_line_str,
+/// .debug_str_offsets, .debug_addr, .debug_ranges, .debug_rnglists, .debug_aranges, .debug_line.
 #[tactic(auto, unfolding(crate::specs::DebugSections::debug_sections))]
 pub fn debug_sections<'a>(file: &ElfFile<'a>) -> Result<Sections<'a>, BadFile>
     ensures { result ≡ debug_sections file.now }

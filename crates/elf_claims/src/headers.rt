@@ -1,7 +1,7 @@
-//! The claims of a file's header and of its two tables (ELF gABI, ELF Header).
+//! The claims of the ELF header and of the two tables that it points to (ELF gABI, ELF Header).
 
-ghost use Rattle.std.specs.Prelude.{◌≡◌, OnOk};
-ghost use Rattle.claim_sheet.specs.Sheets.{adding};
+ghost use Rattle.std.specs.Prelude.{◌≡◌};
+ghost use Rattle.claim_sheet.specs.Adds.{Adds};
 ghost use Rattle.elf_claims.specs.Claims.{header_claims, header_reach, section_table_reach, segment_table_reach};
 
 use claim_sheet::{ClaimSheet, Reach, Wrap, span};
@@ -32,11 +32,10 @@ fn section_table_reach(file: &ElfFile<'_>) -> Reach
     Reach::in_file(span(0, header.shoff, len))
 }
 
-/// Adds the claims of the header and the two tables.
+/// Adds the claims of the ELF header, the program header table and the section header table.
 #[tactic(auto, using(claim_sheet::proofs::SheetLemmas::adding_three), unfolding(crate::specs::Claims::header_claims))]
 pub fn add_headers(file: &ElfFile<'_>, sheet: &mut ClaimSheet) -> Result<(), NoMemory>
-    ensures made { OnOk result (sheet.new ≡ adding sheet.old (header_claims file.now)) }
-    ensures kept { sheet.new.pool ≡ sheet.old.pool }
+    ensures { Adds result sheet.old sheet.new (header_claims file.now) }
 {
     sheet.add(header_reach(file), Wrap::Plain, b"[ELF Header]")?;
     sheet.add(

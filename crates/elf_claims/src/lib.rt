@@ -1,5 +1,5 @@
-//! What an ELF file claims, group by group: its loads, its sections, its headers, its symbols, and its debug
-//! sections.
+//! The claims of an ELF file (ELF gABI, chapters 4 and 5): those of its loads, its sections, its headers, its symbols
+//! and its debug sections.
 #![tactic(auto)]
 
 mod debug;
@@ -17,6 +17,3 @@ pub use load_claims::add_loads;
 pub use loads::{load_at, load_slots};
 pub use sections::add_sections;
 pub use symbols::add_symbols;
-
-#[cfg(test)]
-mod tests;

@@ -2,7 +2,7 @@
 
 ghost use Rattle.std.specs.Prelude.{◌≡◌, ◌<◌, ◌++◌, codes, decimal, IfOk, OnOk};
 ghost use Rattle.elf_file.specs.Tables.{section_at, section_count, segment_at, segment_count};
-ghost use Rattle.claim_sheet.specs.Sheets.{adding};
+ghost use Rattle.claim_sheet.specs.Adds.{Adds};
 ghost use Rattle.elf_claims.specs.Claims.{flag_text, load_claim, load_claims, load_label, section_flags, segment_flags};
 ghost use Rattle.elf_claims.specs.Loads.{has_flag, slot_count};
 
@@ -19,7 +19,7 @@ fn flag_text(flag: bool, letter: &'static [u8]) -> &'static [u8]
     if flag { letter } else { b"" }
 }
 
-// Adds the letters of a program header's flags.
+// Appends the letters of the flags of a program header.
 fn append_segment_flags(text: &mut Vec<u8>, flags: u32) -> Result<(), NoMemory>
     ensures { OnOk result (text.new.items ≡ text.old.items ++ segment_flags flags) }
 {
@@ -28,7 +28,7 @@ fn append_segment_flags(text: &mut Vec<u8>, flags: u32) -> Result<(), NoMemory>
     append(text, flag_text(flags & PF_X != 0, b"X"))
 }
 
-// Adds the letters of a section's flags.
+// Appends the letters of the flags of a section.
 fn append_section_flags(text: &mut Vec<u8>, flags: u64) -> Result<(), NoMemory>
     ensures { OnOk result (text.new.items ≡ text.old.items ++ section_flags flags) }
 {
@@ -37,7 +37,7 @@ fn append_section_flags(text: &mut Vec<u8>, flags: u64) -> Result<(), NoMemory>
     append(text, flag_text(flags & SHF_EXECINSTR != 0, b"X"))
 }
 
-// The label of the load of a program header.
+// Returns the label of the load of a program header.
 fn segment_label(alloc: Global, file: &ElfFile<'_>, i: u32) -> Result<Vec<u8>, NoMemory>
     requires { i < segment_count file.now }
     ensures { IfOk result (λ v. v.items
@@ -52,7 +52,7 @@ fn segment_label(alloc: Global, file: &ElfFile<'_>, i: u32) -> Result<Vec<u8>, N
     Ok(text)
 }
 
-// The label of the load of a section.
+// Returns the label of the load of a section.
 fn section_load_label(alloc: Global, file: &ElfFile<'_>, i: u32) -> Result<Vec<u8>, NoMemory>
     requires { i < section_count file.now }
     ensures { IfOk result (λ v. v.items
@@ -86,8 +86,7 @@ fn add_load(
     sheet: &mut ClaimSheet,
 ) -> Result<(), NoMemory>
     requires { i < slot_count file.now }
-    ensures made { OnOk result (sheet.new ≡ adding sheet.old (load_claim wrap file.now i)) }
-    ensures kept { sheet.new.pool ≡ sheet.old.pool }
+    ensures { Adds result sheet.old sheet.new (load_claim wrap file.now i) }
 {
     match load_at(file, i) {
         None => Ok(()),
@@ -107,8 +106,7 @@ pub fn add_loads(
     wrap: Wrap,
     sheet: &mut ClaimSheet,
 ) -> Result<(), NoMemory>
-    ensures made { OnOk result (sheet.new ≡ adding sheet.old (load_claims wrap file.now)) }
-    ensures kept { sheet.new.pool ≡ sheet.old.pool }
+    ensures { Adds result sheet.old sheet.new (load_claims wrap file.now) }
 {
     for i in 0..load_slots(file) {
         add_load(alloc, file, i, wrap, sheet)?;

@@ -1,4 +1,4 @@
-//! The loads of a file.
+//! The loads of a file: the parts that are mapped at virtual addresses.
 
 ghost use Rattle.std.specs.Prelude.{◌≡◌, ◌<◌, IfSome};
 ghost use Rattle.size_model.specs.Loads.{IsLoad};
@@ -8,7 +8,7 @@ ghost use Rattle.elf_claims.specs.Loads.{has_addresses, has_flag, is_relocatable
 use elf_file::{ET_REL, ElfFile, PT_LOAD, SHF_ALLOC, SHF_TLS, SHT_NOBITS, SHT_NULL};
 use size_core::Load;
 
-/// Whether the file is of type ET_REL, in which each section with addresses is a space of its own.
+/// Returns whether the file is an object file (ET_REL). Each section with addresses then has its own address space.
 #[tactic(auto, unfolding(elf_file::specs::Tables::header_of))]
 pub fn is_relocatable(file: &ElfFile<'_>) -> bool
     ensures { result ≡ is_relocatable file.now }
@@ -16,7 +16,7 @@ pub fn is_relocatable(file: &ElfFile<'_>) -> bool
     file.header().kind == ET_REL
 }
 
-/// Whether a section stands at addresses.
+/// Returns whether a section has virtual addresses.
 #[tactic(auto, unfolding(crate::specs::Loads::has_addresses))]
 pub fn has_addresses(file: &ElfFile<'_>, i: u32) -> bool
     requires { i < section_count file.now }
@@ -71,7 +71,7 @@ fn segment_load(file: &ElfFile<'_>, i: u32) -> Option<Load>
     })
 }
 
-/// How many slots there are in which a load may stand: the program headers, or the sections of a relocatable file.
+/// Returns the number of slots: the program headers, or the sections of a relocatable file. Each slot may be a load.
 #[tactic(auto, unfolding(crate::specs::Loads::slot_count, elf_file::specs::Tables::header_of))]
 pub fn load_slots(file: &ElfFile<'_>) -> u32
     ensures { result ≡ slot_count file.now }
@@ -84,7 +84,7 @@ pub fn load_slots(file: &ElfFile<'_>) -> u32
     }
 }
 
-/// The load in a slot, or None where none stands there.
+/// Returns the load of a slot, or None if the slot is no load.
 #[tactic(auto, unfolding(crate::specs::Loads::slot_count, crate::specs::Loads::slot_load))]
 pub fn load_at(file: &ElfFile<'_>, i: u32) -> Option<Load>
     requires { i < slot_count file.now }

@@ -1,8 +1,8 @@
-//! The claims of sections.
+//! The claims of sections (ELF gABI, Sections).
 
-ghost use Rattle.std.specs.Prelude.{◌≡◌, ◌<◌, OnOk};
+ghost use Rattle.std.specs.Prelude.{◌≡◌, ◌<◌};
 ghost use Rattle.elf_file.specs.Tables.{section_count};
-ghost use Rattle.claim_sheet.specs.Sheets.{adding};
+ghost use Rattle.claim_sheet.specs.Adds.{Adds};
 ghost use Rattle.elf_claims.specs.Claims.{or_if_empty, section_addresses, section_claim, section_claims, section_reach};
 
 use crate::loads::{has_addresses, is_relocatable};
@@ -22,7 +22,7 @@ fn section_addresses(file: &ElfFile<'_>, i: u32) -> Span
     }
 }
 
-// What the claim of a section covers.
+// Returns what the claim of a section covers.
 #[tactic(auto, unfolding(crate::specs::Claims::section_reach))]
 fn section_reach(file: &ElfFile<'_>, i: u32) -> Option<Reach>
     requires { i < section_count file.now }
@@ -46,7 +46,7 @@ fn section_reach(file: &ElfFile<'_>, i: u32) -> Option<Reach>
     }
 }
 
-// The label, or the other one where it is empty.
+// Returns the label, or the other one if the label is empty.
 fn or_if_empty<'a>(label: &'a [u8], other: &'a [u8]) -> &'a [u8]
     ensures { result.now ≡ or_if_empty label.now other.now }
 {
@@ -64,8 +64,7 @@ fn add_section(
     sheet: &mut ClaimSheet,
 ) -> Result<(), NoMemory>
     requires { i < section_count file.now }
-    ensures made { OnOk result (sheet.new ≡ adding sheet.old (section_claim wrap file.now i)) }
-    ensures kept { sheet.new.pool ≡ sheet.old.pool }
+    ensures { Adds result sheet.old sheet.new (section_claim wrap file.now i) }
 {
     let label = or_if_empty(file.section(i).name, b"[Unnamed section]");
     sheet.add_some(section_reach(file, i), wrap, label)
@@ -74,8 +73,7 @@ fn add_section(
 /// Adds the claims of the sections, in order.
 #[tactic(auto, using(claim_sheet::proofs::LoopLemmas::gather_goes, claim_sheet::proofs::LoopLemmas::gather_ends), unfolding(crate::specs::Claims::section_claims, elf_file::specs::Tables::header_of))]
 pub fn add_sections(file: &ElfFile<'_>, wrap: Wrap, sheet: &mut ClaimSheet) -> Result<(), NoMemory>
-    ensures made { OnOk result (sheet.new ≡ adding sheet.old (section_claims wrap file.now)) }
-    ensures kept { sheet.new.pool ≡ sheet.old.pool }
+    ensures { Adds result sheet.old sheet.new (section_claims wrap file.now) }
 {
     for i in 1..file.header().sections {
         add_section(file, i, wrap, sheet)?;

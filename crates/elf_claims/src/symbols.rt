@@ -1,11 +1,10 @@
 //! The claims of symbols (ELF gABI, Symbol Table).
 
-ghost use Rattle.std.specs.Prelude.{◌≡◌, ◌<◌, Ok, Err, OnOk, IsErrOf};
-ghost use Rattle.size_core.specs.declared.fault.BadFile.{BadFile as BadFileSpec};
+ghost use Rattle.std.specs.Prelude.{◌≡◌, ◌<◌};
 ghost use Rattle.elf_file.specs.Tables.{section_at, section_count};
 ghost use Rattle.elf_symbols.specs.Symbols.{SymbolRecord, symbol_count};
 ghost use Rattle.elf_symbols.specs.Shown.{shown};
-ghost use Rattle.claim_sheet.specs.Sheets.{adding_read};
+ghost use Rattle.claim_sheet.specs.Adds.{AddsRead};
 ghost use Rattle.elf_claims.specs.SymbolClaims.{IsTableType, claims_of_type, has_space, is_data_or_code, is_in_section, names_bytes, symbol_address, symbol_claim, symbol_list, symbol_reach, symbol_space, symbols_claims, tables_claims};
 
 use crate::loads::{has_addresses, is_relocatable};
@@ -40,7 +39,7 @@ fn names_bytes(symbol: &Symbol<'_>) -> bool
         && is_in_section(symbol)
 }
 
-// The symbol's address, without the bit that tells an Arm function's instruction set.
+// Returns the address of a symbol. Bit 0 of an Arm function's value is the instruction set and not part of the address.
 fn symbol_address(file: &ElfFile<'_>, symbol: &Symbol<'_>) -> u64
     ensures { result ≡ symbol_address file.now (shown symbol.now) }
 {
@@ -70,7 +69,7 @@ fn symbol_space(file: &ElfFile<'_>, symbol: &Symbol<'_>) -> u32
     }
 }
 
-// What the claim of a symbol covers.
+// Returns what the claim of a symbol covers.
 #[tactic(auto, unfolding(crate::specs::SymbolClaims::symbol_reach))]
 fn symbol_reach(file: &ElfFile<'_>, symbol: &Symbol<'_>) -> Option<Reach>
     ensures { result ≡ symbol_reach file.now (shown symbol.now) }
@@ -93,17 +92,14 @@ fn add_symbol(
 ) -> Result<(), Stop>
     requires file { table.now.file ≡ file.now }
     requires index { k < symbol_count table.now.file table.now.index }
-    ensures made { OnOk result (adding_read sheet.old (symbol_claim file.now table.now.index k) ≡ Ok sheet.new) }
-    ensures bad { (bad : BadFileSpec) → IsErrOf result (Stop.Bad bad)
-        → symbol_claim file.now table.now.index k ≡ Err bad }
-    ensures kept { sheet.new.pool ≡ sheet.old.pool }
+    ensures { AddsRead result sheet.old sheet.new (symbol_claim file.now table.now.index k) }
 {
     let symbol = table.symbol(k)?;
     sheet.add_some(symbol_reach(file, &symbol), Wrap::Plain, symbol.name)?;
     Ok(())
 }
 
-// Adds the claims of a table's symbols, in order.
+// Adds the claims of the symbols of a table, in order.
 #[tactic(auto, using(claim_sheet::proofs::LoopLemmas::read_goes, claim_sheet::proofs::LoopLemmas::read_ends), unfolding(crate::specs::SymbolClaims::symbol_list))]
 fn add_table_symbols(
     file: &ElfFile<'_>,
@@ -111,9 +107,7 @@ fn add_table_symbols(
     sheet: &mut ClaimSheet,
 ) -> Result<(), Stop>
     requires file { table.now.file ≡ file.now }
-    ensures made { OnOk result (adding_read sheet.old (symbol_list file.now table.now.index) ≡ Ok sheet.new) }
-    ensures bad { (bad : BadFileSpec) → IsErrOf result (Stop.Bad bad) → symbol_list file.now table.now.index ≡ Err bad }
-    ensures kept { sheet.new.pool ≡ sheet.old.pool }
+    ensures { AddsRead result sheet.old sheet.new (symbol_list file.now table.now.index) }
 {
     for k in 0..table.len() {
         add_symbol(file, table, k, sheet)?;
@@ -121,7 +115,7 @@ fn add_table_symbols(
     Ok(())
 }
 
-// Adds the claims of section i, where it is a table of symbols of this type.
+// Adds the claims of section i if it is a symbol table of this type.
 #[tactic(auto, using(claim_sheet::proofs::SheetLemmas::adding_none), unfolding(crate::specs::SymbolClaims::claims_of_type, crate::specs::SymbolClaims::table_claims))]
 fn add_table(
     file: &ElfFile<'_>,
@@ -134,9 +128,7 @@ fn add_table(
     requires kind { IsTableType kind }
     requires above { 0 < i }
     requires index { i < section_count file.now }
-    ensures made { OnOk result (adding_read sheet.old (claims_of_type kind file.now i) ≡ Ok sheet.new) }
-    ensures bad { (bad : BadFileSpec) → IsErrOf result (Stop.Bad bad) → claims_of_type kind file.now i ≡ Err bad }
-    ensures kept { sheet.new.pool ≡ sheet.old.pool }
+    ensures { AddsRead result sheet.old sheet.new (claims_of_type kind file.now i) }
 {
     if file.section(i).kind != kind {
         return Ok(());
@@ -145,7 +137,7 @@ fn add_table(
     add_table_symbols(file, &table, sheet)
 }
 
-// Adds the claims of the tables of symbols of this type, in order.
+// Adds the claims of the symbol tables of this type, in order.
 #[tactic(auto, using(claim_sheet::proofs::LoopLemmas::read_goes, claim_sheet::proofs::LoopLemmas::read_ends), unfolding(crate::specs::SymbolClaims::tables_claims))]
 fn add_tables(
     file: &ElfFile<'_>,
@@ -155,9 +147,7 @@ fn add_tables(
 ) -> Result<(), Stop>
     requires numbers { numbers.now ≡ file.now }
     requires kind { IsTableType kind }
-    ensures made { OnOk result (adding_read sheet.old (tables_claims kind file.now) ≡ Ok sheet.new) }
-    ensures bad { (bad : BadFileSpec) → IsErrOf result (Stop.Bad bad) → tables_claims kind file.now ≡ Err bad }
-    ensures kept { sheet.new.pool ≡ sheet.old.pool }
+    ensures { AddsRead result sheet.old sheet.new (tables_claims kind file.now) }
 {
     for i in 1..file.header().sections {
         add_table(file, numbers, kind, i, sheet)?;
@@ -165,13 +155,11 @@ fn add_tables(
     Ok(())
 }
 
-/// Adds the claims of all symbols: those of each table of type SHT_SYMTAB in order, and then of each of type
+/// Adds the claims of all symbols: first those of the tables of type SHT_SYMTAB, in order, and then those of type
 /// SHT_DYNSYM. Bad is the first fault of a table or a symbol.
 #[tactic(auto, using(claim_sheet::proofs::LoopLemmas::read_joined, claim_sheet::proofs::LoopLemmas::joined_front, claim_sheet::proofs::LoopLemmas::joined_later), unfolding(crate::specs::SymbolClaims::symbols_claims))]
 pub fn add_symbols(alloc: Global, file: &ElfFile<'_>, sheet: &mut ClaimSheet) -> Result<(), Stop>
-    ensures made { OnOk result (adding_read sheet.old (symbols_claims file.now) ≡ Ok sheet.new) }
-    ensures bad { (bad : BadFileSpec) → IsErrOf result (Stop.Bad bad) → symbols_claims file.now ≡ Err bad }
-    ensures kept { sheet.new.pool ≡ sheet.old.pool }
+    ensures { AddsRead result sheet.old sheet.new (symbols_claims file.now) }
 {
     let numbers = NumbersIndex::of(alloc, file)?;
     add_tables(file, &numbers, SHT_SYMTAB, sheet)?;

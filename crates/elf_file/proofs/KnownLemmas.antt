@@ -1,4 +1,4 @@
--- What the checks of a file tell of one of its sections or segments.
+-- What the checks of a file imply for one section or segment.
 use Rattle.std.proofs.Common.{◌≡◌, ℕ, ◌-◌, ◌<◌, List, Ok, arith}
 use Rattle.size_core.proofs.Each.{each_at}
 use Rattle.elf_file.specs.Tables.{section_count, segment_count}

@@ -10,18 +10,18 @@ use Rattle.elf_file.specs.Layout.{encoding_of, section_len, segment_len}
 use Rattle.elf_file.specs.Tables.{section_at, section_count, segment_at, segment_count, is_null, has_bytes}
 use Rattle.elf_file.specs.Names.{is_unnamed, name_of, name_text}
 use Rattle.elf_file.specs.ElfChecks.{opened, elf_checks, header_checks, section_table_checks, segment_table_checks, name_table_checks, section_fits, section_has_name, segment_fits}
-use Rattle.elf_file.specs.declared.fields.Encoding.{Encoding}
+use Rattle.elf_file.specs.declared.encoding.Encoding.{Encoding}
 use Rattle.elf_file.specs.Known.{HasSections, HasSegments, IsOpened, sections_fit, sections_have_names, segments_fit}
 use Rattle.elf_file.specs.WellFormed.{IsWellFormed}
 use Rattle.elf_file.proofs.KnownLemmas.{fits_at, named_at, loaded_at}
 
--- the file, or its first fault, as the steps of opening it find it
+-- The file or its first fault, as the steps of opening it find them.
 pub opened_is : (file : List ℕ) → opened file ≡ (first_of (header_checks file) >> first_of (section_table_checks file) >> first_of (segment_table_checks file)
     >> first_of (name_table_checks file) >> sections_fit file >> sections_have_names file >> segments_fit file >> Ok file)
 unfolding elf_checks
 opened_is file = simp (first_of_append, each_is)
 
--- What opening a file answers tells whether its checks hold, and else which fails first.
+-- The result of opening a file is Ok exactly where its checks hold, and otherwise the first fault.
 pub means_opened : (file : List ℕ) (r : Result (List ℕ) BadFile) → r ≡ opened file → MatchResult r (λ _. AllHold (elf_checks file)) (IsFirstFault (elf_checks file))
 means_opened file r e = answers r (first_of (elf_checks file)) e (means (first_of (elf_checks file)) (elf_checks file) refl)
   where
@@ -34,7 +34,7 @@ means_opened file r e = answers r (first_of (elf_checks file)) e (means (first_o
         let same : g ≡ f = cc in
         subst (IsFirstFault (elf_checks file)) same h
 
--- a section that counts isn't the first
+-- A section that is not null isn't section 0.
 above : (file : List ℕ) (i : ℕ) → is_null file i ≡ false → 0 < i
 above file i counts = grind (arith, common_steps)
 
@@ -70,7 +70,7 @@ load_within : (file : List ℕ) (i : ℕ) → segment_fits file i ≡ Ok tt → 
 unfolding segment_fits
 load_within file i fits loaded = grind (arith, common_steps)
 
--- a file that was opened is well formed
+-- An opened file is well formed.
 pub is_well_formed : (file : List ℕ) (e : Encoding) (sections segments index : ℕ) (names : List ℕ) → IsOpened file e sections segments index names → IsWellFormed file
 is_well_formed file e sections segments index names opened = record {
   header = rw (← opened.section_table.header.encoding_is) opened.section_table.header.whole;

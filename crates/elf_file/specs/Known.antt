@@ -1,53 +1,55 @@
--- What a reader knows of an ELF file, one step after another.
+-- What a reader knows of an ELF file, step by step.
 use Rattle.std.specs.Prelude.{◌≡◌, ℕ, ◌+◌, ◌-◌, ◌^◌, ◌≤◌, ◌<◌, List, length, Ok}
 use Rattle.size_core.specs.Checks.{Check, each}
-use Rattle.elf_file.specs.declared.fields.Encoding.{Encoding}
+use Rattle.elf_file.specs.declared.encoding.Encoding.{Encoding}
 use Rattle.elf_file.specs.Layout.{encoding_of, header_len, section_len, segment_len}
 use Rattle.elf_file.specs.Tables.{section_place, section_count, segment_place, segment_count, name_index, section_bytes}
 use Rattle.elf_file.specs.ElfChecks.{section_fits, section_has_name, segment_fits}
 
--- the checks that a loop makes of the sections and of the segments
+-- The check that a loop makes of the bytes and addresses of all sections.
 abbrev pub sections_fit : List ℕ → Check
 sections_fit file = each (section_fits file) 1 (section_count file - 1)
 
+-- The check that a loop makes of the names of all sections.
 abbrev pub sections_have_names : List ℕ → Check
 sections_have_names file = each (section_has_name file) 1 (section_count file - 1)
 
+-- The check that a loop makes of all segments.
 abbrev pub segments_fit : List ℕ → Check
 segments_fit file = each (segment_fits file) 0 (segment_count file)
 
--- the class and the byte order are known, and the header is whole
+-- The class and the byte order are known, and the file header is complete.
 pub record HasHeader (file : List ℕ) (e : Encoding) : Type 0 where
   pub encoding_is : e ≡ encoding_of file
   pub whole : header_len e ≤ length file
   pub small : length file < 2 ^ 32
 
--- the header of section i lies in the file
+-- The header of section i lies in the file.
 abbrev pub HasSection : List ℕ → ℕ → Type 0
 HasSection file i = section_place file i + section_len (encoding_of file) ≤ length file
 
--- so does that of segment i
+-- The header of segment i lies in the file.
 abbrev pub HasSegment : List ℕ → ℕ → Type 0
 HasSegment file i = segment_place file i + segment_len (encoding_of file) ≤ length file
 
--- the table of sections lies in the file
+-- The section table lies in the file.
 pub record HasSections (file : List ℕ) (e : Encoding) (sections : ℕ) : Type 0 where
   pub header : HasHeader file e
   pub sections_are : sections ≡ section_count file
   pub table : 0 < sections → section_place file sections ≤ length file
 
--- the table of segments lies in the file
+-- The segment table lies in the file.
 pub record HasSegments (file : List ℕ) (e : Encoding) (segments : ℕ) : Type 0 where
   pub header : HasHeader file e
   pub segments_are : segments ≡ segment_count file
   pub table : 0 < segments → segment_place file segments ≤ length file
 
--- the section that holds the names is there, or it is section 0
+-- The section name table is a section of the file, or there is none.
 pub record HasNameTable (file : List ℕ) (sections index : ℕ) : Type 0 where
   pub index_is : index ≡ name_index file
   pub below : 0 < index → index < sections
 
--- all that is known of a file that was opened
+-- All that is known of an opened file.
 pub record IsOpened (file : List ℕ) (e : Encoding) (sections segments index : ℕ) (names : List ℕ) : Type 0 where
   pub section_table : HasSections file e sections
   pub segment_table : HasSegments file e segments

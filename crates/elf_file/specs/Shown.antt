@@ -1,7 +1,7 @@
--- A section as contracts see it, but for its name.
+-- A section as contracts see it, without its name.
 use Rattle.elf_file.specs.declared.section.SectionHeader.{SectionHeader}
 use Rattle.elf_file.specs.declared.section.Section.{Section}
 
--- the numbers of a section
+-- The fields of a section but for the name.
 abbrev pub numbers : Section → SectionHeader
 numbers s = record { place = s.place; kind = s.kind; flags = s.flags; addr = s.addr; offset = s.offset; size = s.size; link = s.link; info = s.info }

@@ -1,4 +1,4 @@
--- The sections and segments of an ELF file, as its tables have them.
+-- The sections and segments in the tables of an ELF file.
 use Rattle.std.specs.Prelude.{ℕ, ◌+◌, ◌*◌, ◌==◌, ◌&&◌, ◌||◌, not, Bool, List, [], take, drop, nat_lt, if◌then◌else◌}
 use Rattle.elf_file.specs.declared.header.ElfHeader.{ElfHeader}
 use Rattle.elf_file.specs.declared.section.SectionHeader.{SectionHeader}
@@ -6,11 +6,11 @@ use Rattle.elf_file.specs.declared.segment.Segment.{Segment}
 use Rattle.elf_file.specs.declared.constants.TheConstants.{SHT_NULL, SHT_NOBITS, SHN_XINDEX, PN_XNUM}
 use Rattle.elf_file.specs.Layout.{encoding_of, half, four, word, section_len, segment_len, phoff, shoff, phnum, shnum, shstrndx}
 
--- where the header of section i stands (gABI, Sections: e_shoff, e_shentsize)
+-- The file offset of the header of section i (gABI, ELF Header: e_shoff, e_shentsize).
 abbrev pub section_place : List ℕ → ℕ → ℕ
 section_place file i = shoff file + i * section_len (encoding_of file)
 
--- The numbers of section i: Elf32_Shdr, Elf64_Shdr (gABI, Section Header).
+-- The fields of section i but for the name: Elf32_Shdr, Elf64_Shdr (gABI, Section Header).
 unfoldable pub section_at : List ℕ → ℕ → SectionHeader
 section_at file i = let place = section_place file i in record {
   place = place;
@@ -23,32 +23,32 @@ section_at file i = let place = section_place file i in record {
   info = four file place 28 44;
 }
 
--- where the name of section i begins in the table of names (sh_name)
+-- The offset of the name of section i in the section name table (gABI, Section Header: sh_name).
 unfoldable pub name_offset : List ℕ → ℕ → ℕ
 name_offset file i = four file (section_place file i) 0 0
 
--- How many sections there are: none where e_shoff is 0, and where e_shnum is 0 as many as sh_size of section 0 says
--- (gABI, ELF Header: e_shnum).
+-- The number of sections: 0 where e_shoff is 0, and sh_size of section 0 where e_shnum is 0 (gABI, ELF
+-- Header: e_shnum).
 unfoldable pub section_count : List ℕ → ℕ
 section_count file = if shoff file == 0 then 0 else if shnum file == 0 then (section_at file 0).size else shnum file
 
--- how many segments there are: where e_phnum is PN_XNUM, as many as sh_info of section 0 says, if there is one
--- (gABI, ELF Header: e_phnum)
+-- The number of segments. Where e_phnum is PN_XNUM, it is sh_info of section 0, if there is a section 0
+-- (gABI, ELF Header: e_phnum).
 unfoldable pub segment_count : List ℕ → ℕ
 segment_count file = if phnum file == PN_XNUM && nat_lt 0 (section_count file) then (section_at file 0).info else phnum file
 
--- The section that holds the names of sections, or 0 where they have none: where e_shstrndx is SHN_XINDEX, that
--- of sh_link of section 0 (gABI, ELF Header: e_shstrndx).
+-- The number of the section name table, or 0 where sections have no names. Where e_shstrndx is SHN_XINDEX,
+-- it is sh_link of section 0 (gABI, ELF Header: e_shstrndx).
 unfoldable pub name_index : List ℕ → ℕ
 name_index file =
     if section_count file == 0 then 0
     else if shstrndx file == SHN_XINDEX then (section_at file 0).link else shstrndx file
 
--- where the header of segment i stands (gABI, Program Header: e_phoff, e_phentsize)
+-- The file offset of the header of segment i (gABI, ELF Header: e_phoff, e_phentsize).
 abbrev pub segment_place : List ℕ → ℕ → ℕ
 segment_place file i = phoff file + i * segment_len (encoding_of file)
 
--- The numbers of segment i: Elf32_Phdr, Elf64_Phdr (gABI, Program Header).
+-- The fields of segment i: Elf32_Phdr, Elf64_Phdr (gABI, Program Header).
 unfoldable pub segment_at : List ℕ → ℕ → Segment
 segment_at file i = let place = segment_place file i in record {
   place = place;
@@ -60,11 +60,11 @@ segment_at file i = let place = segment_place file i in record {
   memsz = word file place 20 40;
 }
 
--- the bytes of segment i, cut at the file's end
+-- The bytes of segment i, cut at the end of the file (gABI, Program Header: p_offset, p_filesz).
 unfoldable pub segment_bytes : List ℕ → ℕ → List ℕ
 segment_bytes file i = take (segment_at file i).filesz (drop (segment_at file i).offset file)
 
--- What the file's header says, with the two counts (gABI, ELF Header).
+-- The fields of the file header, with the numbers of sections and segments (gABI, ELF Header).
 unfoldable pub header_of : List ℕ → ElfHeader
 header_of file = record {
   wide = (encoding_of file).wide;
@@ -77,15 +77,15 @@ header_of file = record {
   sections = section_count file;
 }
 
--- section i is no section: the first one, and each of type SHT_NULL (gABI, Sections)
+-- Section header i describes no section: it is header 0, or has type SHT_NULL (gABI, Sections).
 abbrev pub is_null : List ℕ → ℕ → Bool
 is_null file i = i == 0 || (section_at file i).kind == SHT_NULL
 
--- section i has bytes in the file
+-- Section i has bytes in the file: it is a section, and not of type SHT_NOBITS (gABI, Sections).
 abbrev pub has_bytes : List ℕ → ℕ → Bool
 has_bytes file i = not (is_null file i || (section_at file i).kind == SHT_NOBITS)
 
--- the bytes of section i
+-- The bytes of section i (gABI, Section Header: sh_offset, sh_size).
 unfoldable pub section_bytes : List ℕ → ℕ → List ℕ
 section_bytes file i =
     if has_bytes file i then take (section_at file i).size (drop (section_at file i).offset file) else []

@@ -5,7 +5,8 @@ use Rattle.elf_file.specs.Layout.{encoding_of, header_len, section_len, segment_
 use Rattle.elf_file.specs.Tables.{section_at, section_count, segment_count, segment_at, is_null, has_bytes, name_index}
 use Rattle.elf_file.specs.Names.{name_of, name_text, is_unnamed}
 
--- Each table lies in the file, with the bytes and the name's end of each section, and no address passes 2^64.
+-- A well-formed ELF file: each table and the bytes of each section lie in the file, each section name has
+-- its terminating zero byte, and no address range ends after 2^64.
 pub record IsWellFormed (file : List ℕ) : Type 0 where
   pub header : header_len (encoding_of file) ≤ length file
   pub section_headers : (i : ℕ) → i < section_count file → (section_at file i).place + section_len (encoding_of file) ≤ length file

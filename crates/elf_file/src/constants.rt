@@ -1,4 +1,5 @@
-//! The numbers of the standard that are told apart (ELF gABI, chapters 4 and 5), and laws that say them in digits.
+//! The constants of the standard that are used here (ELF gABI, chapters 4 and 5), and a law that states them
+//! in digits.
 
 ghost use Rattle.std.specs.Prelude.{◌≡◌};
 
@@ -8,7 +9,7 @@ pub const ET_REL: u16 = 1;
 /// Arm, 32 bits (`e_machine`).
 pub const EM_ARM: u16 = 40;
 
-/// A section header that stands for no section (`sh_type`).
+/// A section header that describes no section (`sh_type`).
 pub const SHT_NULL: u32 = 0;
 
 /// A section of notes (`sh_type`).
@@ -32,41 +33,37 @@ pub const SHF_TLS: u64 = 0x400;
 /// A section whose bytes are compressed (`sh_flags`).
 pub const SHF_COMPRESSED: u64 = 0x800;
 
-/// The first reserved number of a section (`st_shndx`).
+/// The first reserved section number (`st_shndx`).
 pub const SHN_LORESERVE: u16 = 0xff00;
 
-/// The number of a section doesn't fit the field (`e_shstrndx`, `st_shndx`).
+/// An escape: the section number doesn't fit the field (`e_shstrndx`, `st_shndx`).
 pub const SHN_XINDEX: u16 = 0xffff;
 
-/// A segment that is loaded (`p_type`).
+/// A segment that is loaded into memory (`p_type`).
 pub const PT_LOAD: u32 = 1;
 
 /// A segment of notes (`p_type`).
 pub const PT_NOTE: u32 = 4;
 
-/// A segment that may be executed (`p_flags`).
+/// A segment that can be executed (`p_flags`).
 pub const PF_X: u32 = 1;
 
-/// A segment that may be written (`p_flags`).
+/// A segment that can be written (`p_flags`).
 pub const PF_W: u32 = 2;
 
-/// A segment that may be read (`p_flags`).
+/// A segment that can be read (`p_flags`).
 pub const PF_R: u32 = 4;
 
-/// The number of program headers doesn't fit `e_phnum`.
+/// An escape: the number of program headers doesn't fit `e_phnum`.
 pub const PN_XNUM: u16 = 0xffff;
 
-/// A law: the numbers of the file's header (ELF gABI, ELF Header: `e_type`, `e_machine`).
-pub fn header_numbers()
+/// A law: the constants in digits (ELF gABI, ELF Header: `e_type`, `e_machine`, `e_phnum`; Sections: Special
+/// Section Indexes, Section Types, Section Attribute Flags; Program Header: Segment Types, Segment Flag Bits).
+pub fn standard_numbers()
     ensures rel { ET_REL ≡ 1 }
     ensures arm { EM_ARM ≡ 40 }
-{}
-
-/// A law: the numbers of sections (ELF gABI, Sections: Special Section Indexes, Section Types,
-/// Section Attribute Flags).
-pub fn section_numbers()
     ensures null { SHT_NULL ≡ 0 }
-    ensures note { SHT_NOTE ≡ 7 }
+    ensures note_section { SHT_NOTE ≡ 7 }
     ensures nobits { SHT_NOBITS ≡ 8 }
     ensures write { SHF_WRITE ≡ 0x1 }
     ensures alloc { SHF_ALLOC ≡ 0x2 }
@@ -75,12 +72,8 @@ pub fn section_numbers()
     ensures compressed { SHF_COMPRESSED ≡ 0x800 }
     ensures loreserve { SHN_LORESERVE ≡ 0xff00 }
     ensures xindex { SHN_XINDEX ≡ 0xffff }
-{}
-
-/// A law: the numbers of segments (ELF gABI, Program Header: Segment Types, Segment Flag Bits; ELF Header: `e_phnum`).
-pub fn segment_numbers()
     ensures load { PT_LOAD ≡ 1 }
-    ensures note { PT_NOTE ≡ 4 }
+    ensures note_segment { PT_NOTE ≡ 4 }
     ensures x { PF_X ≡ 1 }
     ensures w { PF_W ≡ 2 }
     ensures r { PF_R ≡ 4 }

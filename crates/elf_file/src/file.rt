@@ -1,4 +1,4 @@
-//! A file that was opened.
+//! An opened ELF file.
 
 ghost use Rattle.std.specs.Prelude.{◌≡◌, ◌<◌, ◌^◌, length, MatchResult, OnOk};
 ghost use Rattle.size_core.specs.Checks.{AllHold, IsFirstFault};
@@ -10,7 +10,7 @@ ghost use Rattle.elf_file.specs.WellFormed.{IsWellFormed};
 ghost use Rattle.elf_file.specs.Shown.{numbers};
 
 use crate::constants::SHT_NULL;
-use crate::fields::Encoding;
+use crate::encoding::Encoding;
 use crate::header::ElfHeader;
 use crate::names::{name_of, name_table, names_of, sections_have_names};
 use crate::section::Section;
@@ -20,7 +20,7 @@ use crate::segments::{segment_bytes, segment_of_table, segment_table, segments_f
 use size_core::BadFile;
 use std::marker::Model;
 
-/// An ELF file whose checks hold.
+/// An ELF file that passed all checks.
 #[derive(Drop)]
 pub struct ElfFile<'a> {
     file: &'a [u8],
@@ -43,11 +43,11 @@ impl<'a> Model for ElfFile<'a> {
 }
 
 impl<'a> ElfFile<'a> {
-    /// Opens a file of fewer than 2^32 bytes. These are checked in turn, and the first fault is the answer:
-    /// the header (Truncated, BadHeader), the table of sections and then that of segments (BadHeader,
-    /// TablePastEnd), the section of names (BadIndex), the bytes and addresses of each section
-    /// (SectionPastEnd, RangeOverflow), the name of each (NameOutside), and the addresses of each load
-    /// (RangeOverflow).
+    /// Opens a file of fewer than 2^32 bytes. The checks come in this order, and the first fault is
+    /// returned: the file header (Truncated, BadHeader), the section table and then the segment table
+    /// (BadHeader, TablePastEnd), the section name table (BadIndex), the bytes and addresses of each
+    /// section (SectionPastEnd, RangeOverflow), the name of each section (NameOutside), and the addresses
+    /// of each load (RangeOverflow).
     #[tactic(auto, using(crate::proofs::OpenedLemmas::opened_is, crate::proofs::OpenedLemmas::means_opened, crate::proofs::OpenedLemmas::is_well_formed))]
     pub fn parse(file: &'a [u8]) -> Result<ElfFile<'a>, BadFile>
         requires { length file.now < 2 ^ 32 }
@@ -73,14 +73,14 @@ impl<'a> ElfFile<'a> {
         })
     }
 
-    /// The file's class and byte order.
+    /// Returns the class and the byte order of the file.
     pub fn encoding(&self) -> Encoding
         ensures { result ≡ encoding_of self.now }
     {
         self.encoding
     }
 
-    /// The whole file.
+    /// Returns the bytes of the whole file.
     #[tactic(auto, using(crate::proofs::OpenedLemmas::is_well_formed))]
     pub fn bytes(&self) -> &'a [u8]
         ensures value { result.now ≡ self.now }
@@ -90,7 +90,7 @@ impl<'a> ElfFile<'a> {
         self.file
     }
 
-    /// What the file's header says, with the numbers of sections and segments.
+    /// Returns the fields of the file header, with the numbers of sections and segments.
     #[tactic(auto, unfolding(crate::specs::Tables::header_of))]
     pub fn header(&self) -> ElfHeader
         ensures value { result ≡ header_of self.now }
@@ -112,7 +112,7 @@ impl<'a> ElfFile<'a> {
         }
     }
 
-    /// A section (ELF gABI, Section Header).
+    /// Returns section `i` (ELF gABI, Section Header).
     pub fn section(&self, i: u32) -> Section<'a>
         requires { i < section_count self.now }
         ensures numbers { numbers result ≡ section_at self.now i }
@@ -140,7 +140,7 @@ impl<'a> ElfFile<'a> {
         }
     }
 
-    /// A segment (ELF gABI, Program Header).
+    /// Returns segment `i` (ELF gABI, Program Header).
     pub fn segment(&self, i: u32) -> Segment
         requires { i < segment_count self.now }
         ensures value { result ≡ segment_at self.now i }
@@ -149,7 +149,7 @@ impl<'a> ElfFile<'a> {
         segment_of_table(self.file, self.encoding, self.segments, i)
     }
 
-    /// The bytes of a section: none for the first, SHT_NULL and SHT_NOBITS.
+    /// Returns the bytes of section `i`. Section 0 and sections of type SHT_NULL and SHT_NOBITS have none.
     #[tactic(auto, using(crate::proofs::KnownLemmas::fits_at))]
     pub fn section_bytes(&self, i: u32) -> &'a [u8]
         requires { i < section_count self.now }
@@ -158,7 +158,7 @@ impl<'a> ElfFile<'a> {
         section_bytes(self.file, self.encoding, self.sections, i)
     }
 
-    /// The bytes of a segment: those from its file offset on, as many as it has in the file, cut at the file's end.
+    /// Returns the bytes of segment `i`: `p_filesz` bytes from `p_offset` on, cut at the end of the file.
     pub fn segment_bytes(&self, i: u32) -> &'a [u8]
         requires { i < segment_count self.now }
         ensures { result.now ≡ segment_bytes self.now i }
@@ -166,8 +166,8 @@ impl<'a> ElfFile<'a> {
         segment_bytes(self.file, self.encoding, self.segments, i)
     }
 
-    /// The number of the first section of this name. `None` where no section but the first and those of type
-    /// SHT_NULL has it.
+    /// Returns the number of the first section with this name. Section 0 and sections of type SHT_NULL
+    /// don't count. `None` where no other section has the name.
     #[tactic(auto, using(size_core::proofs::Gathered::first_next, size_core::proofs::Gathered::first_here, size_core::proofs::Gathered::first_end))]
     pub fn find(&self, name: &[u8]) -> Option<u32>
         ensures { result ≡ section_named self.now name.now }

@@ -1,35 +1,35 @@
-//! The lengths of records, and the fields of the file's header that place the tables (ELF gABI, ELF Header, Sections,
-//! Program Header).
+//! The sizes of records, and the fields of the file header that locate the tables (ELF gABI, ELF Header,
+//! Sections, Program Header).
 
 ghost use Rattle.std.specs.Prelude.{◌≡◌};
 ghost use Rattle.elf_file.specs.Known.{HasHeader};
 ghost use Rattle.elf_file.specs.Layout.{header_len, section_len, segment_len, phoff, shoff, phentsize, phentsize_place, phnum, shentsize, shentsize_place, shnum, shstrndx, shstrndx_place};
 
-use crate::fields::Encoding;
+use crate::encoding::Encoding;
 
 impl Encoding {
-    /// The size of the file's header in bytes.
+    /// Returns the size of the file header in bytes.
     pub fn header_len(self) -> u64
         ensures { result ≡ header_len self }
     {
         self.pick(52, 64)
     }
 
-    /// The size of a section header in bytes.
+    /// Returns the size of a section header in bytes.
     pub fn section_len(self) -> u64
         ensures { result ≡ section_len self }
     {
         self.pick(40, 64)
     }
 
-    /// The size of a program header in bytes.
+    /// Returns the size of a program header in bytes.
     pub fn segment_len(self) -> u64
         ensures { result ≡ segment_len self }
     {
         self.pick(32, 56)
     }
 
-    /// `e_phoff`, the file offset of the program headers.
+    /// Returns `e_phoff`, the file offset of the program header table.
     pub fn phoff(self, file: &[u8]) -> u64
         requires { HasHeader file.now self }
         ensures { result ≡ phoff file.now }
@@ -37,7 +37,7 @@ impl Encoding {
         self.word(file, 0, 28, 32)
     }
 
-    /// `e_shoff`, the file offset of the section headers, or 0 where there are none.
+    /// Returns `e_shoff`, the file offset of the section header table, or 0 where there is none.
     pub fn shoff(self, file: &[u8]) -> u64
         requires { HasHeader file.now self }
         ensures { result ≡ shoff file.now }
@@ -45,7 +45,7 @@ impl Encoding {
         self.word(file, 0, 32, 40)
     }
 
-    /// `e_phentsize`.
+    /// Returns `e_phentsize`.
     pub fn phentsize(self, file: &[u8]) -> u16
         requires { HasHeader file.now self }
         ensures { result ≡ phentsize file.now }
@@ -53,14 +53,14 @@ impl Encoding {
         self.half(file, 0, 42, 54)
     }
 
-    /// The file offset of `e_phentsize`.
+    /// Returns the file offset of `e_phentsize`.
     pub fn phentsize_place(self) -> u64
         ensures { result ≡ phentsize_place self }
     {
         self.pick(42, 54)
     }
 
-    /// `e_phnum`.
+    /// Returns `e_phnum`.
     pub fn phnum(self, file: &[u8]) -> u16
         requires { HasHeader file.now self }
         ensures { result ≡ phnum file.now }
@@ -68,7 +68,7 @@ impl Encoding {
         self.half(file, 0, 44, 56)
     }
 
-    /// `e_shentsize`.
+    /// Returns `e_shentsize`.
     pub fn shentsize(self, file: &[u8]) -> u16
         requires { HasHeader file.now self }
         ensures { result ≡ shentsize file.now }
@@ -76,14 +76,14 @@ impl Encoding {
         self.half(file, 0, 46, 58)
     }
 
-    /// The file offset of `e_shentsize`.
+    /// Returns the file offset of `e_shentsize`.
     pub fn shentsize_place(self) -> u64
         ensures { result ≡ shentsize_place self }
     {
         self.pick(46, 58)
     }
 
-    /// `e_shnum`.
+    /// Returns `e_shnum`.
     pub fn shnum(self, file: &[u8]) -> u16
         requires { HasHeader file.now self }
         ensures { result ≡ shnum file.now }
@@ -91,7 +91,7 @@ impl Encoding {
         self.half(file, 0, 48, 60)
     }
 
-    /// `e_shstrndx`.
+    /// Returns `e_shstrndx`.
     pub fn shstrndx(self, file: &[u8]) -> u16
         requires { HasHeader file.now self }
         ensures { result ≡ shstrndx file.now }
@@ -99,7 +99,7 @@ impl Encoding {
         self.half(file, 0, 50, 62)
     }
 
-    /// The file offset of `e_shstrndx`.
+    /// Returns the file offset of `e_shstrndx`.
     pub fn shstrndx_place(self) -> u64
         ensures { result ≡ shstrndx_place self }
     {

@@ -1,9 +1,9 @@
-//! The tables of ELF files: header, sections, segments and the names of sections, for both classes and both
-//! byte orders. A file is borrowed, and nothing here takes memory.
+//! The tables of ELF files: file header, sections, segments and section names, for both classes and both
+//! byte orders. The file is borrowed, and nothing here allocates memory.
 #![tactic(auto)]
 
 mod constants;
-mod fields;
+mod encoding;
 mod file;
 mod header;
 mod layout;
@@ -16,13 +16,10 @@ mod segments;
 pub use constants::{
     EM_ARM, ET_REL, PF_R, PF_W, PF_X, PN_XNUM, PT_LOAD, PT_NOTE, SHF_ALLOC, SHF_COMPRESSED,
     SHF_EXECINSTR, SHF_TLS, SHF_WRITE, SHN_LORESERVE, SHN_XINDEX, SHT_NOBITS, SHT_NOTE, SHT_NULL,
-    header_numbers, section_numbers, segment_numbers,
+    standard_numbers,
 };
-pub use fields::Encoding;
+pub use encoding::Encoding;
 pub use file::ElfFile;
 pub use header::ElfHeader;
 pub use section::Section;
 pub use segment::Segment;
-
-#[cfg(test)]
-mod tests;

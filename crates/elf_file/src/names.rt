@@ -8,12 +8,12 @@ ghost use Rattle.elf_file.specs.ElfChecks.{checked, name_table_checks, section_h
 ghost use Rattle.elf_file.specs.Known.{HasHeader, HasSection, HasSections, HasNameTable, sections_fit, sections_have_names};
 
 use crate::constants::{SHN_XINDEX, SHT_NULL};
-use crate::fields::Encoding;
+use crate::encoding::Encoding;
 use crate::sections::{section_bytes, section_of_table, section_place};
 use byte_cursor::text_at;
 use size_core::{BadFile, Fault};
 
-/// The section that holds the names, or 0 where sections have none.
+/// Returns the number of the section name table, or 0 where sections have no names.
 #[tactic(auto, unfolding(crate::specs::Tables::name_index))]
 fn name_index(file: &[u8], encoding: Encoding, sections: u32) -> u32
     requires { HasSections file.now encoding sections }
@@ -30,7 +30,8 @@ fn name_index(file: &[u8], encoding: Encoding, sections: u32) -> u32
     }
 }
 
-/// The same, where it is the number of a section.
+/// Returns the number of the section name table, or 0 where sections have no names. BadIndex where no
+/// section has the number.
 #[tactic(auto, unfolding(crate::specs::ElfChecks::name_table_checks))]
 pub fn name_table(file: &[u8], encoding: Encoding, sections: u32) -> Result<u32, BadFile>
     requires { HasSections file.now encoding sections }
@@ -47,7 +48,7 @@ pub fn name_table(file: &[u8], encoding: Encoding, sections: u32) -> Result<u32,
     Ok(index)
 }
 
-/// The bytes of the section that holds the names.
+/// Returns the bytes of the section name table.
 #[tactic(auto, using(crate::proofs::KnownLemmas::fits_at), unfolding(crate::specs::Tables::section_bytes))]
 pub fn names_of<'a>(file: &'a [u8], encoding: Encoding, sections: u32, index: u32) -> &'a [u8]
     requires table { HasSections file.now encoding sections }
@@ -62,7 +63,7 @@ pub fn names_of<'a>(file: &'a [u8], encoding: Encoding, sections: u32, index: u3
     }
 }
 
-/// The name of a section in the table of names, if it has its end there.
+/// Returns the name of section `i`. `None` where it has no terminating zero byte in the section name table.
 #[tactic(auto, unfolding(crate::specs::Names::name_text, crate::specs::Tables::name_offset))]
 fn name_text<'a>(file: &[u8], encoding: Encoding, names: &'a [u8], i: u32) -> Option<&'a [u8]>
     requires header { HasHeader file.now encoding }
@@ -74,7 +75,7 @@ fn name_text<'a>(file: &[u8], encoding: Encoding, names: &'a [u8], i: u32) -> Op
     text_at(names, encoding.four(file, place, 0, 0) as usize)
 }
 
-/// The name of a section has its end.
+/// Checks that the name of section `i` has its terminating zero byte.
 #[tactic(auto, unfolding(crate::specs::ElfChecks::section_has_name))]
 fn section_has_name(
     file: &[u8],
@@ -103,7 +104,7 @@ fn section_has_name(
     }
 }
 
-/// The name of each section has its end.
+/// Checks that the name of each section has its terminating zero byte.
 #[tactic(auto, using(size_core::proofs::Each::each_next, size_core::proofs::Each::each_bad, size_core::proofs::Each::each_end))]
 pub fn sections_have_names(
     file: &[u8],
@@ -123,7 +124,7 @@ pub fn sections_have_names(
     Ok(())
 }
 
-/// The name of a section of this type.
+/// Returns the name of section `i`, which has this type.
 #[tactic(auto, unfolding(crate::specs::Names::name_of))]
 pub fn name_of<'a>(
     file: &[u8],

@@ -3,19 +3,19 @@
 /// A section (ELF gABI, Section Header).
 #[derive(Clone, Copy, Debug)]
 pub struct Section<'a> {
-    /// The file offset of its header.
+    /// The file offset of its section header.
     pub place: u64,
-    /// Empty for the first section and each of type SHT_NULL, and where the file has no section of names.
+    /// Its name. Empty for section 0 and for type SHT_NULL, and where the file has no section name table.
     pub name: &'a [u8],
     /// `sh_type`.
     pub kind: u32,
     /// `sh_flags`.
     pub flags: u64,
-    /// Its virtual address.
+    /// `sh_addr`, its virtual address.
     pub addr: u64,
-    /// The file offset of its bytes.
+    /// `sh_offset`, the file offset of its bytes.
     pub offset: u64,
-    /// In bytes.
+    /// `sh_size`, in bytes.
     pub size: u64,
     /// `sh_link`, the number of another section.
     pub link: u32,
@@ -23,7 +23,7 @@ pub struct Section<'a> {
     pub info: u32,
 }
 
-/// The numbers of a section.
+/// The fields of a section header but for the name.
 #[derive(Clone, Copy, Debug, PartialEq, Eq)]
 pub struct SectionHeader {
     pub place: u64,

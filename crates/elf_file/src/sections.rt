@@ -1,4 +1,4 @@
-//! The table of sections.
+//! The section table.
 
 ghost use Rattle.std.specs.Prelude.{◌≡◌, ◌+◌, ◌≤◌, ◌<◌, ◌^◌, length, IfOk, Ok, nat_lt};
 ghost use Rattle.elf_file.specs.Layout.{encoding_of};
@@ -7,12 +7,12 @@ ghost use Rattle.elf_file.specs.ElfChecks.{checked, header_checks, section_table
 ghost use Rattle.elf_file.specs.Known.{HasHeader, HasSection, HasSections, sections_fit};
 
 use crate::constants::{SHF_ALLOC, SHT_NOBITS, SHT_NULL};
-use crate::fields::Encoding;
+use crate::encoding::Encoding;
 use crate::section::SectionHeader;
 use byte_cursor::Order;
 use size_core::{BadFile, Fault};
 
-/// The class and the byte order, where the file's header is whole.
+/// Returns the class and the byte order. Checks that the file header is complete.
 #[tactic(auto, unfolding(crate::specs::ElfChecks::header_checks, crate::specs::Layout::encoding_of))]
 pub fn encoding(file: &[u8]) -> Result<Encoding, BadFile>
     requires { length file.now < 2 ^ 32 }
@@ -49,7 +49,7 @@ pub fn encoding(file: &[u8]) -> Result<Encoding, BadFile>
     Ok(encoding)
 }
 
-/// The number of sections, where their table lies in the file.
+/// Returns the number of sections. Checks that the section table lies in the file.
 #[tactic(auto, unfolding(crate::specs::ElfChecks::section_table_checks, crate::specs::Tables::section_count))]
 pub fn section_table(file: &[u8], encoding: Encoding) -> Result<u32, BadFile>
     requires { HasHeader file.now encoding }
@@ -89,7 +89,7 @@ pub fn section_table(file: &[u8], encoding: Encoding) -> Result<u32, BadFile>
     Ok(count as u32)
 }
 
-/// Where the header of a section stands that lies in the file.
+/// Returns the file offset of the header of section `i`, which lies in the file.
 pub fn section_place(file: &[u8], encoding: Encoding, i: u32) -> u64
     requires header { HasHeader file.now encoding }
     requires within { HasSection file.now i }
@@ -98,7 +98,7 @@ pub fn section_place(file: &[u8], encoding: Encoding, i: u32) -> u64
     encoding.shoff(file) + i as u64 * encoding.section_len()
 }
 
-/// The numbers of a section whose header lies in the file.
+/// Returns the header of section `i`, which lies in the file.
 #[tactic(auto, unfolding(crate::specs::Tables::section_at))]
 pub fn section_header(file: &[u8], encoding: Encoding, i: u32) -> SectionHeader
     requires header { HasHeader file.now encoding }
@@ -118,7 +118,7 @@ pub fn section_header(file: &[u8], encoding: Encoding, i: u32) -> SectionHeader
     }
 }
 
-/// The numbers of a section of a table that lies in the file.
+/// Returns the header of section `i` of a section table that lies in the file.
 pub fn section_of_table(file: &[u8], encoding: Encoding, sections: u32, i: u32) -> SectionHeader
     requires table { HasSections file.now encoding sections }
     requires index { i < sections }
@@ -128,7 +128,7 @@ pub fn section_of_table(file: &[u8], encoding: Encoding, sections: u32, i: u32) 
     section_header(file, encoding, i)
 }
 
-/// The bytes of a section lie in the file, and its addresses below 2^64.
+/// Checks that the bytes of section `i` lie in the file, and that its addresses end by 2^64.
 #[tactic(auto, unfolding(crate::specs::ElfChecks::section_fits))]
 fn section_fits(file: &[u8], encoding: Encoding, sections: u32, i: u32) -> Result<(), BadFile>
     requires table { HasSections file.now encoding sections }
@@ -156,14 +156,14 @@ fn section_fits(file: &[u8], encoding: Encoding, sections: u32, i: u32) -> Resul
     Ok(())
 }
 
-/// Whether `size` bytes from a virtual address on pass 2^64.
+/// Returns whether `size` bytes from a virtual address on end after 2^64.
 pub fn passes_end(addr: u64, size: u64) -> bool
     ensures { result ≡ nat_lt (2 ^ 64) (addr + size) }
 {
     size != 0 && u64::MAX - (size - 1) < addr
 }
 
-/// Each section fits.
+/// Checks the bytes and addresses of each section.
 #[tactic(auto, using(size_core::proofs::Each::each_next, size_core::proofs::Each::each_bad, size_core::proofs::Each::each_end))]
 pub fn sections_fit(file: &[u8], encoding: Encoding, sections: u32) -> Result<(), BadFile>
     requires { HasSections file.now encoding sections }
@@ -175,7 +175,7 @@ pub fn sections_fit(file: &[u8], encoding: Encoding, sections: u32) -> Result<()
     Ok(())
 }
 
-/// The bytes of a section that fits.
+/// Returns the bytes of section `i`, which passed its check.
 #[tactic(auto, unfolding(crate::specs::Tables::section_bytes, crate::specs::ElfChecks::section_fits))]
 pub fn section_bytes<'a>(file: &'a [u8], encoding: Encoding, sections: u32, i: u32) -> &'a [u8]
     requires table { HasSections file.now encoding sections }

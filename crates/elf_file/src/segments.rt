@@ -1,4 +1,4 @@
-//! The table of segments.
+//! The segment table.
 
 ghost use Rattle.std.specs.Prelude.{◌≡◌, ◌+◌, ◌≤◌, ◌<◌, ◌^◌, length, IfOk};
 ghost use Rattle.elf_file.specs.Tables.{segment_at, segment_bytes, segment_count};
@@ -6,12 +6,12 @@ ghost use Rattle.elf_file.specs.ElfChecks.{checked, segment_table_checks, segmen
 ghost use Rattle.elf_file.specs.Known.{HasSections, HasSegment, HasSegments, segments_fit};
 
 use crate::constants::{PN_XNUM, PT_LOAD};
-use crate::fields::Encoding;
+use crate::encoding::Encoding;
 use crate::sections::{passes_end, section_of_table};
 use crate::segment::Segment;
 use size_core::{BadFile, Fault};
 
-/// The number of segments, as the header or section 0 states it.
+/// Returns the number of segments, from the file header or from section 0.
 #[tactic(auto, unfolding(crate::specs::Tables::segment_count))]
 fn segment_count(file: &[u8], encoding: Encoding, sections: u32) -> u32
     requires { HasSections file.now encoding sections }
@@ -25,7 +25,7 @@ fn segment_count(file: &[u8], encoding: Encoding, sections: u32) -> u32
     }
 }
 
-/// The number of segments, where their table lies in the file.
+/// Returns the number of segments. Checks that the segment table lies in the file.
 #[tactic(auto, unfolding(crate::specs::ElfChecks::segment_table_checks))]
 pub fn segment_table(file: &[u8], encoding: Encoding, sections: u32) -> Result<u32, BadFile>
     requires { HasSections file.now encoding sections }
@@ -54,7 +54,7 @@ pub fn segment_table(file: &[u8], encoding: Encoding, sections: u32) -> Result<u
     Ok(count)
 }
 
-/// The numbers of a segment of a table that lies in the file.
+/// Returns segment `i` of a segment table that lies in the file.
 #[tactic(auto, unfolding(crate::specs::Tables::segment_at))]
 pub fn segment_of_table(file: &[u8], encoding: Encoding, segments: u32, i: u32) -> Segment
     requires table { HasSegments file.now encoding segments }
@@ -74,7 +74,7 @@ pub fn segment_of_table(file: &[u8], encoding: Encoding, segments: u32, i: u32) 
     }
 }
 
-/// The bytes of a segment of a table that lies in the file, cut at the file's end.
+/// Returns the bytes of segment `i` of a segment table that lies in the file, cut at the end of the file.
 #[tactic(auto, unfolding(crate::specs::Tables::segment_bytes))]
 pub fn segment_bytes<'a>(file: &'a [u8], encoding: Encoding, segments: u32, i: u32) -> &'a [u8]
     requires table { HasSegments file.now encoding segments }
@@ -88,7 +88,7 @@ pub fn segment_bytes<'a>(file: &'a [u8], encoding: Encoding, segments: u32, i: u
     &file[start as usize..(start + size) as usize]
 }
 
-/// The addresses of a loaded segment lie below 2^64.
+/// Checks that the addresses of segment `i` end by 2^64, where it is loaded.
 #[tactic(auto, unfolding(crate::specs::ElfChecks::segment_fits))]
 fn segment_fits(file: &[u8], encoding: Encoding, segments: u32, i: u32) -> Result<(), BadFile>
     requires table { HasSegments file.now encoding segments }
@@ -105,7 +105,7 @@ fn segment_fits(file: &[u8], encoding: Encoding, segments: u32, i: u32) -> Resul
     Ok(())
 }
 
-/// Each loaded segment fits.
+/// Checks the addresses of each loaded segment.
 #[tactic(auto, using(size_core::proofs::Each::each_next, size_core::proofs::Each::each_bad, size_core::proofs::Each::each_end))]
 pub fn segments_fit(file: &[u8], encoding: Encoding, segments: u32) -> Result<(), BadFile>
     requires { HasSegments file.now encoding segments }

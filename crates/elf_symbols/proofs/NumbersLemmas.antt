@@ -1,5 +1,4 @@
--- The first section with the numbers of sections of a table, among such sections in the file's order and by their
--- tables.
+-- The first section with the extended section indexes of a table, in file order and sorted by table.
 use Rattle.std.proofs.Common.{◌≡◌, ◌≢◌, ℕ, zero, suc, ◌+◌, ◌-◌, ◌<◌, ◌≤◌, ◌==◌, ◌&&◌, not, Bool, true, false, Option, Some, None, List, [], ◌∷◌, ◌++◌, length, get_or, drop, refl, sym, ap, ◌∙◌, arith}
 use Rattle.std.specs.Prelude.{if◌then◌else◌, nat_lt, IfSome}
 use Rattle.std.specs.List.{filter}
@@ -14,7 +13,7 @@ use Rattle.elf_symbols.specs.declared.numbers.TableNumbers.{TableNumbers}
 use Rattle.elf_symbols.specs.Symbols.{has_numbers_of, numbers_index}
 use Rattle.elf_symbols.specs.Numbers.{AreBefore, IsNumbersIndex, RiseByTable, all_numbers, first_for, numbers_at}
 
--- The file's order.
+-- In file order.
 
 first_of_one : (i j link : ℕ) (rest : List TableNumbers) (b : Bool)
     → first_for i ((if b then record { table = link; section = j } ∷ [] else []) ++ rest) ≡ (if b && link == i then Some j else first_for i rest)
@@ -34,7 +33,7 @@ first_of_all file i j (suc count) =
     first_of_next file i j (gather (numbers_at file) (j + 1) count)
     ∙ ap (λ (o : Option ℕ). if has_numbers_of file i j then Some j else o) (first_of_all file i (j + 1) count)
 
--- By their tables: those of one table keep their order.
+-- Sorted by table: the sections of one table keep their order.
 
 tie : (i k : ℕ) → (not (is_lt (nat_cmp i k)) && not (is_lt (nat_cmp k i))) ≡ (k == i)
 tie i k = grind (arith, common_steps)
@@ -66,7 +65,7 @@ is_numbers_index file given known are rises stable = record {
   first = λ i. first_of_stable i given known stable ∙ ap (first_for i) are ∙ first_of_all file i 1 (section_count file - 1);
 }
 
--- Where a search among them ends.
+-- Where a binary search ends.
 
 first_or_later : (xs : List TableNumbers) (i k : ℕ) (d : TableNumbers) → k < length xs
     → first_for i (drop k xs) ≡ (if (get_or xs k d).table == i then Some (get_or xs k d).section else first_for i (drop (k + 1) xs))
@@ -84,7 +83,7 @@ past : (xs : List TableNumbers) (i k : ℕ) → length xs ≤ k → first_for i 
 unfolding first_for
 past xs i k le = rw (drop_all k xs le) refl
 
--- none of the first k belongs to the table
+-- None of the first k belongs to the table.
 none_before : (xs : List TableNumbers) (i k : ℕ) (d : TableNumbers) → k ≤ length xs
     → ((j : ℕ) → j < k → (get_or xs j d).table ≢ i) → first_for i xs ≡ first_for i (drop k xs)
 none_before xs i zero d le differ = refl
@@ -92,7 +91,7 @@ none_before xs i (suc k) d le differ =
     let next : k + 1 ≡ suc k = omega arith in
     none_before xs i k d (omega arith) (λ j lt. differ j (omega arith)) ∙ rw next at (first_later xs i k d (omega arith) (differ k (omega arith)))
 
--- none from k on belongs to the table
+-- None from k on belongs to the table.
 none_after : (xs : List TableNumbers) (i k left : ℕ) (d : TableNumbers) → length xs ≤ k + left
     → ((j : ℕ) → k ≤ j → j < length xs → (get_or xs j d).table ≢ i) → first_for i (drop k xs) ≡ None
 none_after xs i k zero d le differ = past xs i k (omega arith)
@@ -106,7 +105,7 @@ none_after xs i k (suc left) d le differ =
         first_later xs i k d lt (differ k (omega arith) lt) ∙ later lt
     by_place later false beyond = past xs i k (grind (arith, common_steps))
 
--- In sections that stand by their tables, k is how many belong to tables before section i.
+-- In sorted sections, k of them belong to tables before section i.
 module _ (xs : List TableNumbers) (i k : ℕ) (rises : RiseByTable xs) (bound : k ≤ length xs) (point : AreBefore i xs k) where
   differs_before : (j : ℕ) (d : TableNumbers) → j < k → (get_or xs j d).table ≢ i
   differs_before j d lt = let less = point.0 j d (omega arith) lt in let below : (get_or xs j d).table < i = grind (arith, common_steps) in omega arith
@@ -132,7 +131,7 @@ module _ (xs : List TableNumbers) (i k : ℕ) (rises : RiseByTable xs) (bound : 
   pub ended : length xs ≤ k → first_for i xs ≡ None
   ended le = from_there (record { table = 0; section = 0 }) ∙ past xs i k le
 
--- The first section with the numbers of a table is one of the file's.
+-- The first section with the extended section indexes of a table is a section of the file.
 
 first_within : (p : ℕ → Bool) (i count n : ℕ) → count ≤ n - i → IfSome (first_from p i count) (λ j. j < n)
 unfolding first_from

@@ -10,7 +10,7 @@ has_some : (file : List ℕ) (i : ℕ) → 0 < i → ((section_at file i).kind �
 has_some file i above (inl k) = grind (arith, common_steps)
 has_some file i above (inr k) = grind (arith, common_steps)
 
--- the bytes of a table of symbols lie in the file
+-- The bytes of a table of symbols lie in the file.
 pub table_within : (file : List ℕ) (i : ℕ) → IsWellFormed file → IsSymbolTable file i → (section_at file i).size ≢ 0
     → (section_at file i).offset + (section_at file i).size ≤ length file
 table_within file i known table some = known.section_contents i table.below (has_some file i table.above table.kind) some

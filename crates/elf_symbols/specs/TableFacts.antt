@@ -1,15 +1,15 @@
--- What is known of a table of symbols.
+-- What is known of a symbol table.
 use Rattle.std.specs.Prelude.{◌≡◌, ℕ, ◌+◌, ◌*◌, ◌^◌, ◌<◌, ◌≤◌, List, length}
-use Rattle.elf_file.specs.declared.fields.Encoding.{Encoding}
+use Rattle.elf_file.specs.declared.encoding.Encoding.{Encoding}
 use Rattle.elf_file.specs.Layout.{encoding_of}
 use Rattle.elf_file.specs.Tables.{section_at}
 use Rattle.elf_symbols.specs.Symbols.{symbol_len, symbol_count, names_of, numbers_of}
 
--- the symbol at this place lies in the file
+-- The symbol at file offset place lies in the file.
 abbrev pub HasSymbol : List ℕ → ℕ → Type 0
 HasSymbol file place = place + symbol_len (encoding_of file) ≤ length file
 
--- the table in section i lies in the file, and these are its parts
+-- The table in section i lies in the file, and these are its parts.
 pub record IsTable (file : List ℕ) (i : ℕ) (e : Encoding) (offset count : ℕ) (names numbers : List ℕ) : Type 0 where
   pub encoding_is : e ≡ encoding_of file
   pub offset_is : offset ≡ (section_at file i).offset

@@ -1,4 +1,4 @@
-//! Sections with numbers of sections, by the tables of symbols that they belong to.
+//! The sections with extended section indexes (SHT_SYMTAB_SHNDX), sorted by their symbol tables.
 
 ghost use Rattle.std.specs.Prelude.{◌≡◌, ◌++◌, ◌<◌, ◌≤◌, IfOk, IfSome, OnOk, length};
 ghost use Rattle.elf_file.specs.Tables.{section_count};
@@ -11,15 +11,16 @@ use size_core::NoMemory;
 use std::alloc::Global;
 use std::marker::Model;
 
-/// A section with numbers of sections.
+/// A section with extended section indexes.
 #[derive(Clone, Copy, Debug)]
 pub struct TableNumbers {
-    /// The section of the table that the numbers belong to.
+    /// The section number of its symbol table.
     pub table: u32,
     pub section: u32,
 }
 
-/// The sections of a file with numbers of sections, by their tables. Where a file has none, no memory is taken.
+/// The sections of a file with extended section indexes, sorted by their symbol tables. Without such
+/// sections, no memory is allocated.
 #[derive(Drop)]
 pub struct NumbersIndex<'a> {
     file: &'a [u8],
@@ -37,7 +38,7 @@ impl<'a> Model for NumbersIndex<'a> {
     ghost invariant = { λ n. IsNumbersIndex n.file.now n.known.items };
 }
 
-/// Adds section `j`, where it has numbers of sections.
+/// Adds section `j`, where it has extended section indexes.
 #[tactic(auto, unfolding(crate::specs::Numbers::numbers_at))]
 fn push_numbers(file: &ElfFile<'_>, j: u32, known: &mut Vec<TableNumbers>) -> Result<(), NoMemory>
     requires { j < section_count file.now }
@@ -54,7 +55,7 @@ fn push_numbers(file: &ElfFile<'_>, j: u32, known: &mut Vec<TableNumbers>) -> Re
     Ok(())
 }
 
-/// The sections with numbers of sections, in the file's order.
+/// Returns the sections with extended section indexes, in file order.
 #[tactic(auto, using(size_core::proofs::Gathered::gather_next, size_core::proofs::Gathered::gather_end), unfolding(crate::specs::Numbers::all_numbers))]
 fn all_numbers(alloc: Global, file: &ElfFile<'_>) -> Result<Vec<TableNumbers>, NoMemory>
     ensures { IfOk result (λ v. v.items ≡ all_numbers file.now) }
@@ -66,7 +67,8 @@ fn all_numbers(alloc: Global, file: &ElfFile<'_>) -> Result<Vec<TableNumbers>, N
     Ok(known)
 }
 
-/// The sections with numbers of sections, by their tables, and those of one table in the file's order.
+/// Returns the sections with extended section indexes, sorted by their symbol tables, and those of one
+/// table in file order.
 fn numbers_by_table(alloc: Global, file: &ElfFile<'_>) -> Result<Vec<TableNumbers>, NoMemory>
     ensures { IfOk result (λ v. IsNumbersIndex file.now v.items) }
 {
@@ -75,7 +77,7 @@ fn numbers_by_table(alloc: Global, file: &ElfFile<'_>) -> Result<Vec<TableNumber
     Ok(known)
 }
 
-/// How many sections belong to tables before section `i`.
+/// Returns how many sections belong to tables before section `i`.
 fn count_before(known: &[TableNumbers], i: u32) -> usize
     requires { RiseByTable known.now }
     ensures bound { result ≤ length known.now }
@@ -84,7 +86,7 @@ fn count_before(known: &[TableNumbers], i: u32) -> usize
     known.partition_point(|numbers| numbers.table < i)
 }
 
-/// The first section of these that belongs to the table in section `i`.
+/// Returns the number of the first section that belongs to the table in section `i`.
 fn first_for(known: &[TableNumbers], i: u32) -> Option<u32>
     requires { RiseByTable known.now }
     ensures { result ≡ first_for i known.now }
@@ -101,7 +103,7 @@ fn first_for(known: &[TableNumbers], i: u32) -> Option<u32>
 }
 
 impl<'a> NumbersIndex<'a> {
-    /// The sections of this file with numbers of sections.
+    /// Returns the index of a file.
     pub fn of(alloc: Global, file: &ElfFile<'a>) -> Result<NumbersIndex<'a>, NoMemory>
         ensures { IfOk result (λ n. n ≡ file.now) }
     {
@@ -112,7 +114,8 @@ impl<'a> NumbersIndex<'a> {
         })
     }
 
-    /// The first section with the numbers of sections of the table in section `i`.
+    /// Returns the number of the first section with the extended section indexes of the table in section
+    /// `i`.
     #[tactic(auto, using(crate::proofs::NumbersLemmas::numbers_within))]
     pub fn first(&self, i: u32) -> Option<u32>
         ensures value { result ≡ numbers_index self.now i }

@@ -17,26 +17,27 @@ pub struct Symbol<'a> {
     pub place: u64,
     /// Empty where `st_name` is 0.
     pub name: &'a [u8],
-    /// `st_value`, mostly a virtual address.
+    /// `st_value`, in most files a virtual address.
     pub value: u64,
-    /// In bytes.
+    /// `st_size`, in bytes.
     pub size: u64,
-    /// The type, which `st_info` holds beside the binding.
+    /// The type, which is the low four bits of `st_info`.
     pub kind: u8,
-    /// `st_shndx`, as it stands.
+    /// `st_shndx`, also where it is an escape.
     pub shndx: u16,
-    /// The number of its section, also where that doesn't fit `st_shndx`.
+    /// The number of its section, from the extended section indexes where it doesn't fit `st_shndx`.
     pub section: u32,
 }
 
-/// The size of a symbol.
+/// Returns the size of a symbol in bytes.
 pub fn symbol_len(encoding: Encoding) -> u64
     ensures { result ≡ symbol_len encoding }
 {
     encoding.pick(16, 24)
 }
 
-/// The name of the symbol at a place.
+/// Returns the name of the symbol at file offset `place`. NameOutside where it has no terminating zero byte
+/// in `names`.
 #[tactic(auto, unfolding(crate::specs::Symbols::name_at))]
 pub fn name_at<'a>(
     file: &[u8],
@@ -61,7 +62,7 @@ pub fn name_at<'a>(
     }
 }
 
-/// `st_shndx` of the symbol at a place.
+/// Returns `st_shndx` of the symbol at file offset `place`.
 pub fn shndx_at(file: &[u8], encoding: Encoding, place: u64) -> u16
     requires encoding { encoding ≡ encoding_of file.now }
     requires within { HasSymbol file.now place }
@@ -70,7 +71,8 @@ pub fn shndx_at(file: &[u8], encoding: Encoding, place: u64) -> u16
     encoding.half(file, place, 14, 6)
 }
 
-/// The section of symbol `k`, which stands at a place.
+/// Returns the section number of symbol `k`, which is at file offset `place`. BadIndex where it needs an
+/// extended section index and has none.
 #[tactic(auto, unfolding(crate::specs::Symbols::section_number_at))]
 pub fn section_number_at(
     file: &[u8],

@@ -1,4 +1,4 @@
-//! Tables of symbols.
+//! Symbol tables.
 
 ghost use Rattle.std.specs.Prelude.{◌≡◌, ◌+◌, ◌*◌, ◌<◌, ◌≤◌, ◌^◌, length, IfSome};
 ghost use Rattle.size_core.specs.Checks.{Gives};
@@ -14,7 +14,7 @@ use elf_file::{ElfFile, Encoding};
 use size_core::{BadFile, Fault};
 use std::marker::Model;
 
-/// A table of symbols.
+/// A symbol table.
 #[derive(Drop)]
 pub struct SymbolTable<'a> {
     file: &'a [u8],
@@ -37,7 +37,7 @@ impl<'a> Model for SymbolTable<'a> {
     ghost invariant = { λ t. IsTable t.file.now t.index t.encoding t.offset t.count t.names.now t.numbers.now };
 }
 
-/// Whether section `j` has the numbers of sections of the table in section `i`.
+/// Returns whether section `j` has the extended section indexes of the table in section `i`.
 fn has_numbers_of(file: &ElfFile<'_>, i: u32, j: u32) -> bool
     requires { j < section_count file.now }
     ensures { result ≡ has_numbers_of file.now i j }
@@ -46,7 +46,7 @@ fn has_numbers_of(file: &ElfFile<'_>, i: u32, j: u32) -> bool
     section.kind == SHT_SYMTAB_SHNDX && section.link == i
 }
 
-/// The first section with the numbers of sections of the table in section `i`.
+/// Returns the number of the first section with the extended section indexes of the table in section `i`.
 #[tactic(auto, using(size_core::proofs::Gathered::first_next, size_core::proofs::Gathered::first_here, size_core::proofs::Gathered::first_end))]
 fn numbers_index(file: &ElfFile<'_>, i: u32) -> Option<u32>
     ensures value { result ≡ numbers_index file.now i }
@@ -60,7 +60,7 @@ fn numbers_index(file: &ElfFile<'_>, i: u32) -> Option<u32>
     None
 }
 
-/// The numbers of sections in a section, if there is one.
+/// Returns the bytes of a section, and none where there is no section.
 fn numbers_in<'a>(file: &ElfFile<'a>, section: Option<u32>) -> &'a [u8]
     requires { IfSome section (λ j. j < section_count file.now) }
     ensures { result.now ≡ bytes_of file.now section }
@@ -72,16 +72,16 @@ fn numbers_in<'a>(file: &ElfFile<'a>, section: Option<u32>) -> &'a [u8]
 }
 
 impl<'a> SymbolTable<'a> {
-    /// The table in section `i`. BadIndex where its names are in no section.
+    /// Opens the symbol table in section `i`. BadIndex where `sh_link` is no section's number.
     pub fn at(file: &ElfFile<'a>, i: u32) -> Result<SymbolTable<'a>, BadFile>
         requires { IsSymbolTable file.now i }
         ensures { result ≡ table_at file.now i }
     {
-        SymbolTable::with_numbers(file, i, numbers_index(file, i))
+        SymbolTable::open_table(file, i, numbers_index(file, i))
     }
 
-    /// The same, where the file's numbers of sections are indexed: a file of many tables is then gone through once for
-    /// them all.
+    /// Opens the symbol table in section `i`, with an index of the extended section indexes. In a file with
+    /// many tables, the sections are then visited once for all of them.
     pub fn indexed(
         file: &ElfFile<'a>,
         i: u32,
@@ -91,12 +91,13 @@ impl<'a> SymbolTable<'a> {
         requires numbers { numbers.now ≡ file.now }
         ensures { result ≡ table_at file.now i }
     {
-        SymbolTable::with_numbers(file, i, numbers.first(i))
+        SymbolTable::open_table(file, i, numbers.first(i))
     }
 
-    /// The table in section `i`, which has its numbers of sections in this section, if it has any.
+    /// Opens the symbol table in section `i`, whose extended section indexes are in section `numbers`, if
+    /// it has any.
     #[tactic(auto, unfolding(crate::specs::Symbols::table_at, crate::specs::Symbols::symbol_count), using(crate::proofs::Within::table_within))]
-    fn with_numbers(
+    fn open_table(
         file: &ElfFile<'a>,
         i: u32,
         numbers: Option<u32>,
@@ -126,15 +127,15 @@ impl<'a> SymbolTable<'a> {
         })
     }
 
-    /// How many symbols there are.
+    /// Returns how many symbols the table has.
     pub fn len(&self) -> u32
         ensures { result ≡ symbol_count self.now.file self.now.index }
     {
         self.count
     }
 
-    /// A symbol. NameOutside where its name has no end in the table's names, and BadIndex where the number of
-    /// its section doesn't fit `st_shndx` and stands in no other section.
+    /// Returns symbol `k`. NameOutside where its name has no terminating zero byte in the table's names,
+    /// and BadIndex where it needs an extended section index and has none.
     #[tactic(auto, unfolding(crate::specs::Symbols::symbol_at))]
     pub fn symbol(&self, k: u32) -> Result<Symbol<'a>, BadFile>
         requires { k < symbol_count self.now.file self.now.index }

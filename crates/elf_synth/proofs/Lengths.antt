@@ -1,4 +1,4 @@
--- How many bytes the parts of a made file have.
+-- The sizes of the parts of a synthetic file in bytes.
 use Rattle.std.proofs.Common.{◌≡◌, ℕ, ◌+◌, ◌*◌, ◌%◌, length, refl, length-append, arith}
 use Rattle.std.proofs.lemmas.List.{length-replicate}
 use Rattle.std.proofs.lemmas.List.FromFn.{length-map-range_with_len}
@@ -54,7 +54,7 @@ length-section_headers : (at : Layout) → length (section_headers at) ≡ 320
 unfolding section_headers
 length-section_headers at = simp (length-append, length-zeros, length-section_header) refl
 
--- where the parts stand
+-- The offsets of the parts.
 pub layout_is : (n : ℕ) → layout_of n ≡ record {
   text = record { offset = 120; size = 16 * n };
   symbols = record { offset = 120 + 16 * n; size = 24 * (n + 1) };
@@ -65,7 +65,7 @@ pub layout_is : (n : ℕ) → layout_of n ≡ record {
 unfolding layout_of
 layout_is n = rw (length-text n, length-symbols n, length-strings n, length-section_names) refl
 
--- the whole file
+-- The size of the whole file.
 pub length-made : (n : ℕ) → length (made n) ≡ 49 * n + 498
 unfolding made
 length-made n =

@@ -1,4 +1,4 @@
--- A made ELF file, by its number of functions.
+-- A synthetic ELF file, by its number of functions.
 use Rattle.std.specs.Prelude.{ℕ, ◌+◌, ◌-◌, List, ◌++◌, length, take}
 use Rattle.elf_synth.specs.declared.layout.Part.{Part}
 use Rattle.elf_synth.specs.declared.layout.Layout.{Layout}
@@ -6,12 +6,12 @@ use Rattle.elf_synth.specs.declared.records.SectionHeader.{SectionHeader}
 use Rattle.elf_synth.specs.Records.{file_header, program_header, section_header, zeros}
 use Rattle.elf_synth.specs.Contents.{image_address, text_address, text, symbols, strings, section_names, names, ended}
 
--- these bytes, where a part ends
+-- The part with these bytes that begins where another part ends.
 abbrev pub after : Part → List ℕ → Part
 after part bytes = record { offset = part.offset + part.size; size = length bytes }
 
--- Where each part stands that the headers name: the text after the headers of 64 and 56 bytes, each further part
--- where the one before it ends, and five section headers of 64 bytes.
+-- The offset of each part of a file with n functions: `.text` after headers of 64 and 56 bytes, each other
+-- part where the one before it ends, and five section headers of 64 bytes.
 unfoldable pub layout_of : ℕ → Layout
 layout_of n =
     let text_part : Part = record { offset = 64 + 56; size = length (text n) } in
@@ -26,11 +26,12 @@ layout_of n =
       section_headers = names_part.offset + names_part.size;
     }
 
--- where the name of section i begins among the names
+-- The offset of the name of section i in the section name table.
 abbrev pub name_place : ℕ → ℕ
 name_place i = 1 + length (ended (take (i - 1) names))
 
--- `.text`: bytes of the program (SHT_PROGBITS), which are in memory (SHF_ALLOC) and can be run (SHF_EXECINSTR)
+-- The section header of `.text`: bytes of the program (SHT_PROGBITS) that are in memory (SHF_ALLOC) and can
+-- be executed (SHF_EXECINSTR).
 unfoldable pub text_header : Part → SectionHeader
 text_header part = record {
   name = name_place 1;
@@ -44,8 +45,8 @@ text_header part = record {
   entry_size = 0;
 }
 
--- `.symtab`: symbols of 24 bytes (SHT_SYMTAB) with their names in section 3, of which the first one that other
--- files see is symbol 1
+-- The section header of `.symtab`: symbols of 24 bytes (SHT_SYMTAB) with their names in section 3. Symbol 1
+-- is the first global one (gABI, Sections: sh_info).
 unfoldable pub symbols_header : Part → SectionHeader
 symbols_header part = record {
   name = name_place 2;
@@ -59,7 +60,8 @@ symbols_header part = record {
   entry_size = 24;
 }
 
--- names (SHT_STRTAB), in a section whose own name begins at a place
+-- The section header of a string table (SHT_STRTAB). name is the offset of its own name in the section name
+-- table.
 abbrev pub names_header : ℕ → Part → SectionHeader
 names_header name part = record {
   name = name;
@@ -73,7 +75,7 @@ names_header name part = record {
   entry_size = 0;
 }
 
--- The section headers: the null section, `.text`, `.symtab`, `.strtab` and `.shstrtab` (gABI, Sections).
+-- The section headers: section 0, `.text`, `.symtab`, `.strtab` and `.shstrtab` (gABI, Sections).
 unfoldable pub section_headers : Layout → List ℕ
 section_headers at =
     zeros 64
@@ -82,7 +84,8 @@ section_headers at =
     ++ section_header (names_header (name_place 3) at.strings)
     ++ section_header (names_header (name_place 4) at.section_names)
 
--- The file: its header, one load of all up to the end of the text, the bytes of the sections, and their headers.
+-- The synthetic file with n functions: the file header, the program header of a load of all bytes up to the
+-- end of `.text`, the contents of the sections, and the section headers.
 unfoldable pub made : ℕ → List ℕ
 made n =
     let at = layout_of n in

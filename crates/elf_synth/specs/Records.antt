@@ -1,33 +1,33 @@
--- The records of an ELF file of 64 bits whose numbers have their lowest byte first (ELF gABI, chapter 4: Data
--- Representation). Each has its fields in the standard's order.
+-- The records of a little-endian ELF file of 64 bits (ELF gABI, chapter 4: Data Representation). The fields
+-- of a record are in the standard's order.
 use Rattle.std.specs.Prelude.{ℕ, ◌+◌, ◌*◌, List, [], ◌∷◌, ◌++◌, replicate, codes}
 use Rattle.std.specs.Int.{w16, w32, w64, to_le_bytes}
 use Rattle.elf_synth.specs.declared.records.Symbol.{Symbol}
 use Rattle.elf_synth.specs.declared.records.SectionHeader.{SectionHeader}
 
--- a number of two bytes (Elf64_Half),
+-- A number of two bytes: Elf64_Half (gABI, Data Representation).
 unfoldable pub half : ℕ → List ℕ
 half n = to_le_bytes w16 n
 
--- of four (Elf64_Word),
+-- A number of four bytes: Elf64_Word (gABI, Data Representation).
 unfoldable pub word : ℕ → List ℕ
 word n = to_le_bytes w32 n
 
--- and of eight (Elf64_Addr, Elf64_Off, Elf64_Xword)
+-- A number of eight bytes: Elf64_Addr, Elf64_Off, Elf64_Xword (gABI, Data Representation).
 unfoldable pub xword : ℕ → List ℕ
 xword n = to_le_bytes w64 n
 
--- so many zero bytes
+-- This many zero bytes.
 unfoldable pub zeros : ℕ → List ℕ
 zeros count = replicate count 0
 
--- The first bytes, e_ident: 64 bits (ELFCLASS64), the lowest byte first (ELFDATA2LSB), and the version of the
--- format (gABI, ELF Identification).
+-- The bytes of e_ident: class ELFCLASS64, byte order ELFDATA2LSB, and the version of the format (gABI, ELF
+-- Identification).
 unfoldable pub identification : List ℕ
 identification = 0x7f ∷ codes "ELF" ++ (2 ∷ 1 ∷ 1 ∷ []) ++ zeros 9
 
--- The file's header, Elf64_Ehdr, of a program for x86-64 that starts at an address, with one program header at
--- offset 64, and with five section headers at an offset, of which the last is that of their names (gABI, ELF
+-- The file header, Elf64_Ehdr, of an x86-64 program with this entry point. It has one program header at
+-- offset 64, and five section headers at an offset. The last one is that of the section names (gABI, ELF
 -- Header).
 unfoldable pub file_header : ℕ → ℕ → List ℕ
 file_header entry section_headers =
@@ -46,8 +46,8 @@ file_header entry section_headers =
     ++ half 5  -- e_shnum
     ++ half 4  -- e_shstrndx
 
--- The program header, Elf64_Phdr, of a load that can be read and run: it takes this many bytes from the beginning
--- of the file to an address (gABI, Program Header).
+-- The program header, Elf64_Phdr, of a load that can be read and executed: the first size bytes of the
+-- file, at a virtual address (gABI, Program Header).
 unfoldable pub program_header : ℕ → ℕ → List ℕ
 program_header address size =
     word 1  -- p_type: PT_LOAD
@@ -59,7 +59,7 @@ program_header address size =
     ++ xword size  -- p_memsz
     ++ xword 0x1000  -- p_align
 
--- Elf64_Sym of a function that other files see: STB_GLOBAL is 1, and STT_FUNC is 2 (gABI, Symbol Table).
+-- The symbol of a global function, Elf64_Sym: STB_GLOBAL is 1, and STT_FUNC is 2 (gABI, Symbol Table).
 unfoldable pub symbol_bytes : Symbol → List ℕ
 symbol_bytes s =
     word s.name  -- st_name
@@ -69,7 +69,7 @@ symbol_bytes s =
     ++ xword s.value  -- st_value
     ++ xword s.size  -- st_size
 
--- Elf64_Shdr of a section that may stand anywhere (gABI, Section Header).
+-- A section header, Elf64_Shdr, with an alignment of 1 (gABI, Section Header).
 unfoldable pub section_header : SectionHeader → List ℕ
 section_header s =
     word s.name  -- sh_name

@@ -1,4 +1,4 @@
-//! What the sections of a made file hold.
+//! The contents of the sections of a synthetic file.
 
 ghost use Rattle.std.specs.Prelude.{◌≡◌, ◌≤◌, ◌++◌, ◌+◌, ◌*◌, ◌/◌, ◌%◌, ◌<◌, OnOk};
 ghost use Rattle.elf_synth.specs.Contents.{text, function_symbol, symbols, function_name, strings, section_names};
@@ -8,7 +8,7 @@ use crate::numbers::{push_bytes, push_zeros};
 use crate::records::{SYMBOL_LEN, Symbol, push_symbol};
 use size_core::NoMemory;
 
-/// Adds the text of `n` functions: byte `j` of it is `j` modulo 256.
+/// Adds the code of `n` functions: byte `j` of it is `j` modulo 256.
 #[tactic(auto, unfolding(crate::specs::Contents::text), using(crate::proofs::Rows::next_item))]
 pub fn push_text(out: &mut Vec<u8>, n: u32) -> Result<(), NoMemory>
     requires { n ≤ 1_000_000 }
@@ -20,7 +20,7 @@ pub fn push_text(out: &mut Vec<u8>, n: u32) -> Result<(), NoMemory>
     Ok(())
 }
 
-// Adds the symbol `k` of `n`. The functions come from the last one down.
+// Adds symbol `k` of `n`. The last function comes first.
 #[tactic(auto, unfolding(crate::specs::Contents::function_symbol))]
 fn push_function_symbol(out: &mut Vec<u8>, n: u32, k: u32) -> Result<(), NoMemory>
     requires { (k ≤ n) × (n ≤ 1_000_000) }
@@ -36,7 +36,7 @@ fn push_function_symbol(out: &mut Vec<u8>, n: u32, k: u32) -> Result<(), NoMemor
     push_symbol(out, symbol)
 }
 
-/// Adds the table of symbols: the null symbol, and one symbol a function.
+/// Adds the symbol table: the null symbol, and one symbol for each function.
 #[tactic(auto, unfolding(crate::specs::Contents::symbols), using(crate::proofs::Rows::next_row))]
 pub fn push_symbols(out: &mut Vec<u8>, n: u32) -> Result<(), NoMemory>
     requires { n ≤ 1_000_000 }
@@ -49,7 +49,7 @@ pub fn push_symbols(out: &mut Vec<u8>, n: u32) -> Result<(), NoMemory>
     Ok(())
 }
 
-// The decimal digit of a number that counts a power of ten.
+// Returns the decimal digit of a number at a power of ten.
 fn digit(number: u32, power: u32) -> u8
     requires { 0 < power }
     ensures { result ≡ 48 + number / power % 10 }

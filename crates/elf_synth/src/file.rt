@@ -1,4 +1,4 @@
-//! The made file.
+//! The synthetic file.
 
 ghost use Rattle.std.specs.Prelude.{◌≡◌, ◌≤◌, ◌+◌, ◌*◌, IfOk, vec_len};
 ghost use Rattle.elf_synth.specs.Made.{made};
@@ -10,10 +10,11 @@ use crate::sections::push_section_headers;
 use size_core::NoMemory;
 use std::alloc::Global;
 
-/// An ELF file of 64 bits for x86-64 with `n` functions, up to 1,000,000, of 49 n + 498 bytes: the file's header, a
-/// load of all up to the end of the text, the sections `.text`, `.symtab`, `.strtab` and `.shstrtab`, and the section
-/// headers. A function has 16 bytes of text. The symbols are in falling order of address, and one with an odd number
-/// reaches 8 bytes past its function.
+/// Returns a 64-bit ELF file for x86-64 with `n` functions, at most 1,000,000. It has 49 n + 498 bytes: the
+/// file header, the program header of a load of all bytes up to the end of `.text`, the sections `.text`,
+/// `.symtab`, `.strtab` and `.shstrtab`, and the section headers. A function has 16 bytes of code. The
+/// symbols are in falling order of address, and a symbol with an odd number ends 8 bytes after its
+/// function. NoMemory where memory runs out.
 #[tactic(auto, unfolding(crate::specs::Made::made), using(crate::proofs::Lengths::layout_is))]
 pub fn synth(alloc: Global, n: u32) -> Result<Vec<u8>, NoMemory>
     requires { n ≤ 1_000_000 }

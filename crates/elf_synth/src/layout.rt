@@ -1,50 +1,50 @@
-//! Where the parts of a made file stand.
+//! The offsets of the parts of a synthetic file.
 
 ghost use Rattle.std.specs.Prelude.{◌≡◌, ◌≤◌};
 ghost use Rattle.elf_synth.specs.Made.{layout_of};
 
 use crate::records::{FILE_HEADER_LEN, PROGRAM_HEADER_LEN, SYMBOL_LEN};
 
-/// The file offset of the text, which follows the two headers.
+/// The file offset of `.text`, which follows the file header and the program header.
 pub const TEXT_OFFSET: u64 = FILE_HEADER_LEN as u64 + PROGRAM_HEADER_LEN as u64;
 
-/// The virtual address of the file's first byte.
+/// The virtual address of the first byte of the file.
 pub const IMAGE_ADDRESS: u64 = 0x40_0000;
 
-/// The virtual address of the text.
+/// The virtual address of `.text`.
 pub const TEXT_ADDRESS: u64 = IMAGE_ADDRESS + TEXT_OFFSET;
 
-/// The bytes of a function in the text.
+/// The size of a function in bytes.
 pub const FUNCTION_LEN: u64 = 16;
 
-/// The bytes of a function's name, with the zero byte at its end.
+/// The size of a function's name in bytes, with the terminating zero byte.
 pub const NAME_LEN: u64 = 9;
 
-/// The names of the sections, each with a zero byte at its end.
+/// The names of the sections, each with a terminating zero byte.
 pub const SECTION_NAMES: &[u8] = b"\0.text\0.symtab\0.strtab\0.shstrtab\0";
 
-/// Bytes of a file.
+/// A range of bytes of a file.
 #[derive(Clone, Copy)]
 pub struct Part {
-    /// The file offset of the first one.
+    /// The file offset of the first byte.
     pub offset: u64,
-    /// How many there are.
+    /// How many bytes there are.
     pub size: u64,
 }
 
-/// The parts of a file that its headers name.
+/// The parts of a file that its headers describe.
 #[derive(Clone, Copy)]
 pub struct Layout {
     pub text: Part,
     pub symbols: Part,
     pub strings: Part,
     pub section_names: Part,
-    /// The file offset of the section headers, which end the file.
+    /// The file offset of the section headers, which are the last part of the file.
     pub section_headers: u64,
 }
 
 impl Layout {
-    /// The layout of a file of `n` functions.
+    /// Returns the layout of a file with `n` functions.
     #[tactic(auto, using(crate::proofs::Lengths::layout_is))]
     pub fn of(n: u32) -> Layout
         requires { n ≤ 1_000_000 }

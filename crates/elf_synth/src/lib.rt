@@ -1,4 +1,4 @@
-//! A made ELF file with any number of functions, to measure with and to test on.
+//! A synthetic ELF file with any number of functions, for measurements and tests.
 #![tactic(auto)]
 
 mod contents;
@@ -9,6 +9,3 @@ mod records;
 mod sections;
 
 pub use file::synth;
-
-#[cfg(test)]
-mod tests;

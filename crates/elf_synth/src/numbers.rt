@@ -1,4 +1,4 @@
-//! Numbers at the end of a file, the lowest byte first (ELF gABI, Data Representation).
+//! Writes little-endian numbers to the end of a file (ELF gABI, Data Representation).
 
 ghost use Rattle.std.specs.Prelude.{◌≡◌, ◌++◌, OnOk};
 ghost use Rattle.elf_synth.specs.Records.{half, word, xword, zeros};

@@ -1,4 +1,4 @@
-//! The records of an ELF file of 64 bits (ELF gABI, chapters 4 and 5).
+//! The records of a 64-bit ELF file (ELF gABI, chapters 4 and 5).
 
 ghost use Rattle.std.specs.Prelude.{◌≡◌, ◌++◌, OnOk};
 ghost use Rattle.elf_synth.specs.Records.{identification, file_header, program_header, symbol_bytes, section_header};
@@ -6,55 +6,55 @@ ghost use Rattle.elf_synth.specs.Records.{identification, file_header, program_h
 use crate::numbers::{push_bytes, push_u16, push_u32, push_u64};
 use size_core::NoMemory;
 
-/// The bytes of the file's header.
+/// The size of the file header in bytes.
 pub const FILE_HEADER_LEN: u8 = 64;
 
-/// The bytes of a program header.
+/// The size of a program header in bytes.
 pub const PROGRAM_HEADER_LEN: u8 = 56;
 
-/// The bytes of a section header.
+/// The size of a section header in bytes.
 pub const SECTION_HEADER_LEN: u8 = 64;
 
-/// The bytes of a symbol.
+/// The size of a symbol in bytes.
 pub const SYMBOL_LEN: u8 = 24;
 
-/// A function that other files see (Elf64_Sym).
+/// A global function symbol (Elf64_Sym).
 #[derive(Clone, Copy)]
 pub struct Symbol {
-    /// Where its name begins in the table of names.
+    /// `st_name`, the offset of its name in the string table.
     pub name: u32,
-    /// The number of its section.
+    /// `st_shndx`, the number of its section.
     pub section: u16,
-    /// Its virtual address.
+    /// `st_value`, its virtual address.
     pub value: u64,
-    /// In bytes.
+    /// `st_size`, in bytes.
     pub size: u64,
 }
 
-/// A section that may stand at any offset and address (Elf64_Shdr).
+/// A section header with an alignment of 1 (Elf64_Shdr).
 #[derive(Clone, Copy)]
 pub struct SectionHeader {
-    /// Where its name begins in the table of names.
+    /// `sh_name`, the offset of its name in the section name table.
     pub name: u32,
     /// `sh_type`.
     pub kind: u32,
     /// `sh_flags`.
     pub flags: u64,
-    /// Its virtual address, or 0.
+    /// `sh_addr`, its virtual address, or 0.
     pub addr: u64,
-    /// The file offset of its bytes.
+    /// `sh_offset`, the file offset of its bytes.
     pub offset: u64,
-    /// In bytes.
+    /// `sh_size`, in bytes.
     pub size: u64,
     /// `sh_link`, the number of another section, or 0.
     pub link: u32,
     /// `sh_info`.
     pub info: u32,
-    /// The bytes of an entry, where the section is a table of entries, and else 0.
+    /// `sh_entsize`, the size of an entry in bytes where the section is a table, and else 0.
     pub entry_size: u64,
 }
 
-// The first bytes of a file of 64 bits, the lowest byte first.
+// Adds `e_ident` of a little-endian file of 64 bits (ELF gABI, ELF Identification).
 #[tactic(auto, unfolding(crate::specs::Records::identification, crate::specs::Records::zeros))]
 fn push_identification(out: &mut Vec<u8>) -> Result<(), NoMemory>
     ensures { OnOk result (out.new.items ≡ out.old.items ++ identification) }
@@ -62,9 +62,9 @@ fn push_identification(out: &mut Vec<u8>) -> Result<(), NoMemory>
     push_bytes(out, b"\x7fELF\x02\x01\x01\0\0\0\0\0\0\0\0\0")
 }
 
-/// Adds the file's header (Elf64_Ehdr) of a program for x86-64 with one program header, which follows it, and five
-/// section headers, the last of which is that of their names. It has the virtual address at which the program starts,
-/// and the file offset of the section headers.
+/// Adds the file header (Elf64_Ehdr) of an x86-64 program. One program header follows it. There are five
+/// section headers, and the last one is that of the section names. `entry` is the virtual address of the
+/// entry point, and `section_headers` is the file offset of the section headers.
 #[tactic(auto, unfolding(crate::specs::Records::file_header))]
 pub fn push_file_header(out: &mut Vec<u8>, entry: u64, section_headers: u64) -> Result<(), NoMemory>
     ensures { OnOk result (out.new.items ≡ out.old.items ++ file_header entry section_headers) }
@@ -88,8 +88,8 @@ pub fn push_file_header(out: &mut Vec<u8>, entry: u64, section_headers: u64) -> 
     push_u16(out, 4)
 }
 
-/// Adds the program header (Elf64_Phdr) of a load that can be read and run: so many bytes from the file's beginning
-/// on, at a virtual address.
+/// Adds the program header (Elf64_Phdr) of a load that can be read and executed: the first `size` bytes of
+/// the file, at virtual address `address`.
 #[tactic(auto, unfolding(crate::specs::Records::program_header))]
 pub fn push_program_header(out: &mut Vec<u8>, address: u64, size: u64) -> Result<(), NoMemory>
     ensures { OnOk result (out.new.items ≡ out.old.items ++ program_header address size) }

@@ -1,4 +1,4 @@
-//! The headers of the sections of a made file (ELF gABI, Sections).
+//! The section headers of a synthetic file (ELF gABI, Sections).
 
 ghost use Rattle.std.specs.Prelude.{◌≡◌, ◌++◌, OnOk};
 ghost use Rattle.elf_synth.specs.Made.{names_header, section_headers, symbols_header, text_header};
@@ -8,7 +8,7 @@ use crate::numbers::push_zeros;
 use crate::records::{SECTION_HEADER_LEN, SYMBOL_LEN, SectionHeader, push_section_header};
 use size_core::NoMemory;
 
-// The header of `.text`: bytes of the program, which are in memory and can be run.
+// Returns the header of `.text`, which is in memory and can be executed.
 #[tactic(auto, unfolding(crate::specs::Made::text_header))]
 fn text_header(part: Part) -> SectionHeader
     ensures { result ≡ text_header part }
@@ -29,7 +29,7 @@ fn text_header(part: Part) -> SectionHeader
     }
 }
 
-// The header of `.symtab`, whose names are in section 3. Only the null symbol is local to the file.
+// Returns the header of `.symtab`, whose names are in section 3. Only the null symbol is local.
 #[tactic(auto, unfolding(crate::specs::Made::symbols_header))]
 fn symbols_header(part: Part) -> SectionHeader
     ensures { result ≡ symbols_header part }
@@ -48,7 +48,7 @@ fn symbols_header(part: Part) -> SectionHeader
     }
 }
 
-// The header of a table of names, whose own name begins at an offset of the names of the sections.
+// Returns the header of a string table. `name` is the offset of its own name in the section name table.
 fn names_header(name: u32, part: Part) -> SectionHeader
     ensures { result ≡ names_header name part }
 {

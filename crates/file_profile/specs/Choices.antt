@@ -1,19 +1,20 @@
--- The data sources of a plan as it keeps them.
+-- How a plan stores its data sources: the built-in source, and the position of the rewrites in the plan's list.
 use Rattle.std.specs.Prelude.{ℕ, ◌<◌, List, [], map, Option, None, Some, get_or, IfSome}
 use Rattle.config_text.specs.declared.config.CustomSource.{CustomSource}
 use Rattle.config_text.specs.declared.config.Rewrite.{Rewrite}
 use Rattle.file_profile.specs.declared.asked.Choice.{Choice}
 use Rattle.file_profile.specs.Sources.{Chosen}
 
--- the rewrites at a place, and none where there is no place
+-- the rewrites at a position of the list, and none if there is no position
 abbrev pub rewrites_at : List (List Rewrite) → Option ℕ → List Rewrite
 rewrites_at made None = []
 rewrites_at made (Some place) = get_or made place []
 
+-- The data source of a choice, with its rewrites.
 abbrev pub chosen_in : List (List Rewrite) → Choice → Chosen
 chosen_in made c = record { base = c.base; rewrites = rewrites_at made c.rewrites }
 
--- the place of its rewrites is one of these
+-- the position of its rewrites is below this count
 abbrev pub IsChoice : ℕ → Choice → Type 0
 IsChoice count c = IfSome c.rewrites (λ place. place < count)
 
@@ -21,6 +22,6 @@ IsChoice count c = IfSome c.rewrites (λ place. place < count)
 abbrev pub rewrite_lists : List CustomSource → List (List Rewrite)
 rewrite_lists customs = map (λ (c : CustomSource). c.rewrites) customs
 
--- a custom data source as one that is asked
+-- the data source of a run that a custom data source is
 abbrev pub as_chosen : CustomSource → Chosen
 as_chosen c = record { base = c.base; rewrites = c.rewrites }

@@ -1,4 +1,4 @@
--- The claims of a data source on a file, and on the debug file beside it.
+-- The claims of a data source on a file, and on its debug file.
 use Rattle.std.specs.Prelude.{ℕ, ◌-◌, nat_lt, List, [], ◌∷◌, ◌++◌, length, Option, None, Some, Result, Ok, Err, if◌then◌else◌}
 use Rattle.size_core.specs.declared.fault.BadFile.{BadFile}
 use Rattle.size_core.specs.declared.source.Source.{Source}
@@ -38,14 +38,16 @@ followed_by (Err answer) others = Err answer
 abbrev pub claims_beside : Source → List ℕ → Binary → Binary → Result (List LabelledClaim) OpenedAnswer
 claims_beside source name binary debug = followed_by (of_file 2 (debug_claims_of source debug)) (of_file 1 (claims_of source name binary))
 
--- the claims of a data source on a file, and on the debug file beside it, if there is one
+-- the claims of a data source on a file, and on its debug file, if there is one
 abbrev pub claims_with : Source → List ℕ → Binary → Option Binary → Result (List LabelledClaim) OpenedAnswer
 claims_with source name binary None = of_file 1 (claims_of source name binary)
 claims_with source name binary (Some debug) = claims_beside source name binary debug
 
+-- The claims of a data source on an opened file, which may have a debug file.
 abbrev pub claims_on : OpenedFile → Source → Result (List LabelledClaim) OpenedAnswer
 claims_on f source = claims_with source f.name f.binary f.debug
 
+-- One item before the others, unless these end with a fault.
 abbrev pub before_said : {X : Type 0} → X → Result (List X) OpenedAnswer → Result (List X) OpenedAnswer
 before_said x (Ok xs) = Ok (x ∷ xs)
 before_said x (Err answer) = Err answer

@@ -19,6 +19,7 @@ of_claims i (claims.Bad bad) = of_opened.Bad i bad
 of_claims i claims.TooManyClaims = of_opened.TooManyClaims
 of_claims i claims.NoMemory = of_opened.NoMemory
 
+-- How an opened file ends that the rollup refuses: as one whose mapped size is too large.
 abbrev pub of_rollup : RollupAnswer → OpenedAnswer
 of_rollup rollup.TooManyBytes = of_opened.MappedTooLarge
 of_rollup rollup.MappedTooLarge = of_opened.MappedTooLarge
@@ -31,12 +32,14 @@ of_file_alone of_opened.TooManyClaims = TooManyClaims
 of_file_alone of_opened.MappedTooLarge = MappedTooLarge
 of_file_alone of_opened.NoMemory = NoMemory
 
+-- How a file with a debug file ends, by how the opened file ends.
 abbrev pub of_file_pair : OpenedAnswer → PairAnswer
 of_file_pair (of_opened.Bad i bad) = of_pair.Bad i bad
 of_file_pair of_opened.TooManyClaims = of_pair.TooManyClaims
 of_file_pair of_opened.MappedTooLarge = of_pair.MappedTooLarge
 of_file_pair of_opened.NoMemory = of_pair.NoMemory
 
+-- How the explanation of a location ends, by how the opened file ends.
 abbrev pub of_file_place : OpenedAnswer → PlaceAnswer
 of_file_place (of_opened.Bad i bad) = of_place.Bad bad
 of_file_place of_opened.TooManyClaims = of_place.TooManyClaims

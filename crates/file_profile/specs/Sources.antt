@@ -6,7 +6,7 @@ use Rattle.size_core.specs.SourceNames.{source_named as built_in}
 use Rattle.config_text.specs.declared.config.CustomSource.{CustomSource}
 use Rattle.config_text.specs.declared.config.Rewrite.{Rewrite}
 
--- a data source that a run asks: whose claims it has, and the rewrites of its labels; a built-in one has no rewrites
+-- a data source of a run: the built-in source whose claims it has, and the rewrites of its labels (none if built in)
 pub record Chosen : Type 0 where
   pub base : Source
   pub rewrites : List Rewrite
@@ -17,6 +17,7 @@ custom_named [] name = None
 custom_named (c ∷ customs) name =
     if bytes_eq c.name name then Some (record { base = c.base; rewrites = c.rewrites }) else custom_named customs name
 
+-- The built-in data source, if there is one, or else the custom one.
 abbrev pub or_custom : Option Source → Option Chosen → Option Chosen
 or_custom None custom = custom
 or_custom (Some base) custom = Some (record { base = base; rewrites = [] })

@@ -31,6 +31,7 @@ abbrev pub as_view : Binary → Result (List SourceView) OpenedAnswer → Result
 as_view binary (Ok views) = Ok (view_of binary views)
 as_view binary (Err answer) = Err answer
 
+-- What the data sources say of an opened file, or how it ends.
 abbrev pub opened_view : ℕ → OpenedFile → List Chosen → Result FileView OpenedAnswer
 opened_view limit f sources = as_view f.binary (views_of limit f sources)
 
@@ -63,7 +64,7 @@ unfoldable pub viewed : ℕ → ℕ → List ℕ → List ℕ → List Chosen �
 viewed mapped limit name file sources = if_opened (opened file)
     (λ binary. refused_as of_file_alone (opened_viewed mapped limit (alone name binary) sources))
 
--- a call that went well or failed answers so; want of memory is free
+-- The result of a call is this one, up to running out of memory.
 abbrev pub Answers : {X : Type 0} → Result (Unit {0}) ProfileAnswer → Result X ProfileAnswer → Type 0
 Answers (Ok u) answer = IsOk answer
 Answers (Err NoMemory) answer = Unit {0}
@@ -71,6 +72,7 @@ Answers (Err (Bad bad)) answer = answer ≡ Err (Bad bad)
 Answers (Err TooManyClaims) answer = answer ≡ Err TooManyClaims
 Answers (Err MappedTooLarge) answer = answer ≡ Err MappedTooLarge
 
+-- The outcome of a call is this one, up to running out of memory.
 abbrev pub OpenedAnswers : {X : Type 0} → Result (Unit {0}) OpenedAnswer → Result X OpenedAnswer → Type 0
 OpenedAnswers (Ok u) answer = IsOk answer
 OpenedAnswers (Err of_opened.NoMemory) answer = Unit {0}

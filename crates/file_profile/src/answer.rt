@@ -44,7 +44,7 @@ pub enum PairAnswer {
     NoMemory,
 }
 
-/// Why a place of a file isn't explained.
+/// Why a location of a file isn't explained.
 #[derive(Clone, Copy, Debug, PartialEq, Eq, Error)]
 pub enum PlaceAnswer {
     /// The first fault of the file, or of a data source on it.
@@ -106,7 +106,7 @@ impl From<RollupAnswer> for OpenedAnswer {
 impl OpenedAnswer {
     ghost use Rattle.file_profile.specs.Reasons.{of_claims};
 
-    /// The answer of the claims on a file of this number.
+    /// The result for a file of this number, if its claims ended so.
     pub fn of_claims(number: u32, answer: ClaimAnswer) -> OpenedAnswer
         ensures { result ≡ of_claims number answer }
     {

@@ -37,7 +37,7 @@ impl<T: Drop> From<AllocFailed<T>> for PlanAnswer {
     }
 }
 
-/// A data source that is asked: whose claims it has, and the place of its rewrites.
+/// A data source of a run: the built-in source whose claims it has, and the position of its rewrites.
 #[derive(Clone, Copy, Debug)]
 pub struct Choice {
     pub base: Source,
@@ -86,7 +86,7 @@ impl Plan {
         }
     }
 
-    /// How many data sources are asked.
+    /// The number of data sources in `-d`.
     pub fn len(&self) -> usize
         ensures { result ≡ length self.now.sources }
     {

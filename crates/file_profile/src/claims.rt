@@ -40,7 +40,7 @@ fn rewritten_number(
     pool.intern(&text)
 }
 
-// The numbers of the labels of another pool, each rewritten once.
+// Rewrites each label of `labels` once and adds it to `pool`. Returns the numbers that the rewritten labels have there.
 fn rewritten_numbers(
     alloc: Global,
     rewrites: &Rewrites,
@@ -95,7 +95,7 @@ fn own_claims(
     }
 }
 
-// The answer where the debug file's claims alone pass the limit: a fault of the file itself comes before that.
+// The result if the debug file's claims alone exceed the limit: a fault of the file itself comes before that.
 fn past_limit(
     alloc: Global,
     subject: &Subject<'_, '_, '_>,
@@ -140,7 +140,7 @@ fn shown_claims(
     }
 }
 
-// Claims, and others behind them.
+// The first claims, and the others after them.
 fn followed_by(mut first: Vec<Claim>, mut others: Vec<Claim>) -> Result<Vec<Claim>, NoMemory>
     ensures { IfOk result (λ v. v.items ≡ first.items ++ others.items) }
 {

@@ -1,4 +1,4 @@
-//! What the data sources of a plan say of a place of a file.
+//! The explanation of one location of a file by the data sources of a plan.
 
 ghost use Rattle.std.specs.Prelude.{◌≡◌, ◌<◌, ◌^◌, ◌++◌, ◌∷◌, [], ℕ, length, slice_get, Err, IfOk, IfSome, IsErrOf, IsOkAnd, IsTrue, OnOk};
 ghost use Rattle.size_core.specs.declared.fault.BadFile.{BadFile as BadFileSpec};
@@ -17,14 +17,14 @@ use place_explain::{Explained, PlaceSource, explain_source, is_inside, rewrites_
 use size_core::{Bytes, LabelPool, Limits, Names, NoMemory, Place, Source, Text};
 use std::alloc::Global;
 
-/// What a data source says of a place before labels are rewritten, and how many claims it has.
+/// The explanation by one data source before labels are rewritten, and the number of its claims.
 #[derive(Drop)]
 pub struct Said {
     pub explained: Explained,
     pub claims: u64,
 }
 
-// What a built-in data source says of a place, its labels by the numbers of the pool.
+// The explanation of a location by a built-in data source. Labels are numbers of the pool.
 fn said_in(
     alloc: Global,
     base: Source,
@@ -57,7 +57,7 @@ fn said_in(
     Ok(Said { explained, claims })
 }
 
-// What a built-in data source says of a place. Its claims and their labels are let go here.
+// The explanation of a location by a built-in data source. Its claims and their labels are dropped here.
 fn said_by(
     alloc: Global,
     base: Source,
@@ -94,7 +94,7 @@ fn rewritten_label(alloc: Global, plan: &Plan, i: usize, label: Bytes) -> Result
     }
 }
 
-// What data source `i` of the plan says of a place, under the name by which it is asked.
+// The explanation of a location by data source `i` of the plan, under the data source's name in `-d`.
 fn named(
     alloc: Global,
     plan: &Plan,
@@ -139,7 +139,7 @@ fn explain_all(
     ensures { ExplainsOpened result
         (places_said limit place.now shown subject.now (named_sources names.now plan.now.sources)) }
 {
-    // What is said before labels are rewritten is what is asked, but for the label.
+    // The explanation before labels are rewritten is the wanted one, except for the label of the location.
     rewrites_the_label_alone();
     let mut all = Vec::new(alloc);
     let mut left = limit;
@@ -152,7 +152,7 @@ fn explain_all(
     Ok(all)
 }
 
-// What the data sources of the plan, asked under these names, say of a place of a file that was opened.
+// The explanation of a location of an opened file by the data sources of the plan, with these names.
 fn explain_opened(
     alloc: Global,
     plan: &Plan,
@@ -176,8 +176,9 @@ fn explain_opened(
     Ok(said)
 }
 
-/// What the data sources of the plan, asked under these names, say of a place of the file of this name: each its label,
-/// and the claims that cover the place, of which a `shown` above 0 gives the first and so many further ones.
+/// Explains a location of the file of this name by the data sources of the plan, with these names: for each data source
+/// the label of the location and the claims that cover it. A `shown` above 0 keeps the first claim and so many further
+/// ones.
 ///
 /// # Errors
 ///

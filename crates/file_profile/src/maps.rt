@@ -23,7 +23,7 @@ pub struct Mapped {
     pub claims: u64,
 }
 
-// The maps of data source `i` of the plan. Its claims are let go here.
+// The maps of data source `i` of the plan. Its claims are dropped here.
 fn map_source(
     alloc: Global,
     plan: &Plan,

@@ -83,12 +83,12 @@ pub fn profile_pair<L: Ledger>(
     requires depth { total.old.depth ≡ length plan.now.sources }
     requires lengths { total.old.lengths + length file.now ≤ 2 ^ 62 }
 
-    // The first of the two files' faults and limits decides, want of memory aside.
+    // The result is the first fault or exceeded limit of the two files, if memory doesn't run out.
     ensures answer { PairAnswers result
         (pair_viewed total.old.mapped limits.now.claims name.now file.now debug.now plan.now.sources) }
     ensures unchanged { OnErr result (total.new ≡ total.old) }
 
-    // The paths of which a test holds, as that a path is this one or begins so, grow by the file's bytes that have one.
+    // For every set of paths (`test`), their sizes grow by the bytes of the file whose path is in the set.
     ensures file { OnOk result ((f : FileViewSpec) (test : List (List ℕ) → Bool)
         → pair_viewed total.old.mapped limits.now.claims name.now file.now debug.now plan.now.sources ≡ Ok f
         → file_where test total.new.rows

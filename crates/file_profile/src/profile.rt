@@ -21,7 +21,7 @@ use size_core::{LabelPool, Limits, NoMemory, Steps};
 use std::alloc::Global;
 use std::sync::ledger::Ledger;
 
-// Which labels a pattern is found in; each label is asked once.
+// Whether the pattern is found in each label. Each label is tried once.
 fn marks_of(alloc: Global, pattern: &LabelPattern, pool: &LabelPool) -> Result<Vec<bool>, NoMemory>
     ensures { IfOk result (λ marks. marks.items ≡ map (is_found pattern.now) pool.now) }
 {

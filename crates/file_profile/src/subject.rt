@@ -1,4 +1,4 @@
-//! A file that is opened, and the debug file beside it.
+//! An opened file, and its debug file if there is one.
 
 ghost use Rattle.std.specs.Prelude.{◌≡◌, ◌<◌, ◌^◌, None, Some, length, IfOk};
 ghost use Rattle.std.specs.Option.{option_copied};

@@ -1,4 +1,4 @@
--- The debug section that a name finds.
+-- The debug section that is found by a name.
 use Rattle.std.proofs.Common.{◌≡◌, ℕ, true, false, List, [], ◌∷◌, refl}
 use Rattle.std.specs.Prelude.{find}
 use Rattle.macho_file.specs.Tables.{SectionRecord}

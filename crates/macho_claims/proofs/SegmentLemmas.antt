@@ -1,4 +1,4 @@
--- Segments, and the loads among them.
+-- Segments, and the segments that are loads.
 use Rattle.std.proofs.Common.{◌≡◌, ℕ, zero, suc, ◌+◌, ◌^◌, ◌≤◌, List, [], ◌∷◌, ◌++◌, length, Option, Some, slice_get, refl, sym, ap, ◌∙◌, subst, arith, append_assoc}
 use Rattle.std.specs.List.{flat_map}
 use Rattle.std.specs.Option.{option_and_then, option_to_list}
@@ -11,7 +11,7 @@ use Rattle.macho_file.specs.Tables.{SegmentRecord, segments}
 use Rattle.macho_file.specs.WellFormed.{HasAddresses, IsWellFormed}
 use Rattle.macho_claims.specs.Loads.{loads_of, segment_load, slot_count, slot_load}
 
--- those of each segment of a well-formed file end by 2^64
+-- the addresses of each segment of a well-formed file end by 2^64
 pub addresses_end : (file : List ℕ) (k : ℕ) (s : SegmentRecord) → IsWellFormed file → slice_get (segments file) k ≡ Some s → s.vaddr + s.memsz ≤ 2 ^ 64
 addresses_end file k s known e =
     subst HasAddresses (get_or_from_slice_get (segments file) k s s e)

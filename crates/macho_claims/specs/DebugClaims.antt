@@ -7,9 +7,10 @@ use Rattle.dwarf_claims.specs.LineClaims.{lines_claims as claims_of_lines}
 use Rattle.dwarf_claims.specs.SetClaims.{compile_units_claims}
 use Rattle.macho_claims.specs.DebugSections.{debug_sections}
 
--- those of the compile units, and those of the lines of source text; each or its first fault
+-- The claims of the compile units, or the first fault. A fault of the debug sections comes first.
 unfoldable pub units_claims : List ℕ → Result (List LabelledClaim) BadFile
 units_claims file = debug_sections file >>= λ s. compile_units_claims s
 
+-- The claims of the source lines, or the first fault. A fault of the debug sections comes first.
 unfoldable pub lines_claims : List ℕ → Result (List LabelledClaim) BadFile
 lines_claims file = debug_sections file >>= λ s. claims_of_lines s

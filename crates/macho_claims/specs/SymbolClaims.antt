@@ -7,11 +7,12 @@ use Rattle.size_model.specs.declared.view.LabelledClaim.{LabelledClaim}
 use Rattle.macho_file.specs.Spans.{SpanRecord, spans}
 use Rattle.claim_sheet.specs.Reaches.{claim_on, in_memory, span}
 
--- the claim of a symbol's span: its addresses, under the symbol's name
+-- The claim of the span of a symbol: its addresses, under the name of the symbol (mach-o/nlist.h).
 unfoldable pub span_claim : SpanRecord → List LabelledClaim
 span_claim s = claim_on (in_memory (span 0 s.start s.len)) s.name
 
--- the claims of all spans, in the order of the table of symbols, or the first fault of the table or of a symbol
+-- The claims of all spans, in the order of the symbol table, or the first fault of the table or of a symbol
+-- (mach-o/nlist.h).
 unfoldable pub symbols_claims : List ℕ → Result (List LabelledClaim) BadFile
 symbols_claims file = do
   all ← spans file

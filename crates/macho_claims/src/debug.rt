@@ -1,4 +1,4 @@
-//! The debug sections of a file (DWARF 5, section 7.1), which stand in the segment `__DWARF`.
+//! Finding the debug sections of a file (DWARF 5, section 7.1). They are in the segment `__DWARF`.
 
 ghost use Rattle.std.specs.Prelude.{◌≡◌};
 ghost use Rattle.macho_file.specs.Shown.{section_shown};
@@ -16,13 +16,13 @@ fn is_debug(section: &MachoSection<'_>, name: &[u8]) -> bool
     section.segment == b"__DWARF".as_slice() && section.name == name
 }
 
-// The bytes of a section, and where they stand in the file.
+// Returns the bytes of a section, with their offset in the file.
 #[tactic(auto, unfolding(crate::specs::DebugSections::window_over))]
 fn window_over<'a>(file: &MachoFile<'a>, section: &MachoSection<'_>) -> Cursor<'a>
     requires { Fits file.now (section_shown section.now) }
     ensures { result ≡ window_over file.now (section_shown section.now) }
 {
-    // That the file is small.
+    // The file's length is below 2^63, and so is the sum in the invariant of the cursor.
     let bytes = file.bytes();
     if !section.in_file || section.size == 0 {
         return Cursor::new(0, &[]);
@@ -34,12 +34,12 @@ fn window_over<'a>(file: &MachoFile<'a>, section: &MachoSection<'_>) -> Cursor<'
     )
 }
 
-// Those of the first section of the name.
+// Returns the bytes of the first debug section that has the name.
 #[tactic(auto, using(crate::proofs::DebugLemmas::found_here, crate::proofs::DebugLemmas::found_later, crate::proofs::DebugLemmas::none_found))]
 fn window_named<'a>(file: &MachoFile<'a>, name: &[u8]) -> Cursor<'a>
     ensures { result ≡ window_named file.now name.now }
 {
-    // That each section fits.
+    // The bytes of each section of a well-formed file are in the file.
     let _ = file.bytes();
     for section in file.sections() {
         if is_debug(&section, name) {
@@ -68,8 +68,8 @@ fn sections_of<'a>(file: &MachoFile<'a>) -> Sections<'a>
     }
 }
 
-/// The debug sections of a file, found by their names in the segment `__DWARF`; a name means the first section that
-/// has it. SourceNotForFile at 0 for an object, whose debug sections aren't linked yet.
+/// Returns the debug sections of a file. A section is found by its name in the segment `__DWARF`: the first section
+/// that has the name. SourceNotForFile at 0 if the file is an object: its debug sections aren't linked yet.
 #[tactic(auto, unfolding(crate::specs::DebugSections::debug_sections))]
 pub fn debug_sections<'a>(file: &MachoFile<'a>) -> Result<Sections<'a>, BadFile>
     ensures { result ≡ debug_sections file.now }

@@ -1,7 +1,7 @@
-//! The claims of a file's header and of its load commands (`mach-o/loader.h`: `mach_header`).
+//! The claims of the Mach-O header and of the load commands (`mach-o/loader.h`: `mach_header`).
 
-ghost use Rattle.std.specs.Prelude.{◌≡◌, OnOk};
-ghost use Rattle.claim_sheet.specs.Sheets.{adding};
+ghost use Rattle.std.specs.Prelude.{◌≡◌};
+ghost use Rattle.claim_sheet.specs.Adds.{Adds};
 ghost use Rattle.macho_claims.specs.Claims.{commands_reach, header_claims, header_reach};
 
 use claim_sheet::{ClaimSheet, Reach, Wrap, span};
@@ -21,11 +21,10 @@ fn commands_reach(file: &MachoFile<'_>) -> Reach
     Reach::in_file(span(0, file.header_len(), len))
 }
 
-/// Adds the claims of the header and of the load commands behind it.
+/// Adds the claims of the header and of the load commands, which follow it.
 #[tactic(auto, using(claim_sheet::proofs::SheetLemmas::adding_more), unfolding(crate::specs::Claims::header_claims))]
 pub fn add_headers(file: &MachoFile<'_>, sheet: &mut ClaimSheet) -> Result<(), NoMemory>
-    ensures made { OnOk result (sheet.new ≡ adding sheet.old (header_claims file.now)) }
-    ensures kept { sheet.new.pool ≡ sheet.old.pool }
+    ensures { Adds result sheet.old sheet.new (header_claims file.now) }
 {
     sheet.add(header_reach(file), Wrap::Plain, b"[Mach-O Header]")?;
     sheet.add(commands_reach(file), Wrap::Plain, b"[Mach-O Load Commands]")

@@ -1,5 +1,5 @@
-//! What a Mach-O file claims, group by group: its loads, its sections, its link-edit parts, its headers, its
-//! symbols, and the units and lines of its debug sections.
+//! The claims of a Mach-O file (`mach-o/loader.h`, `mach-o/nlist.h`): those of its loads, its sections, its link-edit
+//! parts, its headers, its symbols and its debug sections.
 #![tactic(auto)]
 
 mod debug;
@@ -19,6 +19,3 @@ pub use load_claims::add_loads;
 pub use loads::{load_at, load_slots, loads_of};
 pub use sections::add_sections;
 pub use symbols::add_symbols;
-
-#[cfg(test)]
-mod tests;

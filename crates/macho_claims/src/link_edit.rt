@@ -1,7 +1,7 @@
-//! The claims of the parts that link-edit commands place.
+//! The claims of the link-edit parts: the tables whose offsets and lengths load commands say.
 
-ghost use Rattle.std.specs.Prelude.{◌≡◌, OnOk};
-ghost use Rattle.claim_sheet.specs.Sheets.{adding};
+ghost use Rattle.std.specs.Prelude.{◌≡◌};
+ghost use Rattle.claim_sheet.specs.Adds.{Adds};
 ghost use Rattle.macho_claims.specs.Claims.{link_edit_claims, part_claim, part_label, part_reach};
 
 use claim_sheet::{ClaimSheet, Reach, Wrap, span};
@@ -31,7 +31,7 @@ fn part_label(kind: LinkEdit) -> &'static [u8]
     }
 }
 
-// The bytes of a part, up to the end of a file of `len` bytes.
+// Returns the bytes of a part. Bytes after the end of a file of `len` bytes are left out.
 fn part_reach(len: u64, part: &LinkEditPart) -> Reach
     ensures { result ≡ part_reach len part.now }
 {
@@ -41,17 +41,15 @@ fn part_reach(len: u64, part: &LinkEditPart) -> Reach
 
 #[tactic(auto, unfolding(crate::specs::Claims::part_claim))]
 fn add_part(len: u64, part: &LinkEditPart, sheet: &mut ClaimSheet) -> Result<(), NoMemory>
-    ensures made { OnOk result (sheet.new ≡ adding sheet.old (part_claim len part.now)) }
-    ensures kept { sheet.new.pool ≡ sheet.old.pool }
+    ensures { Adds result sheet.old sheet.new (part_claim len part.now) }
 {
     sheet.add(part_reach(len, part), Wrap::Plain, part_label(part.kind))
 }
 
-/// Adds the claims of the parts that link-edit commands place, in the order of the commands. A part ends with the file.
+/// Adds the claims of the link-edit parts, in the order of the commands. Bytes after the end of the file are left out.
 #[tactic(auto, using(claim_sheet::proofs::LoopLemmas::list_goes, claim_sheet::proofs::ListLemmas::none_left), unfolding(crate::specs::Claims::link_edit_claims))]
 pub fn add_link_edit(file: &MachoFile<'_>, sheet: &mut ClaimSheet) -> Result<(), NoMemory>
-    ensures made { OnOk result (sheet.new ≡ adding sheet.old (link_edit_claims file.now)) }
-    ensures kept { sheet.new.pool ≡ sheet.old.pool }
+    ensures { Adds result sheet.old sheet.new (link_edit_claims file.now) }
 {
     let len = file.bytes().len() as u64;
     for part in file.link_edit_parts() {

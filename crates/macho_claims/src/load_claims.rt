@@ -1,8 +1,8 @@
 //! The claims of loads.
 
-ghost use Rattle.std.specs.Prelude.{◌≡◌, OnOk};
+ghost use Rattle.std.specs.Prelude.{◌≡◌};
 ghost use Rattle.macho_file.specs.Shown.{segment_shown};
-ghost use Rattle.claim_sheet.specs.Sheets.{adding};
+ghost use Rattle.claim_sheet.specs.Adds.{Adds};
 ghost use Rattle.macho_claims.specs.Claims.{load_claim, load_claims, or_if_empty};
 
 use crate::loads::segment_load;
@@ -10,7 +10,7 @@ use claim_sheet::{ClaimSheet, Reach, Wrap};
 use macho_file::{MachoFile, MachoSegment};
 use size_core::NoMemory;
 
-// The label, or the other one where it is empty.
+// Returns the label, or the other one if the label is empty.
 fn or_if_empty<'a>(label: &'a [u8], other: &'a [u8]) -> &'a [u8]
     ensures { result.now ≡ or_if_empty label.now other.now }
 {
@@ -27,8 +27,7 @@ fn add_load(
     wrap: Wrap,
     sheet: &mut ClaimSheet,
 ) -> Result<(), NoMemory>
-    ensures made { OnOk result (sheet.new ≡ adding sheet.old (load_claim wrap len (segment_shown segment.now))) }
-    ensures kept { sheet.new.pool ≡ sheet.old.pool }
+    ensures { Adds result sheet.old sheet.new (load_claim wrap len (segment_shown segment.now)) }
 {
     match segment_load(segment) {
         None => Ok(()),
@@ -42,8 +41,7 @@ fn add_load(
 /// Adds the claims of the loads, in order.
 #[tactic(auto, using(claim_sheet::proofs::LoopLemmas::list_goes, claim_sheet::proofs::ListLemmas::none_left), unfolding(crate::specs::Claims::load_claims))]
 pub fn add_loads(file: &MachoFile<'_>, wrap: Wrap, sheet: &mut ClaimSheet) -> Result<(), NoMemory>
-    ensures made { OnOk result (sheet.new ≡ adding sheet.old (load_claims wrap file.now)) }
-    ensures kept { sheet.new.pool ≡ sheet.old.pool }
+    ensures { Adds result sheet.old sheet.new (load_claims wrap file.now) }
 {
     let len = file.bytes().len() as u64;
     for segment in file.segments() {

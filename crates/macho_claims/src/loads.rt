@@ -1,4 +1,4 @@
-//! The loads of a file.
+//! The loads of a file: the parts that are mapped at virtual addresses.
 
 ghost use Rattle.std.specs.Prelude.{◌≡◌, ◌+◌, ◌^◌, ◌≤◌, ◌<◌, ◌++◌, All, IfOk, IfSome, OnOk};
 ghost use Rattle.std.specs.Option.{option_to_list};
@@ -10,7 +10,7 @@ use macho_file::{MachoFile, MachoSegment};
 use size_core::{Load, NoMemory};
 use std::alloc::Global;
 
-/// The load of a segment, or None where its memory can never be touched (`maxprot` is 0).
+/// Returns the load of a segment, or None if its memory can never be accessed (`maxprot` is 0).
 #[tactic(auto, unfolding(crate::specs::Loads::segment_load))]
 pub fn segment_load(segment: &MachoSegment<'_>) -> Option<Load>
     ensures load { result ≡ segment_load (segment_shown segment.now) }
@@ -28,7 +28,7 @@ pub fn segment_load(segment: &MachoSegment<'_>) -> Option<Load>
     })
 }
 
-/// How many slots there are in which a load may stand: the segments.
+/// Returns the number of slots: the segments. Each may be a load.
 #[tactic(auto, unfolding(crate::specs::Loads::slot_count))]
 pub fn load_slots(file: &MachoFile<'_>) -> u32
     ensures { result ≡ slot_count file.now }
@@ -36,19 +36,19 @@ pub fn load_slots(file: &MachoFile<'_>) -> u32
     file.segment_count()
 }
 
-/// The load in a slot, or None where none stands there. It walks the load commands up to the segment.
+/// Returns the load of a slot, or None if the segment is no load. It walks the load commands up to the segment.
 #[tactic(auto, using(crate::proofs::SegmentLemmas::addresses_end), unfolding(crate::specs::Loads::slot_count, crate::specs::Loads::slot_load))]
 pub fn load_at(file: &MachoFile<'_>, i: u32) -> Option<Load>
     requires { i < slot_count file.now }
     ensures load { result ≡ slot_load file.now i }
     ensures fits { IfSome result IsLoad }
 {
-    // What is known of the whole file tells that the addresses of each segment end by 2^64.
+    // The checks of the file say that the addresses of each segment end by 2^64.
     let _ = file.bytes();
     segment_load(&file.segment(i))
 }
 
-// Adds the load of a segment, where it is one.
+// Pushes the load of a segment, if it is a load.
 fn push_load(loads: &mut Vec<Load>, segment: &MachoSegment<'_>) -> Result<(), NoMemory>
     requires addresses { segment.now.vaddr + segment.now.memsz ≤ 2 ^ 64 }
     requires all { All IsLoad loads.old.items }
@@ -62,14 +62,14 @@ fn push_load(loads: &mut Vec<Load>, segment: &MachoSegment<'_>) -> Result<(), No
     Ok(())
 }
 
-/// All loads, in the order of their slots. It walks the load commands once.
+/// Returns all loads, in the order of the slots. It walks the load commands once.
 #[tactic(auto, using(crate::proofs::SegmentLemmas::loads_begin, crate::proofs::SegmentLemmas::loads_go, crate::proofs::SegmentLemmas::loads_end))]
 pub fn loads_of(alloc: Global, file: &MachoFile<'_>) -> Result<Vec<Load>, NoMemory>
     ensures are { IfOk result (λ v. v.items ≡ loads_of file.now) }
     ensures fit { IfOk result (λ v. All IsLoad v.items) }
 {
     let mut loads = Vec::new(alloc);
-    // What is known of the whole file tells that the addresses of each segment end by 2^64.
+    // The checks of the file say that the addresses of each segment end by 2^64.
     let _ = file.bytes();
     for segment in file.segments() {
         push_load(&mut loads, &segment)?;

@@ -1,8 +1,8 @@
-//! The claims of sections.
+//! The claims of sections (`mach-o/loader.h`: `section`, `section_64`).
 
-ghost use Rattle.std.specs.Prelude.{◌≡◌, IfOk, OnOk};
+ghost use Rattle.std.specs.Prelude.{◌≡◌, IfOk};
 ghost use Rattle.macho_file.specs.Shown.{section_shown};
-ghost use Rattle.claim_sheet.specs.Sheets.{adding};
+ghost use Rattle.claim_sheet.specs.Adds.{Adds};
 ghost use Rattle.macho_claims.specs.Claims.{section_claim, section_claims, section_label, section_reach};
 
 use claim_sheet::{ClaimSheet, Reach, Wrap, append, span};
@@ -10,7 +10,7 @@ use macho_file::{MachoFile, MachoSection};
 use size_core::NoMemory;
 use std::alloc::Global;
 
-// What the claim of a section covers.
+// Returns what the claim of a section covers.
 #[tactic(auto, unfolding(crate::specs::Claims::section_reach))]
 fn section_reach(section: &MachoSection<'_>) -> Reach
     ensures { result ≡ section_reach (section_shown section.now) }
@@ -23,7 +23,7 @@ fn section_reach(section: &MachoSection<'_>) -> Reach
     }
 }
 
-// The names of the segment and the section.
+// Returns the label of a section: the names of its segment and its own, with a comma between them.
 fn section_label(alloc: Global, section: &MachoSection<'_>) -> Result<Vec<u8>, NoMemory>
     ensures { IfOk result (λ v. v.items ≡ section_label (section_shown section.now)) }
 {
@@ -41,14 +41,13 @@ fn add_section(
     wrap: Wrap,
     sheet: &mut ClaimSheet,
 ) -> Result<(), NoMemory>
-    ensures made { OnOk result (sheet.new ≡ adding sheet.old (section_claim wrap (section_shown section.now))) }
-    ensures kept { sheet.new.pool ≡ sheet.old.pool }
+    ensures { Adds result sheet.old sheet.new (section_claim wrap (section_shown section.now)) }
 {
     let label = section_label(alloc, section)?;
     sheet.add(section_reach(section), wrap, &label)
 }
 
-/// Adds the claims of the sections, over all segments in order.
+/// Adds the claims of the sections of all segments, in order.
 #[tactic(auto, using(claim_sheet::proofs::LoopLemmas::list_goes, claim_sheet::proofs::ListLemmas::none_left), unfolding(crate::specs::Claims::section_claims))]
 pub fn add_sections(
     alloc: Global,
@@ -56,8 +55,7 @@ pub fn add_sections(
     wrap: Wrap,
     sheet: &mut ClaimSheet,
 ) -> Result<(), NoMemory>
-    ensures made { OnOk result (sheet.new ≡ adding sheet.old (section_claims wrap file.now)) }
-    ensures kept { sheet.new.pool ≡ sheet.old.pool }
+    ensures { Adds result sheet.old sheet.new (section_claims wrap file.now) }
 {
     for section in file.sections() {
         add_section(alloc, &section, wrap, sheet)?;

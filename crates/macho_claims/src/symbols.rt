@@ -1,11 +1,11 @@
 //! The claims of symbols (`mach-o/nlist.h`).
 
-ghost use Rattle.std.specs.Prelude.{◌≡◌, Ok, Err, IfOk, OnOk, IsErrOf, map};
+ghost use Rattle.std.specs.Prelude.{◌≡◌, Ok, Err, IfOk, IsErrOf, map};
 ghost use Rattle.std.specs.List.{flat_map};
 ghost use Rattle.size_core.specs.declared.fault.BadFile.{BadFile as BadFileSpec};
 ghost use Rattle.macho_file.specs.Shown.{span_shown};
 ghost use Rattle.macho_file.specs.Spans.{spans};
-ghost use Rattle.claim_sheet.specs.Sheets.{adding, adding_read};
+ghost use Rattle.claim_sheet.specs.Adds.{Adds, AddsRead};
 ghost use Rattle.macho_claims.specs.SymbolClaims.{span_claim, symbols_claims};
 
 use claim_sheet::{ClaimSheet, Reach, Stop, Wrap, span};
@@ -13,7 +13,7 @@ use macho_file::{MachoFile, SpanAnswer, SymbolSpan};
 use size_core::NoMemory;
 use std::alloc::Global;
 
-// The spans of the file's symbols.
+// Returns the spans of the symbols: a symbol ends where the next one or its section ends.
 fn spans_of<'a>(alloc: Global, file: &MachoFile<'a>) -> Result<Vec<SymbolSpan<'a>>, Stop>
     ensures spans { IfOk result (λ v. spans file.now ≡ Ok (map span_shown v.items)) }
     ensures bad { (bad : BadFileSpec) → IsErrOf result (Stop.Bad bad) → spans file.now ≡ Err bad }
@@ -27,8 +27,7 @@ fn spans_of<'a>(alloc: Global, file: &MachoFile<'a>) -> Result<Vec<SymbolSpan<'a
 
 #[tactic(auto, unfolding(crate::specs::SymbolClaims::span_claim))]
 fn add_span(symbol: &SymbolSpan<'_>, sheet: &mut ClaimSheet) -> Result<(), NoMemory>
-    ensures made { OnOk result (sheet.new ≡ adding sheet.old (span_claim (span_shown symbol.now))) }
-    ensures kept { sheet.new.pool ≡ sheet.old.pool }
+    ensures { Adds result sheet.old sheet.new (span_claim (span_shown symbol.now)) }
 {
     let addresses = span(0, symbol.start, symbol.len);
     sheet.add(Reach::in_memory(addresses), Wrap::Plain, symbol.name)
@@ -37,8 +36,7 @@ fn add_span(symbol: &SymbolSpan<'_>, sheet: &mut ClaimSheet) -> Result<(), NoMem
 // Adds the claims of spans, in order.
 #[tactic(auto, using(claim_sheet::proofs::ListLemmas::shown_goes, claim_sheet::proofs::ListLemmas::shown_ends))]
 fn add_spans(spans: &[SymbolSpan<'_>], sheet: &mut ClaimSheet) -> Result<(), NoMemory>
-    ensures made { OnOk result (sheet.new ≡ adding sheet.old (flat_map span_claim (map span_shown spans.now))) }
-    ensures kept { sheet.new.pool ≡ sheet.old.pool }
+    ensures { Adds result sheet.old sheet.new (flat_map span_claim (map span_shown spans.now)) }
 {
     for symbol in spans {
         add_span(symbol, sheet)?;
@@ -46,13 +44,11 @@ fn add_spans(spans: &[SymbolSpan<'_>], sheet: &mut ClaimSheet) -> Result<(), NoM
     Ok(())
 }
 
-/// Adds the claims of the symbols' spans, in the order of the table of symbols. Bad is the first fault of the table or
-/// of a symbol, also of one that has no span.
+/// Adds the claims of the spans of the symbols, in the order of the symbol table. Bad is the first fault of the table
+/// or of a symbol. Symbols without a span may have faults too.
 #[tactic(auto, unfolding(crate::specs::SymbolClaims::symbols_claims))]
 pub fn add_symbols(alloc: Global, file: &MachoFile<'_>, sheet: &mut ClaimSheet) -> Result<(), Stop>
-    ensures made { OnOk result (adding_read sheet.old (symbols_claims file.now) ≡ Ok sheet.new) }
-    ensures bad { (bad : BadFileSpec) → IsErrOf result (Stop.Bad bad) → symbols_claims file.now ≡ Err bad }
-    ensures kept { sheet.new.pool ≡ sheet.old.pool }
+    ensures { AddsRead result sheet.old sheet.new (symbols_claims file.now) }
 {
     let spans = spans_of(alloc, file)?;
     add_spans(&spans, sheet)?;

@@ -1,4 +1,4 @@
--- The checks of sections and of commands, one after another, as loops make them.
+-- The checks of sections and of commands, as loops make them.
 use Rattle.std.proofs.Common.{◌≡◌, ℕ, suc, ◌+◌, ◌-◌, ◌<◌, ◌≤◌, List, [], ◌∷◌, Ok, Err, refl, ◌∙◌, arith}
 use Rattle.size_core.specs.declared.fault.BadFile.{BadFile}
 use Rattle.size_core.specs.Checks.{◌>>◌, first_of}
@@ -9,7 +9,7 @@ use Rattle.macho_file.specs.Tables.{section_at, sections_from}
 use Rattle.macho_file.specs.Checks.{command_checks, section_fits}
 use Rattle.macho_file.specs.Known.{commands_fit, sections_fit}
 
--- the first section of a row, and the others
+-- The first of the remaining sections, and the others.
 pub sections_step : (file : List ℕ) (form : Encoding) (at n i : ℕ) → i < n
     → sections_from file form at (n - i) ≡ section_at file form at ∷ sections_from file form (at + section_len form) (n - (i + 1))
 unfolding sections_from
@@ -30,7 +30,7 @@ sections_bad file form at n i e lt bad = rw (sections_step file form at n i lt, 
 pub sections_end : (file : List ℕ) (form : Encoding) (at n i : ℕ) → n ≤ i → sections_fit file form at (n - i) ≡ Ok tt
 sections_end file form at n i le = rw (sections_none file form at n i le) refl
 
--- the first command of a row, and the others
+-- The first of the remaining commands, and the others.
 pub commands_step : (file : List ℕ) (place n i : ℕ) → i < n
     → commands_from file place (n - i) ≡ command_at file place ∷ commands_from file (place + (command_at file place).size) (n - (i + 1))
 unfolding commands_from

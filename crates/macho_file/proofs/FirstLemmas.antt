@@ -1,4 +1,4 @@
--- The first symbol at a section and a value, by the index.
+-- The first symbol with a section and a value, by the index.
 use Rattle.std.proofs.Common.{◌≡◌, ◌≢◌, ℕ, zero, suc, ◌+◌, ◌*◌, ◌^◌, ◌<◌, ◌≤◌, ◌==◌, Bool, true, false, not, Some, List, [], ◌∷◌, length, get_or, take, slice_get, refl, sym, ap, ◌∙◌, subst, ltb, arith, inl, inr}
 use Rattle.std.specs.List.{list_any}
 use Rattle.std.specs.List.Sorted.{IsPartitionPoint}
@@ -12,13 +12,13 @@ use Rattle.macho_file.specs.Symbols.{SymbolRecord}
 use Rattle.macho_file.specs.Spans.{is_at}
 use Rattle.macho_file.specs.Index.{AreAddresses, IsIndex, key_of, position}
 
--- a symbol's value is an address
+-- The value of a symbol is an address.
 pub address : (all : List SymbolRecord) (i : ℕ) (s : SymbolRecord) → AreAddresses all → slice_get all i ≡ Some s → s.value < 2 ^ 64
 address all i s small at =
     let P : SymbolRecord → Type 0 = λ s. s.value < 2 ^ 64 in
     subst P (get_or_from_slice_get all i s s at) (small.small i s (slice_get_within all i s at))
 
--- two positions are one where section and value are
+-- Two equal positions have the same section and value.
 same_place : (a b x y : ℕ) → x < 2 ^ 64 → y < 2 ^ 64 → a * 2 ^ 64 + x ≡ b * 2 ^ 64 + y → (a ≡ b) × (x ≡ y)
 same_place a b x y lx ly e = (omega arith, omega arith)
 
@@ -30,7 +30,7 @@ at_position s t ls lt e =
 pub position_at : (s t : SymbolRecord) → is_at s t ≡ true → position t ≡ position s
 position_at s t e = grind (arith, common_steps)
 
--- the key of a symbol stands at some place of the index
+-- The key of a symbol is in the index.
 pub key_there : (all : List SymbolRecord) (keys : List Key) → IsIndex all keys → (d : Key) (i : ℕ) (s : SymbolRecord) → slice_get all i ≡ Some s
     → (r : ℕ) × (r < length keys) × (get_or keys r d ≡ key_of i s)
 key_there all keys index d i s at =
@@ -64,7 +64,7 @@ below a b h = grind (arith, common_steps)
 
 module _ (all : List SymbolRecord) (keys : List Key) (i : ℕ) (s : SymbolRecord) (first : ℕ) (d : Key) (index : IsIndex all keys) (small : AreAddresses all) (at : slice_get all i ≡ Some s)
     (point : IsPartitionPoint (λ (k : Key). ltb k.position (position s) ≡ true) (λ (k : Key). ltb k.position (position s) ≡ false) keys first) where
-  -- a key at the position or behind it stands no further in front
+  -- A key at the position or above it isn't before the first key at the position.
   not_before : (j : ℕ) (t : SymbolRecord) (r : ℕ) → get_or keys r d ≡ key_of j t → position s ≤ position t → first ≤ r
   not_before j t r is le = elim (cases_lt r first) [
     | inl lt ↦ (let P : Key → Type 0 = λ k. ltb k.position (position s) ≡ true in
@@ -86,7 +86,7 @@ module _ (all : List SymbolRecord) (keys : List Key) (i : ℕ) (s : SymbolRecord
       let down : position s ≤ (get_or keys first d).position = at_least (get_or keys first d).position (position s) (point.1 first d (omega arith) first_below) in
       omega (arith, up, is, down)
 
-  -- no symbol at the position has a smaller number than the first key
+  -- No symbol at the position has a smaller number than the first key.
   number_least : (j : ℕ) (t : SymbolRecord) → slice_get all j ≡ Some t → position t ≡ position s → (get_or keys first d).number ≤ j
   number_least j t there same =
       let found = key_there all keys index d j t there in
@@ -112,7 +112,7 @@ module _ (all : List SymbolRecord) (keys : List Key) (i : ℕ) (s : SymbolRecord
       any_before (is_at s) all i n known.0 (omega (arith, le, other)) known.1
       (at_position s known.0 (address all i s small at) (address all n known.0 small known.1) here)
 
-  -- the first key at the position tells whether an earlier symbol stands there
+  -- The first key at the position decides whether an earlier symbol is there.
   pub first_decides : ((get_or keys first d).number == i) ≡ not (list_any (is_at s) (take i all))
   first_decides = elim (eqb_tells (get_or keys first d).number i) [
     | inl h ↦ rw (h.0, none_earlier h.1) refl

@@ -1,4 +1,4 @@
--- The index of symbols by their positions.
+-- The index of symbols by position.
 use Rattle.std.proofs.Common.{◌≡◌, ℕ, zero, suc, ◌+◌, ◌-◌, ◌^◌, ◌<◌, ◌≤◌, false, Option, Some, None, List, [], ◌∷◌, ◌++◌, length, map, get_or, drop, take, slice_get, refl, sym, ap, ◌∙◌, subst, arith, append_assoc}
 use Rattle.std.specs.Prelude.{All, Contains}
 use Rattle.std.specs.Option.{option_map}
@@ -15,7 +15,7 @@ use Rattle.macho_file.specs.Symbols.{SymbolRecord}
 use Rattle.macho_file.specs.Index.{AreAddresses, IsIndex, IsKeyIn, key_of, keys_from}
 use Rattle.macho_file.specs.Shown.{symbol_shown}
 
--- the keys of symbols, one after another
+-- The keys of symbols, one by one.
 shown_at : (xs : List MachoSymbol) (i : ℕ) (d : MachoSymbol) → i < length xs → get_or (map symbol_shown xs) i (symbol_shown d) ≡ symbol_shown (get_or xs i d)
 shown_at xs i d lt = get_or-map symbol_shown xs i d (symbol_shown d) lt
 
@@ -43,7 +43,7 @@ addresses_whole xs i le all =
     let past : length (map symbol_shown xs) ≤ i = omega (arith, length-map xs symbol_shown) in
     record { small = rw (take_all i (map symbol_shown xs) past) at all.small }
 
--- key k of them
+-- Key k of them.
 length-keys : (i : ℕ) (all : List SymbolRecord) → length (keys_from i all) ≡ length all
 length-keys i [] = refl
 length-keys i (s ∷ rest) = ap suc (length-keys (i + 1) rest)
@@ -73,7 +73,7 @@ keys_there all i s at =
     let found : slice_get (keys_from 0 all) i ≡ Some (key_of i s) = key_get 0 all i ∙ rw (at, same) refl in
     (i, slice_get_within (keys_from 0 all) i (key_of i s) found, get_or_from_slice_get (keys_from 0 all) i (key_of i s) (key_of i s) found)
 
--- they stand by number
+-- The keys rise by number.
 not_less : (m n : ℕ) → n ≤ m → is_lt (nat_cmp m n) ≡ false
 not_less m n le = grind (arith, common_steps)
 
@@ -83,7 +83,7 @@ keys_rise all k d low high =
     let next = (key_in all (k + 1) (get_or (keys_from 0 all) (k + 1) d) (slice_get-get_or (keys_from 0 all) (k + 1) d high)).0 in
     not_less (get_or (keys_from 0 all) (k + 1) d).number (get_or (keys_from 0 all) k d).number (omega (arith, here, next))
 
--- what ties between neighbours tell of keys that are further apart
+-- What the order of neighbours implies for keys that are further apart.
 module _ (keys : List Key) (rises : IsNonDecreasingBy (λ (k : Key). k.position) keys)
     (ties : (k : ℕ) (d : Key) → k + 1 < length keys → (get_or keys k d).position ≡ (get_or keys (k + 1) d).position → (get_or keys k d).number ≤ (get_or keys (k + 1) d).number) where
   far : (i n : ℕ) (d : Key) → i + n < length keys → (get_or keys i d).position ≡ (get_or keys (i + n) d).position → (get_or keys i d).number ≤ (get_or keys (i + n) d).number

@@ -1,4 +1,4 @@
--- The least greater value in a section, by the index.
+-- The next greater value in a section, by the index.
 use Rattle.std.proofs.Common.{◌≡◌, ◌≢◌, ℕ, zero, suc, ◌+◌, ◌*◌, ◌^◌, ◌<◌, ◌≤◌, Bool, true, false, Option, Some, None, List, [], ◌∷◌, length, map, get_or, slice_get, refl, ap, ◌∙◌, leb, arith, inl, inr}
 use Rattle.std.specs.List.Sorted.{IsPartitionPoint}
 use Rattle.std.proofs.lemmas.Grind.{common_steps}
@@ -13,7 +13,7 @@ use Rattle.macho_file.specs.Index.{AreAddresses, IsIndex, position}
 use Rattle.macho_file.specs.Shown.{symbol_shown}
 use Rattle.macho_file.proofs.FirstLemmas.{address, key_there}
 
--- no symbol is above
+-- No symbol is above.
 least_none : (s : SymbolRecord) (all : List SymbolRecord) → ((j : ℕ) (t : SymbolRecord) → slice_get all j ≡ Some t → is_above s t ≡ false) → least_above s all ≡ None
 unfolding least_above
 least_none s [] h = refl
@@ -21,7 +21,7 @@ least_none s (x ∷ xs) h =
     let here : is_above s x ≡ false = h 0 x refl in
     rw here (least_none s xs (λ j t at. h (suc j) t at))
 
--- no least value is under a bound of the values above
+-- A bound of the values above is at most the next greater value.
 AtLeast : ℕ → Option ℕ → Type 0
 AtLeast v o = (w : ℕ) → o ≡ Some w → v ≤ w
 
@@ -50,7 +50,7 @@ unfolding least_above AtLeast
 least_bound s v [] h w e = cc
 least_bound s v (x ∷ xs) h w e = least_step s x xs v w (is_above s x) refl (h 0 x refl) (least_bound s v xs (λ j t at. h (suc j) t at)) e
 
--- a symbol above, under which no other one above lies
+-- A symbol above whose value is the smallest.
 least_some : (s : SymbolRecord) (all : List SymbolRecord) (k : ℕ) (o : SymbolRecord) → slice_get all k ≡ Some o → is_above s o ≡ true
     → ((j : ℕ) (t : SymbolRecord) → slice_get all j ≡ Some t → is_above s t ≡ true → o.value ≤ t.value) → least_above s all ≡ Some o.value
 unfolding least_above
@@ -73,14 +73,14 @@ least_some s (x ∷ xs) (suc k) o at above h =
 above_is : (s t : SymbolRecord) → is_above s t ≡ true → (t.sect ≡ s.sect) × (s.value < t.value)
 above_is s t h = (grind (arith, common_steps), grind (arith, common_steps))
 
--- a value that is found is greater
+-- The value that is found is greater.
 pub is_greater : (s : SymbolRecord) (all : List SymbolRecord) (v : ℕ) → least_above s all ≡ Some v → s.value < v
 unfolding AtLeast
 is_greater s all v e =
     let more : s.value + 1 ≤ v = least_bound s (s.value + 1) all (λ j t at above. omega (arith, (above_is s t above).1)) v e in
     omega (arith, more)
 
--- a symbol of a slice as contracts see it
+-- A symbol of a slice as contracts see it.
 pub shown_get : (xs : List MachoSymbol) (i : ℕ) (d : MachoSymbol) → i < length (map symbol_shown xs) → slice_get (map symbol_shown xs) i ≡ Some (symbol_shown (get_or xs i d))
 shown_get xs i d lt =
     let within : i < length xs = omega (arith, length-map xs symbol_shown) in
@@ -102,9 +102,9 @@ module _ (all : List SymbolRecord) (keys : List Key) (s : SymbolRecord) (next : 
   past : (a b : ℕ) → leb a b ≡ false → b < a
   past a b h = grind (arith, common_steps)
 
-  -- a symbol above has its key at the next place or behind it
-  behind : (j : ℕ) (t : SymbolRecord) → slice_get all j ≡ Some t → is_above s t ≡ true → (r : ℕ) × (next ≤ r) × (r < length keys) × ((get_or keys r d).position ≡ position t)
-  behind j t at above =
+  -- The key of a symbol above is at the next position of the index or after it.
+  key_at_or_after : (j : ℕ) (t : SymbolRecord) → slice_get all j ≡ Some t → is_above s t ≡ true → (r : ℕ) × (next ≤ r) × (r < length keys) × ((get_or keys r d).position ≡ position t)
+  key_at_or_after j t at above =
       let found = key_there all keys index d j t at in
       let is : (get_or keys found.0 d).position ≡ position t = ap (λ (k : Key). k.position) found.2 in
       let parts = above_is s t above in
@@ -121,7 +121,7 @@ module _ (all : List SymbolRecord) (keys : List Key) (s : SymbolRecord) (next : 
   pub none_behind : length keys ≤ next → least_above s all ≡ None
   none_behind le = least_none s all
       (λ j t at. elim (cases_Bool (is_above s t)) [
-        | inl above ↦ (let there = behind j t at above in absurd (omega (arith, there.1, there.2, le)))
+        | inl above ↦ (let there = key_at_or_after j t at above in absurd (omega (arith, there.1, there.2, le)))
         | inr other ↦ other
       ])
 
@@ -140,7 +140,7 @@ module _ (all : List SymbolRecord) (keys : List Key) (s : SymbolRecord) (next : 
 
     least : (j : ℕ) (t : SymbolRecord) → slice_get all j ≡ Some t → is_above s t ≡ true → position o ≤ position t
     least j t there above =
-        let found = behind j t there above in
+        let found = key_at_or_after j t there above in
         omega (arith, position_is, found.3, index.rises next found.0 d found.1 found.2)
 
     pub next_here : o.sect ≡ s.sect → least_above s all ≡ Some o.value

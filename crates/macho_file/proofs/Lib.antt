@@ -4,7 +4,7 @@ pub mod IndexLemmas
 pub mod LeastLemmas
 pub mod OpenedLemmas
 pub mod PartLemmas
-pub mod PlaceLemmas
+pub mod LookupLemmas
 pub mod SectionLemmas
 pub mod SegmentLemmas
 pub mod SpanLemmas

@@ -8,12 +8,12 @@ use Rattle.macho_file.specs.Layout.{header_len, command_count}
 use Rattle.macho_file.specs.Checks.{opened, macho_checks, header_checks}
 use Rattle.macho_file.specs.Known.{commands_fit}
 
--- the file, or its first fault, as the steps of opening it find it
+-- The file or its first fault, as the steps of opening it find them.
 pub opened_is : (file : List ℕ) → opened file ≡ (first_of (header_checks file) >> commands_fit file (header_len file) (command_count file) >> Ok file)
 unfolding macho_checks
 opened_is file = simp first_of_append
 
--- What opening a file answers tells whether its checks hold, and else which fails first.
+-- The result of opening a file is Ok exactly where its checks hold, and otherwise the first fault.
 pub means_opened : (file : List ℕ) (r : Result (List ℕ) BadFile) → r ≡ opened file → MatchResult r (λ _. AllHold (macho_checks file)) (IsFirstFault (macho_checks file))
 means_opened file r e = answers r (first_of (macho_checks file)) e (means (first_of (macho_checks file)) (macho_checks file) refl)
   where

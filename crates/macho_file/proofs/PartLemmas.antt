@@ -1,4 +1,4 @@
--- The parts of the link-edit data that are still to come.
+-- The remaining ranges of the link-edit data.
 use Rattle.std.proofs.Common.{◌≡◌, ℕ, zero, suc, ◌+◌, ◌<◌, ◌≤◌, Option, Some, None, List, [], ◌∷◌, ◌++◌, length, drop, slice_get, refl, arith}
 use Rattle.std.proofs.lemmas.Grind.{common_steps}
 use Rattle.std.proofs.lemmas.Option.{slice_get_within}
@@ -9,7 +9,7 @@ use Rattle.macho_file.specs.declared.link_edit.LinkEditPart.{LinkEditPart}
 use Rattle.macho_file.specs.Commands.{data_kind}
 use Rattle.macho_file.specs.LinkEdit.{data_parts, parts_of, parts_of_some}
 
--- those of the command at hand from one on, and then those of the commands that are left
+-- The ranges of the current command from one on, and then those of the remaining commands.
 abbrev pub to_come : List ℕ → Option Command → ℕ → List Command → List LinkEditPart
 to_come file command next cs = drop next (parts_of_some file command) ++ flat_map (parts_of file) cs
 
@@ -48,7 +48,7 @@ some_few : (file : List ℕ) (command : Option Command) → length (parts_of_som
 some_few file None = omega arith
 some_few file (Some c) = parts_few file c
 
--- a part's number is small
+-- The number of a range is small.
 pub few_parts : (file : List ℕ) (command : Option Command) (next : ℕ) (part : LinkEditPart)
     → slice_get (parts_of_some file command) next ≡ Some part → next < 5
 few_parts file command next part h = omega (arith, some_few file command, slice_get_within (parts_of_some file command) next part h)

@@ -1,4 +1,4 @@
--- The sections that are still to come.
+-- The remaining sections.
 use Rattle.std.proofs.Common.{◌≡◌, ℕ, zero, suc, ◌+◌, ◌-◌, ◌<◌, true, List, [], ◌∷◌, ◌++◌, refl, ◌∙◌, arith}
 use Rattle.std.specs.List.{flat_map}
 use Rattle.macho_file.specs.declared.command.Command.{Command}
@@ -8,7 +8,7 @@ use Rattle.macho_file.specs.Commands.{is_segment, form_of, segment_len, section_
 use Rattle.macho_file.specs.Tables.{SectionRecord, section_at, sections_from, sections_of}
 use Rattle.macho_file.specs.Known.{SameSegments}
 
--- those of the segment at hand, and then those of the commands that are left
+-- The sections of the current segment, and then those of the remaining commands.
 abbrev pub to_come : List ℕ → Encoding → ℕ → ℕ → List Command → List SectionRecord
 to_come file form place left cs = sections_from file form place left ++ flat_map (sections_of file) cs
 

@@ -19,7 +19,7 @@ segments_by file first c cs other = rw other refl
 sections_by : (file : List ℕ) (c : Command) (cs : List Command) → is_segment c ≡ false → flat_map (sections_of file) (c ∷ cs) ≡ flat_map (sections_of file) cs
 sections_by file c cs other = rw (sections_of_other file c other) refl
 
--- a command that is no segment is passed by
+-- A command that isn't a segment is skipped.
 pub passed_by : (file : List ℕ) (cs ds : List Command) (c : Command) (rest : List Command)
     → SameSegments file cs ds → ds ≡ c ∷ rest → is_segment c ≡ false → SameSegments file cs rest
 passed_by file cs ds c rest same is other =
@@ -32,7 +32,7 @@ segment_first : (file : List ℕ) (first : ℕ) (c : Command) (rest : List Comma
     → segments_from file first (c ∷ rest) ≡ segment_at file c first ∷ segments_from file (first + section_count_of file c) rest
 segment_first file first c rest is = rw is refl
 
--- the next segment, and the others
+-- The next segment, and the others.
 pub segments_next : (file : List ℕ) (first : ℕ) (cs : List Command) (c : Command) (rest : List Command) → SameSegments file cs (c ∷ rest) → is_segment c ≡ true
     → segments_from file first cs ≡ segment_at file c first ∷ segments_from file (first + section_count_of file c) rest
 segments_next file first cs c rest same is = same.segments_are first ∙ segment_first file first c rest is
@@ -40,7 +40,7 @@ segments_next file first cs c rest same is = same.segments_are first ∙ segment
 pub segments_none : (file : List ℕ) (first : ℕ) (cs : List Command) → SameSegments file cs [] → segments_from file first cs ≡ []
 segments_none file first cs same = same.segments_are first
 
--- how many sections are left
+-- How many sections remain.
 pub sections_counted : (file : List ℕ) (cs : List Command) (c : Command) (rest : List Command) → SameSegments file cs (c ∷ rest) → is_segment c ≡ true
     → length (flat_map (sections_of file) cs) ≡ section_count_of file c + length (flat_map (sections_of file) rest)
 sections_counted file cs c rest same is = rw (same.sections_are) (sections_more file c rest ∙ rw (sections_of_segment file c is) refl)

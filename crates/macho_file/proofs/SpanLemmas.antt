@@ -20,7 +20,7 @@ one_more f front xs x rest is = rw (is, append_assoc) refl
 pub no_more : {X Y : Type 0} (f : X → Y) (front : List Y) (xs : List X) → xs ≡ [] → front ++ map f xs ≡ front
 no_more f front xs is = rw is (append-nil front)
 
--- the span of the next symbol, and those behind it
+-- The span of the next symbol, and those after it.
 span_one : (ext : List Extent) (front : List SpanRecord) (all : List SymbolRecord) (i : ℕ) (s : SymbolRecord) → i < length all → get_or all i s ≡ s
     → front ++ spans_from ext all (take i all) (drop i all)
     ≡ (front ++ (if list_any (is_at s) (take i all) then [] else span_of ext all s ∷ [])) ++ spans_from ext all (take (i + 1) all) (drop (i + 1) all)
@@ -45,7 +45,7 @@ unfolding spans_of_taking
 spans_begin ext [] = refl
 spans_begin ext (s ∷ rest) = refl
 
--- each of the symbols takes part
+-- Each of the symbols takes part.
 pub part_at : (ext : List Extent) (xs : List MachoSymbol) (i : ℕ) (d : MachoSymbol) → TakePart ext (map symbol_shown xs) → i < length xs → takes_part ext (symbol_shown (get_or xs i d)) ≡ true
 part_at ext xs i d part lt =
     let within : i < length (map symbol_shown xs) = omega (arith, length-map xs symbol_shown) in
@@ -65,7 +65,7 @@ pub taken_part : (file : List ℕ) (t : SymbolTable) (ext : List Extent) (k n : 
 unfolding taken_from
 taken_part file t ext k n taking e = taken_reading ext (symbols_from file t k n) taking e
 
--- the spans of a file, as the steps of finding them find them
+-- The spans of a file, as the steps of the search find them.
 spans_reading : (ext : List Extent) (reading : Result (List SymbolRecord) BadFile)
     → (reading >>= (λ read. Ok (spans_of_taking ext (filter (takes_part ext) read)))) ≡ ((reading >>= (λ read. Ok (filter (takes_part ext) read))) >>= (λ taking. Ok (spans_of_taking ext taking)))
 spans_reading ext (Ok read) = refl

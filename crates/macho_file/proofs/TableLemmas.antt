@@ -17,7 +17,7 @@ unfolding sections_from
 length-sections_from file form place zero = refl
 length-sections_from file form place (suc n) = ap suc (length-sections_from file form (place + section_len form) n)
 
--- how many sections a segment has, and another command
+-- The number of sections of a segment, and of another command.
 pub sections_of_segment : (file : List ℕ) (c : Command) → is_segment c ≡ true → length (sections_of file c) ≡ section_count_of file c
 unfolding sections_of
 sections_of_segment file c is = let form = form_of (encoding_of file) c in rw is (length-sections_from file form (c.place + segment_len form) (section_count_of file c))
@@ -26,13 +26,13 @@ pub sections_of_other : (file : List ℕ) (c : Command) → is_segment c ≡ fal
 unfolding sections_of
 sections_of_other file c is = rw is refl
 
--- the command of a segment and the headers of its sections lie in the file
+-- A segment command and the headers of its sections lie in the file.
 pub segment_inside : (file : List ℕ) (e : Encoding) (c : Command) → e ≡ encoding_of file → IsInside file c → is_segment c ≡ true
     → c.place + segment_len (form_of e c) + section_count_of file c * section_len (form_of e c) ≤ length file
 unfolding least_size
 segment_inside file e c encoding known is = grind (arith, common_steps, known.least, known.within)
 
--- a command has at least eight bytes, and 68 for each of its sections
+-- A command has at least eight bytes, and 68 for each of its sections.
 least-by_kind : (kind : ℕ) → 8 ≤ least_by_kind kind
 unfolding least_by_kind
 least-by_kind kind = grind (arith, common_steps)
@@ -55,7 +55,7 @@ ends : (file : List ℕ) (place : ℕ) → IsInside file (command_at file place)
 unfolding command_at
 ends file place here = here.ends
 
--- the commands from a place on, and all their sections, fit before the end of the commands
+-- The commands from an offset on, with all their sections, fit before the end of the load commands.
 room : (file : List ℕ) (e : Encoding) (n place : ℕ) → HasCommands file e place n → place ≤ commands_end file
     → (place + 8 * n ≤ commands_end file) × (place + 68 * length (flat_map (sections_of file) (commands_from file place n)) ≤ commands_end file)
 unfolding commands_from
@@ -107,7 +107,7 @@ pub segment_within : (file : List ℕ) (e : Encoding) (c : Command) → e ≡ en
     → c.place + segment_len (form_of e c) ≤ length file
 segment_within file e c encoding known is = omega (arith, segment_inside file e c encoding known is)
 
--- what one more command adds
+-- What one more command adds.
 count_by_kind : (file : List ℕ) (first : ℕ) (c : Command) (cs : List Command) (b : Bool) → is_segment c ≡ b
     → length (segments_from file first (c ∷ cs)) ≡ (if b then 1 else 0) + length (segments_from file (first + length (sections_of file c)) cs)
 count_by_kind file first c cs true is = rw (is, sections_of_segment file c is) (sym (add-one (length (segments_from file (first + section_count_of file c) cs))) ∙ add_comm (length (segments_from file (first + section_count_of file c) cs)) 1)
@@ -131,7 +131,7 @@ pub found_more : (o : Option Command) (c : Command) (cs : List Command)
     → or_else o (find (λ c. c.kind == LC_SYMTAB) (c ∷ cs)) ≡ or_else (or_else o (if c.kind == LC_SYMTAB then Some c else None)) (find (λ c. c.kind == LC_SYMTAB) cs)
 found_more o c cs = found_by_kind o (find (λ c. c.kind == LC_SYMTAB) cs) c (c.kind == LC_SYMTAB)
 
--- the fields of a command with a table of symbols lie in the file
+-- The fields of a symtab_command lie in the file.
 pub table_inside : (file : List ℕ) (c : Command) → IsInside file c → c.kind ≡ LC_SYMTAB → c.place + 24 ≤ length file
 unfolding least_size least_by_kind
 table_inside file c known is = grind (arith, common_steps, known.least, known.within)

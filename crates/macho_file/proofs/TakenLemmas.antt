@@ -1,4 +1,4 @@
--- The symbols that a loop takes.
+-- The symbols that a loop collects.
 use Rattle.std.proofs.Common.{◌≡◌, ℕ, suc, ◌+◌, ◌-◌, ◌<◌, ◌≤◌, Bool, true, false, List, [], ◌∷◌, ◌++◌, length, Result, Ok, Err, refl, sym, ap, arith, append_assoc, length-append, if◌then◌else◌}
 use Rattle.std.specs.List.{filter}
 use Rattle.std.proofs.lemmas.List.{append-nil}
@@ -8,49 +8,49 @@ use Rattle.macho_file.specs.declared.extent.Extent.{Extent}
 use Rattle.macho_file.specs.declared.symbol_table.SymbolTable.{SymbolTable}
 use Rattle.macho_file.specs.Symbols.{SymbolRecord, symbol_of}
 use Rattle.macho_file.specs.Spans.{symbols_from, takes_part}
-use Rattle.macho_file.specs.Taken.{behind, taken_from}
+use Rattle.macho_file.specs.Taken.{prepend, taken_from}
 
 filter_one : (p : SymbolRecord → Bool) (s : SymbolRecord) (rest : List SymbolRecord) (b : Bool) → p s ≡ b
     → filter p (s ∷ rest) ≡ (if b then s ∷ [] else []) ++ filter p rest
 filter_one p s rest true is = rw is refl
 filter_one p s rest false is = rw is refl
 
-behind_both : (front more : List SymbolRecord) (reading : Result (List SymbolRecord) BadFile) → behind front (behind more reading) ≡ behind (front ++ more) reading
-unfolding behind
-behind_both front more (Ok rest) = ap Ok (sym (append_assoc front more rest))
-behind_both front more (Err e) = refl
+prepend_both : (front more : List SymbolRecord) (reading : Result (List SymbolRecord) BadFile) → prepend front (prepend more reading) ≡ prepend (front ++ more) reading
+unfolding prepend
+prepend_both front more (Ok rest) = ap Ok (sym (append_assoc front more rest))
+prepend_both front more (Err e) = refl
 
 read_one : (p : SymbolRecord → Bool) (s : SymbolRecord) (reading : Result (List SymbolRecord) BadFile)
-    → ((reading >>= (λ rest. Ok (s ∷ rest))) >>= (λ read. Ok (filter p read))) ≡ behind (if p s then s ∷ [] else []) (reading >>= (λ read. Ok (filter p read)))
-unfolding behind
+    → ((reading >>= (λ rest. Ok (s ∷ rest))) >>= (λ read. Ok (filter p read))) ≡ prepend (if p s then s ∷ [] else []) (reading >>= (λ read. Ok (filter p read)))
+unfolding prepend
 read_one p s (Ok rest) = ap Ok (filter_one p s rest (p s) refl)
 read_one p s (Err e) = refl
 
--- a symbol that was read, and those behind it
+-- A symbol that was read, and those after it.
 taken_step : (file : List ℕ) (t : SymbolTable) (all : List Extent) (k n : ℕ) (s : SymbolRecord) → symbol_of file t k ≡ Ok s
-    → taken_from file t all k (suc n) ≡ behind (if takes_part all s then s ∷ [] else []) (taken_from file t all (k + 1) n)
+    → taken_from file t all k (suc n) ≡ prepend (if takes_part all s then s ∷ [] else []) (taken_from file t all (k + 1) n)
 unfolding taken_from symbols_from
 taken_step file t all k n s is = rw is (read_one (takes_part all) s (symbols_from file t (k + 1) n))
 
 pub taken_next : (file : List ℕ) (t : SymbolTable) (all : List Extent) (front new : List SymbolRecord) (k n : ℕ) (s : SymbolRecord) → k < n → symbol_of file t k ≡ Ok s
-    → new ≡ front ++ (if takes_part all s then s ∷ [] else []) → behind front (taken_from file t all k (n - k)) ≡ behind new (taken_from file t all (k + 1) (n - (k + 1)))
+    → new ≡ front ++ (if takes_part all s then s ∷ [] else []) → prepend front (taken_from file t all k (n - k)) ≡ prepend new (taken_from file t all (k + 1) (n - (k + 1)))
 taken_next file t all front new k n s lt is made =
     let m : n - k ≡ suc (n - (k + 1)) = omega arith in
-    let one : taken_from file t all k (n - k) ≡ behind (if takes_part all s then s ∷ [] else []) (taken_from file t all (k + 1) (n - (k + 1))) = rw m (taken_step file t all k (n - (k + 1)) s is) in
-    rw (one, made) (behind_both front (if takes_part all s then s ∷ [] else []) (taken_from file t all (k + 1) (n - (k + 1))))
+    let one : taken_from file t all k (n - k) ≡ prepend (if takes_part all s then s ∷ [] else []) (taken_from file t all (k + 1) (n - (k + 1))) = rw m (taken_step file t all k (n - (k + 1)) s is) in
+    rw (one, made) (prepend_both front (if takes_part all s then s ∷ [] else []) (taken_from file t all (k + 1) (n - (k + 1))))
 
 pub taken_bad : (file : List ℕ) (t : SymbolTable) (all : List Extent) (front : List SymbolRecord) (k n : ℕ) (e : BadFile) → k < n → symbol_of file t k ≡ Err e
-    → behind front (taken_from file t all k (n - k)) ≡ Err e
-unfolding behind taken_from symbols_from
+    → prepend front (taken_from file t all k (n - k)) ≡ Err e
+unfolding prepend taken_from symbols_from
 taken_bad file t all front k n e lt is = let m : n - k ≡ suc (n - (k + 1)) = omega arith in rw (m, is) refl
 
-pub taken_end : (file : List ℕ) (t : SymbolTable) (all : List Extent) (front : List SymbolRecord) (k n : ℕ) → n ≤ k → behind front (taken_from file t all k (n - k)) ≡ Ok front
-unfolding behind taken_from symbols_from
+pub taken_end : (file : List ℕ) (t : SymbolTable) (all : List Extent) (front : List SymbolRecord) (k n : ℕ) → n ≤ k → prepend front (taken_from file t all k (n - k)) ≡ Ok front
+unfolding prepend taken_from symbols_from
 taken_end file t all front k n le = let m : n - k ≡ 0 = omega arith in rw m (ap Ok (append-nil front))
 
--- a loop begins with none
-pub taken_none : (reading : Result (List SymbolRecord) BadFile) → behind [] reading ≡ reading
-unfolding behind
+-- A loop starts with no symbols.
+pub taken_none : (reading : Result (List SymbolRecord) BadFile) → prepend [] reading ≡ reading
+unfolding prepend
 taken_none (Ok rest) = refl
 taken_none (Err e) = refl
 

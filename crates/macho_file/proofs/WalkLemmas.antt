@@ -1,4 +1,4 @@
--- The first of the commands that are still to come, and the others.
+-- The first of the remaining commands, and the others.
 use Rattle.std.proofs.Common.{◌≡◌, ℕ, zero, suc, ◌+◌, ◌-◌, ◌<◌, ◌≤◌, true, List, [], ◌∷◌, length, Ok, Err, refl, sym, ◌∙◌, arith}
 use Rattle.std.proofs.lemmas.Grind.{common_steps}
 use Rattle.size_core.specs.Checks.{◌>>◌, Check, first_of}

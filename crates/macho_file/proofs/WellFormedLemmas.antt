@@ -15,12 +15,12 @@ use Rattle.macho_file.specs.Known.{HasCommands}
 use Rattle.macho_file.specs.WellFormed.{IsWellFormed, IsAmongCommands, HasAddresses, Fits}
 use Rattle.macho_file.proofs.WalkLemmas.{both, fits_here, goes_on, inside}
 use Rattle.macho_file.proofs.TableLemmas.{sections_of_other}
-use Rattle.macho_file.proofs.PlaceLemmas.{sections_checked}
+use Rattle.macho_file.proofs.LookupLemmas.{sections_checked}
 
 abbrev Holds : List ℕ → Command → Type 0
 Holds file c = first_of (command_checks file c) ≡ Ok tt
 
--- the checks of each command hold
+-- The checks of each command hold.
 each_holds : (file : List ℕ) (e : Encoding) (n place : ℕ) → HasCommands file e place n → All (Holds file) (commands_from file place n)
 unfolding commands_from
 each_holds file e zero place known = All-nil (Holds file)
@@ -62,7 +62,7 @@ sections_all file [] all = All-nil (Fits file)
 sections_all file (c ∷ cs) all =
     All-append (Fits file) (sections_of file c) (flat_map (sections_of file) cs) (sections_step file c (is_segment c) refl (All-head (Holds file) c cs all)) (sections_all file cs (All-tail (Holds file) c cs all))
 
--- a file that was opened is well formed
+-- An opened file is well formed.
 pub is_well_formed : (file : List ℕ) (e : Encoding) → HasCommands file e (header_len file) (command_count file) → IsWellFormed file
 unfolding segments sections
 is_well_formed file e known =

@@ -1,4 +1,4 @@
--- What is checked of a Mach-O file, in order.
+-- The checks of a Mach-O file, in order.
 use Rattle.std.specs.Prelude.{ℕ, ◌+◌, ◌^◌, ◌==◌, ◌||◌, not, List, [], ◌∷◌, ◌++◌, length, map, Result, Ok, nat_le, if◌then◌else◌}
 use Rattle.std.specs.List.{flat_map}
 use Rattle.size_core.specs.declared.fault.BadFile.{BadFile}
@@ -9,7 +9,8 @@ use Rattle.macho_file.specs.Layout.{has_magic, header_len, commands_end}
 use Rattle.macho_file.specs.Commands.{commands, is_segment, is_whole}
 use Rattle.macho_file.specs.Tables.{SectionRecord, segment_at, sections_of}
 
--- the file begins with a magic number, its header is whole, and the commands end in the file
+-- The checks of the header: the file begins with a magic number, the header is complete, and the load
+-- commands end in the file (mach-o/loader.h: mach_header, mach_header_64).
 unfoldable pub header_checks : List ℕ → List Check
 header_checks file =
     demand (has_magic file) UnknownFormat 0
@@ -17,30 +18,33 @@ header_checks file =
     ∷ demand (nat_le (commands_end file) (length file)) TablePastEnd (header_len file)
     ∷ []
 
--- the addresses of a section lie below 2^64, and its bytes in the file
+-- The check that the addresses of a section end by 2^64, and that its bytes lie in the file
+-- (mach-o/loader.h: section, section_64).
 unfoldable pub section_fits : List ℕ → SectionRecord → Check
 section_fits file s = do
   demand (nat_le (s.addr + s.size) (2 ^ 64)) RangeOverflow s.place
   demand (not s.in_file || s.size == 0 || nat_le (s.offset + s.size) (length file)) SectionPastEnd s.place
 
--- the addresses of a segment lie below 2^64, and each of its sections fits
+-- The checks of a segment: its addresses end by 2^64, and each of its sections passes its check
+-- (mach-o/loader.h: segment_command, segment_command_64).
 unfoldable pub segment_checks : List ℕ → Command → List Check
 segment_checks file c = let s = segment_at file c 0 in
     demand (nat_le (s.vaddr + s.memsz) (2 ^ 64)) RangeOverflow c.place ∷ map (section_fits file) (sections_of file c)
 
--- a command is whole, and where it is a segment that fits
+-- The checks of a command: its size is valid, and where it is a segment, that passes its checks
+-- (mach-o/loader.h: load_command).
 unfoldable pub command_checks : List ℕ → Command → List Check
 command_checks file c =
     demand (is_whole file c) BadCommand c.place ∷ (if is_segment c then segment_checks file c else [])
 
--- those of the header and of each command
+-- All checks of a Mach-O file: those of the header and of each command.
 unfoldable pub macho_checks : List ℕ → List Check
 macho_checks file = header_checks file ++ flat_map (command_checks file) (commands file)
 
--- the value, where the checks hold, or the first fault
+-- The value where the checks hold, or the first fault.
 abbrev pub checked : {X : Type 0} → List Check → X → Result X BadFile
 checked checks x = first_of checks >> Ok x
 
--- the file, or its first fault
+-- The file, or its first fault.
 abbrev pub opened : List ℕ → Result (List ℕ) BadFile
 opened file = checked (macho_checks file) file

@@ -1,4 +1,4 @@
--- What a reader knows of a Mach-O file, one step after another.
+-- What a reader knows of a Mach-O file, step by step.
 use Rattle.std.specs.Prelude.{◌≡◌, ℕ, ◌+◌, ◌*◌, ◌^◌, ◌≤◌, ◌<◌, Option, None, Some, List, length, map, Result, Ok}
 use Rattle.std.specs.List.{flat_map}
 use Rattle.size_core.specs.declared.fault.BadFile.{BadFile}
@@ -13,66 +13,68 @@ use Rattle.macho_file.specs.Tables.{segments, segments_from, sections, sections_
 use Rattle.macho_file.specs.Checks.{command_checks, section_fits}
 use Rattle.macho_file.specs.Symbols.{symbol_len, symbol_table}
 
--- the class and the byte order are known, the header is whole, and the commands end in the file
+-- The class and the byte order are known, the header is complete, and the load commands end in the file.
 pub record HasHeader (file : List ℕ) (e : Encoding) : Type 0 where
   pub encoding_is : e ≡ encoding_of file
   pub whole : header_len file ≤ length file
   pub ends : commands_end file ≤ length file
   pub small : length file < 2 ^ 32
 
--- the checks that a loop makes of sections and of commands, of which this many follow one another from a place on
+-- The check that a loop makes of this many sections, whose headers follow one another from file offset
+-- place on.
 abbrev pub sections_fit : List ℕ → Encoding → ℕ → ℕ → Check
 sections_fit file form place count = first_of (map (section_fits file) (sections_from file form place count))
 
+-- The check that a loop makes of this many commands, which follow one another from file offset place on.
 abbrev pub commands_fit : List ℕ → ℕ → ℕ → Check
 commands_fit file place count = first_of (flat_map (command_checks file) (commands_from file place count))
 
--- the command, unless it isn't whole
+-- The command, or BadCommand where its size isn't valid.
 abbrev pub whole_command : List ℕ → Command → Result Command BadFile
 whole_command file c = demand (is_whole file c) BadCommand c.place >> Ok c
 
--- this many commands from a place on are checked
+-- This many commands from file offset place on passed their checks.
 pub record HasCommands (file : List ℕ) (e : Encoding) (place count : ℕ) : Type 0 where
   pub header : HasHeader file e
   pub fit : commands_fit file place count ≡ Ok tt
 
--- a command has its least size, and lies among the commands and so in the file
+-- A command has its minimum size, and lies among the load commands and so in the file.
 pub record IsInside (file : List ℕ) (c : Command) : Type 0 where
   pub least : least_size file c ≤ c.size
   pub ends : c.place + c.size ≤ commands_end file
   pub within : c.place + c.size ≤ length file
 
--- the same of a command, or of none
+-- A command, where there is one, has its minimum size and lies in the file.
 abbrev pub IsSomeInside : List ℕ → Option Command → Type 0
 IsSomeInside file None = Unit {0}
 IsSomeInside file (Some c) = IsInside file c
 
--- a command that was found to have a table of symbols has its fields in the file
+-- The fields of a symtab_command, where there is one, lie in the file.
 abbrev pub IsSomeTable : List ℕ → Option Command → Type 0
 IsSomeTable file None = Unit {0}
 IsSomeTable file (Some c) = c.place + 24 ≤ length file
 
--- the symbols and the names of a table lie in the file
+-- The symbols and the string table of a symbol table lie in the file.
 pub record HasTable (file : List ℕ) (t : SymbolTable) : Type 0 where
   pub symbols : t.symoff + t.nsyms * symbol_len file ≤ length file
   pub names : t.stroff + t.strsize ≤ length file
 
--- the first of two that is there
+-- The first of two values that exists.
 abbrev pub or_else : {X : Type 0} → Option X → Option X → Option X
 or_else None y = y
 or_else (Some x) y = Some x
 
--- a file and the commands that are still to come
+-- A file, and the commands that an iterator has not returned yet.
 pub record Listing : Type 0 where
   pub file : List ℕ
   pub rest : List Command
 
--- the same segments and sections are among these commands
+-- The two lists of commands have the same segments and sections.
 pub record SameSegments (file : List ℕ) (cs ds : List Command) : Type 0 where
   pub segments_are : (first : ℕ) → segments_from file first cs ≡ segments_from file first ds
   pub sections_are : flat_map (sections_of file) cs ≡ flat_map (sections_of file) ds
 
--- all that is known of a file that was opened
+-- All that is known of an opened file.
 pub record IsOpened (file : List ℕ) (e : Encoding) (segment_count section_count : ℕ) (symtab : Option Command) : Type 0 where
   pub commands : HasCommands file e (header_len file) (command_count file)
   pub segments_are : segment_count ≡ length (segments file)

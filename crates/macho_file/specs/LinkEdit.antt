@@ -1,5 +1,5 @@
--- The parts of a file that its link-edit commands place (mach-o/loader.h: symtab_command, dysymtab_command,
--- dyld_info_command, linkedit_data_command).
+-- The ranges of a file that load commands locate in the link-edit data (mach-o/loader.h: symtab_command,
+-- dysymtab_command, dyld_info_command, linkedit_data_command).
 use Rattle.std.specs.Prelude.{ℕ, ◌+◌, ◌*◌, ◌==◌, List, [], ◌∷◌, Option, None, Some, if◌then◌else◌}
 use Rattle.std.specs.List.{flat_map}
 use Rattle.macho_file.specs.declared.command.Command.{Command}
@@ -11,7 +11,8 @@ use Rattle.macho_file.specs.Layout.{encoding_of, four}
 use Rattle.macho_file.specs.Commands.{commands, data_kind, is_dyld_info}
 use Rattle.macho_file.specs.Symbols.{symbol_len}
 
--- a part whose offset is a field of a command and whose length is the field behind it, in units of some bytes
+-- The range whose file offset is a field of a command. The next field is its length, in units of some
+-- bytes.
 unfoldable pub part_at : List ℕ → Command → LinkEdit → ℕ → ℕ → LinkEditPart
 part_at file c kind field unit = let e = encoding_of file in record {
   kind = kind;
@@ -19,22 +20,23 @@ part_at file c kind field unit = let e = encoding_of file in record {
   len = four e file (c.place + field + 4) * unit;
 }
 
--- the part of a linkedit_data_command (dataoff, datasize)
+-- The range of a linkedit_data_command (mach-o/loader.h: dataoff, datasize).
 abbrev pub data_parts : List ℕ → Command → Option LinkEdit → List LinkEditPart
 data_parts file c None = []
 data_parts file c (Some kind) = part_at file c kind 8 1 ∷ []
 
--- those of a symtab_command (symoff, nsyms, stroff, strsize)
+-- The ranges of a symtab_command (mach-o/loader.h: symoff, nsyms, stroff, strsize).
 abbrev pub table_parts : List ℕ → Command → List LinkEditPart
 table_parts file c = part_at file c SymbolTable 8 (symbol_len file) ∷ part_at file c StringTable 16 1 ∷ []
 
--- those of a dyld_info_command (an offset and a size for each)
+-- The ranges of a dyld_info_command, each with an offset and a size (mach-o/loader.h: dyld_info_command).
 abbrev pub dyld_parts : List ℕ → Command → List LinkEditPart
 dyld_parts file c =
     part_at file c RebaseInfo 8 1 ∷ part_at file c BindingInfo 16 1 ∷ part_at file c WeakBindingInfo 24 1
     ∷ part_at file c LazyBindingInfo 32 1 ∷ part_at file c ExportInfo 40 1 ∷ []
 
--- the parts that a command places, among them those of a dysymtab_command (indirectsymoff, nindirectsyms)
+-- The ranges of a command. A dysymtab_command has one, the indirect symbol table (mach-o/loader.h:
+-- indirectsymoff, nindirectsyms).
 unfoldable pub parts_of : List ℕ → Command → List LinkEditPart
 parts_of file c =
     if c.kind == LC_SYMTAB then table_parts file c
@@ -42,11 +44,12 @@ parts_of file c =
     else if is_dyld_info c.kind then dyld_parts file c
     else data_parts file c (data_kind c.kind)
 
--- those of a command, or of none
+-- The ranges of a command, and none where there is no command.
 abbrev pub parts_of_some : List ℕ → Option Command → List LinkEditPart
 parts_of_some file None = []
 parts_of_some file (Some c) = parts_of file c
 
--- the parts that the commands of the file place, in their order
+-- The ranges that the load commands of the file locate, in the order of the commands (mach-o/loader.h:
+-- symtab_command, dysymtab_command, dyld_info_command, linkedit_data_command).
 unfoldable pub link_edit_parts : List ℕ → List LinkEditPart
 link_edit_parts file = flat_map (parts_of file) (commands file)

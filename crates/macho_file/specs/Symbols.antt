@@ -12,15 +12,15 @@ use Rattle.macho_file.specs.declared.constants.TheConstants.{LC_SYMTAB}
 use Rattle.macho_file.specs.Layout.{encoding_of, four, word, pick}
 use Rattle.macho_file.specs.Commands.{commands}
 
--- the first command that has a table of symbols
+-- The first command that has a symbol table (mach-o/loader.h: LC_SYMTAB).
 unfoldable pub symbol_table : List ℕ → Option Command
 symbol_table file = find (λ c. c.kind == LC_SYMTAB) (commands file)
 
--- the size of a symbol in the file's class
+-- The size of a symbol in bytes, by the class of the file (mach-o/nlist.h: nlist, nlist_64).
 abbrev pub symbol_len : List ℕ → ℕ
 symbol_len file = pick (encoding_of file) 12 16
 
--- what a symtab_command at a place says
+-- The fields of the symtab_command at file offset place (mach-o/loader.h: symtab_command).
 unfoldable pub table_at : List ℕ → ℕ → SymbolTable
 table_at file place = let e = encoding_of file in record {
   symoff = four e file (place + 8);
@@ -29,24 +29,25 @@ table_at file place = let e = encoding_of file in record {
   strsize = four e file (place + 20);
 }
 
--- the table of symbols of a command, or of none, whose symbols and names have to lie in the file
+-- The symbol table of a command, and an empty one where there is no command. TablePastEnd where the symbols
+-- or the string table end after the file (mach-o/loader.h: symtab_command).
 unfoldable pub table_of : List ℕ → Option Command → Result SymbolTable BadFile
 table_of file None = Ok (record { symoff = 0; nsyms = 0; stroff = 0; strsize = 0 })
 table_of file (Some c) = let t = table_at file c.place in do
   demand (nat_le (t.symoff + t.nsyms * symbol_len file) (length file) && nat_le (t.stroff + t.strsize) (length file)) TablePastEnd c.place
   Ok t
 
--- the file's table of symbols, or its fault
+-- The symbol table of the file, or its fault (mach-o/loader.h: symtab_command).
 abbrev pub table : List ℕ → Result SymbolTable BadFile
 table file = table_of file (symbol_table file)
 
--- how many symbols there are, or the table's fault
+-- The number of symbols, or the fault of the table (mach-o/loader.h: nsyms).
 unfoldable pub symbol_count : List ℕ → Result ℕ BadFile
 symbol_count file = do
   t ← table file
   Ok t.nsyms
 
--- a symbol
+-- A symbol (mach-o/nlist.h: nlist, nlist_64).
 pub record SymbolRecord : Type 0 where
   pub place : ℕ
   pub name : List ℕ
@@ -54,21 +55,22 @@ pub record SymbolRecord : Type 0 where
   pub sect : ℕ
   pub value : ℕ
 
--- the names of a table's symbols
+-- The string table of a symbol table (mach-o/loader.h: stroff, strsize).
 abbrev pub strings : List ℕ → SymbolTable → List ℕ
 strings file t = take t.strsize (drop t.stroff file)
 
--- what is there, or this fault
+-- The value, or this fault where there is none.
 abbrev pub present : {X : Type 0} → Option X → Fault → ℕ → Result X BadFile
 present None fault place = bad fault place
 present (Some x) fault place = Ok x
 
--- the name of the symbol at a place: none where n_strx is 0
+-- The name of the symbol at file offset place, or NameOutside. Empty where n_strx is 0 (mach-o/nlist.h:
+-- n_strx).
 unfoldable pub symbol_name : List ℕ → SymbolTable → ℕ → Result (List ℕ) BadFile
 symbol_name file t place = let strx = four (encoding_of file) file place in
     if strx == 0 then Ok [] else present (text (strings file t) strx) NameOutside place
 
--- the symbol at a place, with this name
+-- The symbol at file offset place, with this name (mach-o/nlist.h: nlist, nlist_64).
 abbrev pub symbol_named : List ℕ → List ℕ → ℕ → SymbolRecord
 symbol_named file name place = record {
   place = place;
@@ -78,13 +80,13 @@ symbol_named file name place = record {
   value = word (encoding_of file) file place 8 8;
 }
 
--- symbol k of a table, or its fault
+-- Symbol k of a table, or its fault (mach-o/nlist.h: nlist, nlist_64).
 unfoldable pub symbol_of : List ℕ → SymbolTable → ℕ → Result SymbolRecord BadFile
 symbol_of file t k = let place = t.symoff + k * symbol_len file in do
   name ← symbol_name file t place
   Ok (symbol_named file name place)
 
--- symbol k of the file's table, or its fault
+-- Symbol k of the file's symbol table, or its fault (mach-o/nlist.h: nlist, nlist_64).
 unfoldable pub symbol_at : List ℕ → ℕ → Result SymbolRecord BadFile
 symbol_at file k = do
   t ← table file

@@ -10,23 +10,23 @@ use Rattle.macho_file.specs.declared.symbol_table.SymbolTable.{SymbolTable}
 use Rattle.macho_file.specs.Symbols.{SymbolRecord}
 use Rattle.macho_file.specs.Spans.{symbols_from, takes_part}
 
--- those of this many symbols from number k on, or the first fault
+-- The symbols that take part, of this many symbols from number k on, or the first fault.
 unfoldable pub taken_from : List ℕ → SymbolTable → List Extent → ℕ → ℕ → Result (List SymbolRecord) BadFile
 taken_from file t all k count = do
   read ← symbols_from file t k count
   Ok (filter (takes_part all) read)
 
--- those that were taken before, and then these
-unfoldable pub behind : List SymbolRecord → Result (List SymbolRecord) BadFile → Result (List SymbolRecord) BadFile
-behind front reading = do
+-- These symbols, and then those of a reading, or its fault.
+unfoldable pub prepend : List SymbolRecord → Result (List SymbolRecord) BadFile → Result (List SymbolRecord) BadFile
+prepend front reading = do
   rest ← reading
   Ok (front ++ rest)
 
--- what holds of the fault of an answer; want of memory tells nothing
+-- What holds of the fault of an answer. Out of memory has no fault.
 abbrev pub ForBad : SpanAnswer → (BadFile → Type 0) → Type 0
 ForBad (Bad bad) P = P bad
 ForBad NoMemory P = Unit {0}
 
--- these symbols take part
+-- Each of these symbols takes part.
 pub record TakePart (all : List Extent) (taking : List SymbolRecord) : Type 0 where
   pub each : All (λ (s : SymbolRecord). takes_part all s ≡ true) taking

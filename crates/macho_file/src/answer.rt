@@ -1,4 +1,4 @@
-//! Why there are no spans.
+//! Why no spans are returned.
 
 ghost use Rattle.std.specs.Prelude.{◌≡◌};
 ghost use Rattle.macho_file.specs.declared.answer.SpanAnswer.TheVariants.{Bad, NoMemory as OutOfMemory};
@@ -6,10 +6,10 @@ ghost use Rattle.macho_file.specs.declared.answer.SpanAnswer.TheVariants.{Bad, N
 use size_core::{BadFile, NoMemory};
 use thiserror::Error;
 
-/// Why there are no spans.
+/// Why no spans are returned.
 #[derive(Clone, Copy, Debug, PartialEq, Eq, Error)]
 pub enum SpanAnswer {
-    /// The table of symbols or a symbol has a fault.
+    /// The symbol table or a symbol has a fault.
     #[error("bad file")]
     Bad(BadFile),
     /// There was not enough memory.

@@ -1,9 +1,10 @@
-//! What is checked of a file, step by step.
+//! The checks of a file, step by step.
 
-ghost use Rattle.std.specs.Prelude.{◌≡◌, ◌+◌, ◌*◌, ◌≤◌, ◌<◌, ◌^◌, length, true, IfOk, nat_lt};
+ghost use Rattle.std.specs.Prelude.{◌≡◌, ◌+◌, ◌*◌, ◌≤◌, ◌<◌, ◌^◌, length, map, true, IfOk, nat_lt};
 ghost use Rattle.size_core.specs.Checks.{first_of};
 ghost use Rattle.macho_file.specs.Layout.{encoding_of, header_len, command_count, commands_end};
-ghost use Rattle.macho_file.specs.Commands.{command_at, is_segment, section_len};
+ghost use Rattle.macho_file.specs.Commands.{command_at, is_segment, section_count_of, section_len};
+ghost use Rattle.macho_file.specs.Tables.{sections_of};
 ghost use Rattle.macho_file.specs.Checks.{checked, command_checks, header_checks, section_fits, segment_checks};
 ghost use Rattle.macho_file.specs.Known.{HasHeader, IsInside, commands_fit, sections_fit, whole_command};
 ghost use Rattle.macho_file.specs.Shown.{section_shown};
@@ -17,7 +18,8 @@ use crate::sizes::has_least_size;
 use byte_cursor::{Order, u32_at};
 use size_core::{BadFile, Fault};
 
-/// The class and the byte order, where the file's header is whole and its commands end in the file.
+/// Returns the class and the byte order. Checks that the header is complete and that the load commands end
+/// in the file.
 #[tactic(auto, unfolding(crate::specs::Checks::header_checks, crate::specs::Layout::encoding_of, crate::specs::Layout::has_magic))]
 pub fn encoding(file: &[u8]) -> Result<Encoding, BadFile>
     requires { length file.now < 2 ^ 32 }
@@ -59,14 +61,14 @@ pub fn encoding(file: &[u8]) -> Result<Encoding, BadFile>
     Ok(encoding)
 }
 
-/// Whether `size` bytes from a virtual address on pass 2^64.
+/// Returns whether `size` bytes from a virtual address on end after 2^64.
 fn passes_end(addr: u64, size: u64) -> bool
     ensures { result ≡ nat_lt (2 ^ 64) (addr + size) }
 {
     size != 0 && u64::MAX - (size - 1) < addr
 }
 
-/// The addresses of a section lie below 2^64, and its bytes in the file.
+/// Checks that the addresses of a section end by 2^64, and that its bytes lie in the file.
 #[tactic(auto, unfolding(crate::specs::Checks::section_fits))]
 fn section_fits(file: &[u8], section: &MachoSection<'_>) -> Result<(), BadFile>
     ensures { result ≡ section_fits file.now (section_shown section.now) }
@@ -88,7 +90,7 @@ fn section_fits(file: &[u8], section: &MachoSection<'_>) -> Result<(), BadFile>
     Ok(())
 }
 
-/// Each of `count` sections fits, whose headers follow one another from a place on.
+/// Checks `count` sections, whose headers follow one another from a file offset on.
 #[tactic(auto, using(crate::proofs::CheckLemmas::sections_next, crate::proofs::CheckLemmas::sections_bad, crate::proofs::CheckLemmas::sections_end))]
 fn sections_fit(
     file: &[u8],
@@ -109,8 +111,27 @@ fn sections_fit(
     Ok(())
 }
 
-/// The addresses of a segment lie below 2^64, and each of its sections fits.
-#[tactic(auto, unfolding(crate::specs::Checks::segment_checks, crate::specs::Tables::sections_of, crate::specs::Tables::segment_at, crate::specs::Commands::least_size))]
+/// Checks each section of a segment.
+#[tactic(auto, unfolding(crate::specs::Tables::sections_of, crate::specs::Commands::least_size))]
+fn segment_sections_fit(
+    file: &[u8],
+    encoding: Encoding,
+    command: Command,
+    count: u32,
+) -> Result<(), BadFile>
+    requires header { HasHeader file.now encoding }
+    requires kind { is_segment command ≡ true }
+    requires inside { IsInside file.now command }
+    requires count { count ≡ section_count_of file.now command }
+    ensures { result ≡ first_of (map (section_fits file.now) (sections_of file.now command)) }
+{
+    let form = command.form(encoding);
+    let first = command.place + form.pick(56, 72);
+    sections_fit(file, encoding, form, first, count)
+}
+
+/// Checks that the addresses of a segment end by 2^64, and checks each of its sections.
+#[tactic(auto, unfolding(crate::specs::Checks::segment_checks, crate::specs::Tables::segment_at, crate::specs::Commands::least_size))]
 fn segment_fits(file: &[u8], encoding: Encoding, command: Command) -> Result<(), BadFile>
     requires header { HasHeader file.now encoding }
     requires kind { is_segment command ≡ true }
@@ -124,12 +145,11 @@ fn segment_fits(file: &[u8], encoding: Encoding, command: Command) -> Result<(),
             offset: command.place,
         });
     }
-    let form = command.form(encoding);
-    let first = command.place + form.pick(56, 72);
-    sections_fit(file, encoding, form, first, segment.count)
+    segment_sections_fit(file, encoding, command, segment.count)
 }
 
-/// Whether the command at a place lies among the commands with its least size.
+/// Returns the command at file offset `place`. BadCommand where it isn't as long as its kind needs, or ends
+/// after the load commands.
 #[tactic(auto, unfolding(crate::specs::Commands::is_whole, crate::specs::Commands::command_at))]
 fn whole_command(file: &[u8], encoding: Encoding, end: u64, place: u64) -> Result<Command, BadFile>
     requires header { HasHeader file.now encoding }
@@ -155,7 +175,7 @@ fn whole_command(file: &[u8], encoding: Encoding, end: u64, place: u64) -> Resul
     Ok(command)
 }
 
-/// A command is whole, and where it is a segment that fits. Answers the place of the next one.
+/// Checks a command, and its sections where it is a segment. Returns the file offset of the next command.
 #[tactic(auto, unfolding(crate::specs::Checks::command_checks, crate::specs::Commands::command_at))]
 fn command_fits(file: &[u8], encoding: Encoding, end: u64, place: u64) -> Result<u64, BadFile>
     requires header { HasHeader file.now encoding }
@@ -171,7 +191,7 @@ fn command_fits(file: &[u8], encoding: Encoding, end: u64, place: u64) -> Result
     Ok(place + command.size as u64)
 }
 
-/// Each command is whole, and each segment fits.
+/// Checks each command and each segment.
 #[tactic(auto, using(crate::proofs::CheckLemmas::commands_next, crate::proofs::CheckLemmas::commands_bad, crate::proofs::CheckLemmas::commands_end_here))]
 pub fn commands_fit(file: &[u8], encoding: Encoding) -> Result<(), BadFile>
     requires { HasHeader file.now encoding }

@@ -14,11 +14,11 @@ pub struct Command {
     pub place: u64,
     /// `cmd`.
     pub kind: u32,
-    /// `cmdsize`, in bytes, with the eight bytes of kind and size.
+    /// `cmdsize`, in bytes, including `cmd` and `cmdsize`.
     pub size: u32,
 }
 
-/// The command at a place whose kind and size lie in the file.
+/// Returns the command at file offset `place`, whose `cmd` and `cmdsize` lie in the file.
 #[tactic(auto, unfolding(crate::specs::Commands::command_at))]
 pub fn command_at(file: &[u8], encoding: Encoding, place: u64) -> Command
     requires encoding { encoding ≡ encoding_of file.now }
@@ -34,14 +34,14 @@ pub fn command_at(file: &[u8], encoding: Encoding, place: u64) -> Command
 }
 
 impl Command {
-    /// Whether it is a segment, of either class.
+    /// Returns whether it is a segment of either class.
     pub fn is_segment(self) -> bool
         ensures { result ≡ is_segment self }
     {
         self.kind == LC_SEGMENT || self.kind == LC_SEGMENT_64
     }
 
-    /// The class of a segment and of its sections, which is the command's own, and the file's byte order.
+    /// Returns the class of a segment command, which its sections share, and the byte order of the file.
     pub fn form(self, encoding: Encoding) -> Encoding
         ensures { result ≡ form_of encoding self }
     {

@@ -7,7 +7,7 @@ use crate::command::Command;
 use crate::walk::Walk;
 use std::marker::Model;
 
-/// The load commands that are still to come, in the file's order.
+/// The load commands that `next` has not returned yet, in file order.
 #[derive(Drop)]
 pub struct Commands<'a> {
     walk: Walk<'a>,

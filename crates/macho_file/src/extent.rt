@@ -1,4 +1,4 @@
-//! Where sections lie in memory.
+//! The address ranges of sections.
 
 ghost use Rattle.std.specs.Prelude.{◌≡◌, IfOk, map};
 ghost use Rattle.macho_file.specs.Spans.{extent_of};
@@ -7,14 +7,14 @@ use crate::sections::Sections;
 use size_core::NoMemory;
 use std::alloc::Global;
 
-/// Where a section lies in memory.
-#[derive(Clone, Copy, Debug)]
+/// The address range of a section: a virtual address and a size in bytes.
+#[derive(Clone, Copy)]
 pub struct Extent {
     pub addr: u64,
     pub size: u64,
 }
 
-/// Where each of the sections lies that are still to come.
+/// Returns the address ranges of the remaining sections.
 #[tactic(auto, using(crate::proofs::SpanLemmas::one_more, crate::proofs::SpanLemmas::no_more))]
 pub fn extents_of(alloc: Global, mut sections: Sections<'_>) -> Result<Vec<Extent>, NoMemory>
     ensures { IfOk result (λ v. v.items ≡ map extent_of sections.entry) }

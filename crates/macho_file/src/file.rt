@@ -1,4 +1,4 @@
-//! A file that was opened.
+//! An opened Mach-O file.
 
 ghost use Rattle.std.specs.Prelude.{◌≡◌, ◌<◌, ◌^◌, length, map, MatchResult, OnOk, IfOk, IsOkAnd, Some, Ok, Err, slice_get};
 ghost use Rattle.size_core.specs.Checks.{AllHold, Gives, IsFirstFault};
@@ -21,7 +21,7 @@ use crate::commands::Commands;
 use crate::encoding::Encoding;
 use crate::extent::extents_of;
 use crate::link_edit_parts::LinkEditParts;
-use crate::places::{command_of, section_of, segment_of};
+use crate::lookup::{command_of, section_of, segment_of};
 use crate::section::MachoSection;
 use crate::sections::Sections;
 use crate::segment::MachoSegment;
@@ -30,14 +30,14 @@ use crate::spans::{SymbolSpan, spans_of};
 use crate::survey::{Survey, count_tables};
 use crate::symbol::MachoSymbol;
 use crate::symbol_table::{SymbolTable, symbol_of, table_of};
-use crate::taking::taking_part;
+use crate::taking::symbols_taking_part;
 use crate::walk::Walk;
 use byte_cursor::Order;
 use size_core::BadFile;
 use std::alloc::Global;
 use std::marker::Model;
 
-/// A thin Mach-O file whose checks hold.
+/// A thin Mach-O file that passed all checks.
 #[derive(Drop)]
 pub struct MachoFile<'a> {
     file: &'a [u8],
@@ -57,10 +57,10 @@ impl<'a> Model for MachoFile<'a> {
 }
 
 impl<'a> MachoFile<'a> {
-    /// Opens a file of fewer than 2^32 bytes. These are checked in turn, and the first fault is the answer:
-    /// that it begins with one of the four magic numbers of a thin file, which tell its class and byte order
-    /// (UnknownFormat at 0, also for fewer than four bytes), the header (Truncated), the end of the load
-    /// commands (TablePastEnd), and for each command its size (BadCommand), the addresses of a segment
+    /// Opens a file of fewer than 2^32 bytes. The checks come in this order, and the first fault is
+    /// returned: the magic number of a thin file, which gives the class and the byte order (UnknownFormat
+    /// at 0, also for fewer than four bytes), the header (Truncated), the end of the load commands
+    /// (TablePastEnd), and for each command its size (BadCommand), the addresses of a segment
     /// (RangeOverflow) and the addresses and bytes of each of its sections (RangeOverflow, SectionPastEnd).
     #[tactic(auto, using(crate::proofs::OpenedLemmas::opened_is, crate::proofs::OpenedLemmas::means_opened, crate::proofs::WellFormedLemmas::is_well_formed))]
     pub fn parse(file: &'a [u8]) -> Result<MachoFile<'a>, BadFile>
@@ -80,7 +80,7 @@ impl<'a> MachoFile<'a> {
         })
     }
 
-    /// The same file.
+    /// Returns the same file.
     pub fn fork(&self) -> MachoFile<'a>
         ensures { result ≡ self.now }
     {
@@ -91,7 +91,7 @@ impl<'a> MachoFile<'a> {
         }
     }
 
-    /// The whole file.
+    /// Returns the bytes of the whole file.
     #[tactic(auto, using(crate::proofs::WellFormedLemmas::is_well_formed))]
     pub fn bytes(&self) -> &'a [u8]
         ensures value { result.now ≡ self.now }
@@ -101,49 +101,49 @@ impl<'a> MachoFile<'a> {
         self.file
     }
 
-    /// The file's class and byte order.
+    /// Returns the class and the byte order of the file.
     pub fn encoding(&self) -> Encoding
         ensures { result ≡ encoding_of self.now }
     {
         self.encoding
     }
 
-    /// Whether the file's class is the one of 64 bits.
+    /// Returns whether the class of the file is 64 bits.
     pub fn wide(&self) -> bool
         ensures { result ≡ (encoding_of self.now).wide }
     {
         self.encoding.wide
     }
 
-    /// The order of a number's bytes.
+    /// Returns the byte order of the file.
     pub fn order(&self) -> Order
         ensures { result ≡ (encoding_of self.now).order }
     {
         self.encoding.order
     }
 
-    /// The file's type (`filetype`).
+    /// Returns `filetype`.
     pub fn kind(&self) -> u32
         ensures { result ≡ file_type self.now }
     {
         self.encoding.four(self.file, 12)
     }
 
-    /// The length of the header, which is that of its class.
+    /// Returns the size of the header in bytes, which depends on the class.
     pub fn header_len(&self) -> u64
         ensures { result ≡ header_len self.now }
     {
         self.encoding.pick(28, 32)
     }
 
-    /// How many bytes the load commands take, behind the header (`sizeofcmds`).
+    /// Returns `sizeofcmds`, the size in bytes of all load commands. They follow the header.
     pub fn commands_size(&self) -> u32
         ensures { result ≡ commands_size self.now }
     {
         self.encoding.four(self.file, 20)
     }
 
-    /// How many load commands there are.
+    /// Returns the number of load commands.
     #[tactic(auto, using(crate::proofs::TableLemmas::length_commands))]
     pub fn command_count(&self) -> u32
         ensures value { result ≡ command_count self.now }
@@ -152,21 +152,21 @@ impl<'a> MachoFile<'a> {
         self.encoding.four(self.file, 16)
     }
 
-    /// How many segments there are.
+    /// Returns the number of segments.
     pub fn segment_count(&self) -> u32
         ensures { result ≡ length (segments self.now) }
     {
         self.found.segments
     }
 
-    /// How many sections there are, over all segments.
+    /// Returns the number of sections in all segments.
     pub fn section_count(&self) -> u32
         ensures { result ≡ length (sections self.now) }
     {
         self.found.sections
     }
 
-    /// All commands, of which few have sections.
+    /// Returns a walk over all commands. Few of them have sections.
     #[tactic(auto, using(crate::proofs::TableLemmas::sections_small))]
     fn walk(&self) -> Walk<'a>
         ensures file { result.file ≡ self.now }
@@ -176,14 +176,14 @@ impl<'a> MachoFile<'a> {
         Walk::new(self.file, self.encoding)
     }
 
-    /// All load commands, in order.
+    /// Returns all load commands, in file order.
     pub fn commands(&self) -> Commands<'a>
         ensures { result ≡ commands self.now }
     {
         Commands::new(self.walk())
     }
 
-    /// All segments, in order.
+    /// Returns all segments, in file order.
     #[tactic(auto, unfolding(crate::specs::Tables::segments))]
     pub fn segments(&self) -> Segments<'a>
         ensures { result ≡ segments self.now }
@@ -191,7 +191,7 @@ impl<'a> MachoFile<'a> {
         Segments::new(self.walk())
     }
 
-    /// All sections, over all segments in order.
+    /// Returns the sections of all segments, in file order.
     #[tactic(auto, unfolding(crate::specs::Tables::sections))]
     pub fn sections(&self) -> Sections<'a>
         ensures { result ≡ sections self.now }
@@ -199,7 +199,7 @@ impl<'a> MachoFile<'a> {
         Sections::new(self.walk())
     }
 
-    /// The parts of the link-edit data that commands place, in the order of the commands.
+    /// Returns the ranges of the link-edit data that load commands locate, in the order of the commands.
     #[tactic(auto, unfolding(crate::specs::LinkEdit::link_edit_parts))]
     pub fn link_edit_parts(&self) -> LinkEditParts<'a>
         ensures { result ≡ link_edit_parts self.now }
@@ -207,7 +207,7 @@ impl<'a> MachoFile<'a> {
         LinkEditParts::new(self.walk())
     }
 
-    /// A load command.
+    /// Returns load command `k`.
     #[tactic(auto, using(crate::proofs::TableLemmas::length_commands))]
     pub fn command(&self, k: u32) -> Command
         requires { k < command_count self.now }
@@ -216,7 +216,7 @@ impl<'a> MachoFile<'a> {
         command_of(self.walk(), k)
     }
 
-    /// The whole of a load command, with its kind and its size.
+    /// Returns the bytes of load command `k`, including `cmd` and `cmdsize`.
     #[tactic(auto, using(crate::proofs::TableLemmas::length_commands))]
     pub fn command_bytes(&self, k: u32) -> &'a [u8]
         requires { k < command_count self.now }
@@ -227,7 +227,7 @@ impl<'a> MachoFile<'a> {
         &self.file[place..place + command.size as usize]
     }
 
-    /// A segment.
+    /// Returns segment `k`.
     pub fn segment(&self, k: u32) -> MachoSegment<'a>
         requires { k < length (segments self.now) }
         ensures { slice_get (segments self.now) k ≡ Some (segment_shown result) }
@@ -235,7 +235,7 @@ impl<'a> MachoFile<'a> {
         segment_of(self.segments(), k)
     }
 
-    /// A section, by its number over all segments.
+    /// Returns section `k`. Sections are numbered from 0 over all segments.
     #[tactic(auto, unfolding(crate::specs::Tables::sections))]
     pub fn section(&self, k: u32) -> MachoSection<'a>
         requires { k < length (sections self.now) }
@@ -244,7 +244,8 @@ impl<'a> MachoFile<'a> {
         section_of(self.walk(), k)
     }
 
-    /// The bytes of a section, by its number over all segments: none where they aren't in the file.
+    /// Returns the bytes of section `k`, and none where they aren't in the file. Sections are numbered from
+    /// 0 over all segments.
     #[tactic(auto, unfolding(crate::specs::Tables::sections, crate::specs::Checks::section_fits))]
     pub fn section_bytes(&self, k: u32) -> &'a [u8]
         requires { k < length (sections self.now) }
@@ -264,8 +265,8 @@ impl<'a> MachoFile<'a> {
         table_of(self.file, self.encoding, self.found.symtab)
     }
 
-    /// How many symbols there are: those of the first LC_SYMTAB, or none. TablePastEnd at the command where its
-    /// symbols or their names pass the file's end.
+    /// Returns the number of symbols in the first LC_SYMTAB, and 0 where there is none. TablePastEnd at the
+    /// command where the symbols or the string table end after the file.
     #[tactic(auto, unfolding(crate::specs::Symbols::symbol_count))]
     pub fn symbol_count(&self) -> Result<u32, BadFile>
         ensures { result ≡ symbol_count self.now }
@@ -274,7 +275,8 @@ impl<'a> MachoFile<'a> {
         Ok(table.nsyms)
     }
 
-    /// A symbol. NameOutside at the symbol where its name has no end in the table of names.
+    /// Returns symbol `k`. NameOutside at the symbol where its name has no terminating zero byte in the
+    /// string table.
     #[tactic(auto, unfolding(crate::specs::Symbols::symbol_count, crate::specs::Symbols::symbol_at))]
     pub fn symbol(&self, k: u32) -> Result<MachoSymbol<'a>, BadFile>
         requires { IsOkAnd (symbol_count self.now) (λ n. k < n) }
@@ -284,11 +286,11 @@ impl<'a> MachoFile<'a> {
         symbol_of(self.file, self.encoding, table, k)
     }
 
-    /// The spans of symbols, in the order of their table. A symbol takes part that is no debugger's, is defined
-    /// in a section that has its value, and has a name; its span reaches to the next greater value of those that
-    /// take part in its section, or to the section's end, and of several at one value the first has it. Bad where
-    /// the table has a fault (TablePastEnd), and else at the first symbol with one (NameOutside), also where that
-    /// takes no part.
+    /// Returns the spans of symbols, in symbol table order. A symbol takes part if it isn't for a debugger,
+    /// is defined in a section that contains its value, and has a name. Its span ends at the next greater
+    /// value of the symbols that take part in the same section, or at the end of the section. Of several
+    /// symbols with one value, the first has the span. Bad where the table has a fault (TablePastEnd), and
+    /// else at the first symbol with a fault (NameOutside), whether or not it takes part.
     #[tactic(auto, using(crate::proofs::SpanLemmas::spans_is, crate::proofs::SpanLemmas::taken_part))]
     pub fn spans(&self, alloc: Global) -> Result<Vec<SymbolSpan<'a>>, SpanAnswer>
         ensures { MatchResult result
@@ -297,7 +299,7 @@ impl<'a> MachoFile<'a> {
     {
         let table = self.table()?;
         let extents = extents_of(alloc, self.sections())?;
-        let taking = taking_part(alloc, self.file, self.encoding, table, &extents)?;
+        let taking = symbols_taking_part(alloc, self.file, self.encoding, table, &extents)?;
         let spans = spans_of(alloc, &extents, &taking)?;
         Ok(spans)
     }

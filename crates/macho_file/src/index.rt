@@ -1,4 +1,4 @@
-//! Symbols by their positions.
+//! An index of symbols by position.
 
 ghost use Rattle.std.specs.Prelude.{◌≡◌, ◌+◌, ◌*◌, ◌≤◌, ◌<◌, ◌^◌, IfOk, length, map, nat_lt, nat_le, true, false};
 ghost use Rattle.std.specs.List.Sorted.{IsNonDecreasingBy, IsPartitionPoint};
@@ -10,14 +10,14 @@ use crate::symbol::MachoSymbol;
 use size_core::NoMemory;
 use std::alloc::Global;
 
-/// A symbol's position, in which sections lie 2^64 apart, and its number.
-#[derive(Clone, Copy, Debug)]
+/// The position of a symbol, which is `sect * 2^64 + value`, and its number.
+#[derive(Clone, Copy)]
 pub struct Key {
     pub position: u128,
     pub number: u32,
 }
 
-/// The position of a symbol.
+/// Returns the position of a symbol.
 pub fn position(symbol: &MachoSymbol<'_>) -> u128
     ensures value { result ≡ position (symbol_shown symbol.now) }
     ensures address { symbol.now.value < 2 ^ 64 }
@@ -25,7 +25,7 @@ pub fn position(symbol: &MachoSymbol<'_>) -> u128
     symbol.sect as u128 * (1 << 64) + symbol.value as u128
 }
 
-/// The keys of symbols, in their order.
+/// Returns the keys of symbols, in symbol order.
 #[tactic(auto, using(crate::proofs::IndexLemmas::key_next, crate::proofs::IndexLemmas::keys_over, crate::proofs::IndexLemmas::addresses_more, crate::proofs::IndexLemmas::addresses_whole))]
 fn keys_of(alloc: Global, symbols: &[MachoSymbol<'_>]) -> Result<Vec<Key>, NoMemory>
     requires { length symbols.now < 2 ^ 32 }
@@ -42,7 +42,7 @@ fn keys_of(alloc: Global, symbols: &[MachoSymbol<'_>]) -> Result<Vec<Key>, NoMem
     Ok(keys)
 }
 
-/// The keys of symbols by position, and those of one position in the symbols' order.
+/// Returns the keys of symbols, sorted by position, and those of one position in symbol order.
 pub fn index_of(alloc: Global, symbols: &[MachoSymbol<'_>]) -> Result<Vec<Key>, NoMemory>
     requires { length symbols.now < 2 ^ 32 }
     ensures index { IfOk result (λ v. IsIndex (map symbol_shown symbols.now) v.items) }
@@ -53,7 +53,7 @@ pub fn index_of(alloc: Global, symbols: &[MachoSymbol<'_>]) -> Result<Vec<Key>, 
     Ok(keys)
 }
 
-/// How many keys stand before a position.
+/// Returns how many keys are below a position.
 pub fn keys_before(keys: &[Key], position: u128) -> usize
     requires { IsNonDecreasingBy (λ (k : KeySpec). k.position) keys.now }
     ensures bound { result ≤ length keys.now }
@@ -65,7 +65,7 @@ pub fn keys_before(keys: &[Key], position: u128) -> usize
     keys.partition_point(|key| key.position < position)
 }
 
-/// How many keys stand before a position or at it.
+/// Returns how many keys are at a position or below it.
 pub fn keys_up_to(keys: &[Key], position: u128) -> usize
     requires { IsNonDecreasingBy (λ (k : KeySpec). k.position) keys.now }
     ensures bound { result ≤ length keys.now }

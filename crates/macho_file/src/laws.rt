@@ -1,4 +1,4 @@
-//! The numbers of the standard, in plain digits: the contract of a function that does nothing.
+//! The constants of the standard in digits: the contract of a function with an empty body.
 
 ghost use Rattle.std.specs.Prelude.{◌≡◌};
 
@@ -10,9 +10,9 @@ use crate::constants::{
     S_THREAD_LOCAL_ZEROFILL, S_ZEROFILL, SECTION_TYPE,
 };
 
-/// The values that definitions take from the code's constants, as `mach-o/loader.h` (`mach_header`,
-/// `load_command`, `section`) and `mach-o/nlist.h` have them.
-pub fn constants_are_the_standards()
+/// A law: the values of the constants that definitions use, from `mach-o/loader.h` (`mach_header`,
+/// `load_command`, `section`) and `mach-o/nlist.h`.
+pub fn standard_numbers()
     ensures magic { (MH_MAGIC ≡ 4277009102) × (MH_MAGIC_64 ≡ 4277009103) }
     ensures file_type { (MH_OBJECT ≡ 1) × (MH_DSYM ≡ 10) }
     ensures segments { (LC_SEGMENT ≡ 1) × (LC_SEGMENT_64 ≡ 25) }

@@ -1,5 +1,5 @@
-//! Mach-O files: the header, the load commands, segments, sections and symbols of thin files, for both
-//! classes and both byte orders. A file is borrowed, and all but the symbols' spans takes no memory.
+//! Mach-O files: the header, the load commands, and the segments, sections and symbols of thin files, for
+//! both classes and both byte orders. The file is borrowed, and only the spans of symbols allocate memory.
 #![tactic(auto)]
 
 mod answer;
@@ -14,7 +14,7 @@ mod index;
 mod laws;
 mod link_edit;
 mod link_edit_parts;
-mod places;
+mod lookup;
 mod section;
 mod sections;
 mod segment;
@@ -33,7 +33,7 @@ pub use commands::Commands;
 pub use constants::{LC_UUID, MH_OBJECT};
 pub use encoding::Encoding;
 pub use file::MachoFile;
-pub use laws::constants_are_the_standards;
+pub use laws::standard_numbers;
 pub use link_edit::{LinkEdit, LinkEditPart};
 pub use link_edit_parts::LinkEditParts;
 pub use section::MachoSection;
@@ -42,6 +42,3 @@ pub use segment::MachoSegment;
 pub use segments::Segments;
 pub use spans::SymbolSpan;
 pub use symbol::MachoSymbol;
-
-#[cfg(test)]
-mod tests;

@@ -1,4 +1,4 @@
-//! The parts of a file that its link-edit commands place.
+//! The ranges of a file that load commands locate in the link-edit data.
 
 ghost use Rattle.std.specs.Prelude.{◌≡◌};
 ghost use Rattle.macho_file.specs.Commands.{data_kind};
@@ -8,24 +8,24 @@ use crate::constants::{
     LC_DYLIB_CODE_SIGN_DRS, LC_FUNCTION_STARTS, LC_LINKER_OPTIMIZATION_HINT, LC_SEGMENT_SPLIT_INFO,
 };
 
-/// What a part of the link-edit data is for.
+/// What a range of the link-edit data contains.
 #[derive(Clone, Copy, Debug, PartialEq, Eq, Hash)]
 pub enum LinkEdit {
     /// The symbols (LC_SYMTAB).
     SymbolTable,
-    /// The names of the symbols (LC_SYMTAB).
+    /// The string table of the symbols (LC_SYMTAB).
     StringTable,
-    /// The numbers of indirect symbols (LC_DYSYMTAB).
+    /// The indirect symbol table (LC_DYSYMTAB).
     IndirectSymbols,
-    /// Where the dynamic linker adds the file's slide (LC_DYLD_INFO, LC_DYLD_INFO_ONLY).
+    /// The rebase information (LC_DYLD_INFO, LC_DYLD_INFO_ONLY).
     RebaseInfo,
-    /// What it binds (LC_DYLD_INFO, LC_DYLD_INFO_ONLY).
+    /// The binding information (LC_DYLD_INFO, LC_DYLD_INFO_ONLY).
     BindingInfo,
-    /// What it binds weakly (LC_DYLD_INFO, LC_DYLD_INFO_ONLY).
+    /// The weak binding information (LC_DYLD_INFO, LC_DYLD_INFO_ONLY).
     WeakBindingInfo,
-    /// What it binds at the first use (LC_DYLD_INFO, LC_DYLD_INFO_ONLY).
+    /// The lazy binding information (LC_DYLD_INFO, LC_DYLD_INFO_ONLY).
     LazyBindingInfo,
-    /// What the file exports (LC_DYLD_INFO, LC_DYLD_INFO_ONLY).
+    /// The export information (LC_DYLD_INFO, LC_DYLD_INFO_ONLY).
     ExportInfo,
     /// LC_CODE_SIGNATURE.
     CodeSignature,
@@ -45,7 +45,7 @@ pub enum LinkEdit {
     ChainedFixups,
 }
 
-/// What a command of the form `linkedit_data_command` places.
+/// Returns what a `linkedit_data_command` of this kind locates.
 #[tactic(auto, unfolding(crate::specs::Commands::data_kind))]
 pub fn data_kind(kind: u32) -> Option<LinkEdit>
     ensures { result ≡ data_kind kind }
@@ -71,13 +71,13 @@ pub fn data_kind(kind: u32) -> Option<LinkEdit>
     }
 }
 
-/// A part of the link-edit data, as a command places it. It may pass the file's end.
+/// A range of the link-edit data, as a load command has it. It may end after the file.
 #[derive(Clone, Copy, Debug, PartialEq, Eq, Hash)]
 pub struct LinkEditPart {
-    /// What it is for.
+    /// What the range contains.
     pub kind: LinkEdit,
     /// Its file offset.
     pub offset: u64,
-    /// In bytes.
+    /// Its size in bytes.
     pub len: u64,
 }

@@ -1,4 +1,4 @@
-//! The parts of the link-edit data, as an iterator.
+//! The ranges of the link-edit data, as an iterator.
 
 ghost use Rattle.std.specs.Prelude.{◌≡◌, ◌+◌, ◌≤◌, ◌<◌, ◌^◌, length, slice_get};
 ghost use Rattle.std.specs.Iterator.{YieldsFirst, item_count};
@@ -15,8 +15,8 @@ use crate::sizes::is_dyld_info;
 use crate::walk::Walk;
 use std::marker::Model;
 
-/// The part whose offset is a field of a command and whose length is the field behind it, in units of some
-/// bytes.
+/// Returns the range whose file offset is a field of the command. The next field is its length, in units of
+/// `unit` bytes.
 #[tactic(auto, unfolding(crate::specs::LinkEdit::part_at))]
 fn part_at(
     file: &[u8],
@@ -40,7 +40,7 @@ fn part_at(
     }
 }
 
-/// Part `i` of a `symtab_command`.
+/// Returns range `i` of a `symtab_command`.
 fn table_part(file: &[u8], encoding: Encoding, command: Command, i: u32) -> Option<LinkEditPart>
     requires encoding { encoding ≡ encoding_of file.now }
     requires within { command.place + 24 ≤ length file.now }
@@ -55,7 +55,7 @@ fn table_part(file: &[u8], encoding: Encoding, command: Command, i: u32) -> Opti
     }
 }
 
-/// Part `i` of a `dyld_info_command`.
+/// Returns range `i` of a `dyld_info_command`.
 fn dyld_part(file: &[u8], encoding: Encoding, command: Command, i: u32) -> Option<LinkEditPart>
     requires encoding { encoding ≡ encoding_of file.now }
     requires within { command.place + 48 ≤ length file.now }
@@ -73,7 +73,7 @@ fn dyld_part(file: &[u8], encoding: Encoding, command: Command, i: u32) -> Optio
     Some(part_at(file, encoding, command, kind, 8 + 8 * i as u64, 1))
 }
 
-/// Part `i` of what a command places.
+/// Returns range `i` of a command.
 #[tactic(auto, unfolding(crate::specs::LinkEdit::parts_of, crate::specs::Commands::least_size, crate::specs::Commands::least_by_kind))]
 fn part_of(file: &[u8], encoding: Encoding, command: Command, i: u32) -> Option<LinkEditPart>
     requires header { HasHeader file.now encoding }
@@ -96,7 +96,7 @@ fn part_of(file: &[u8], encoding: Encoding, command: Command, i: u32) -> Option<
     Some(part_at(file, encoding, command, kind, 8, 1))
 }
 
-/// The parts of the link-edit data that are still to come, in the order of the commands.
+/// The ranges of the link-edit data that `next` has not returned yet, in the order of the commands.
 #[derive(Drop)]
 pub struct LinkEditParts<'a> {
     walk: Walk<'a>,
@@ -130,7 +130,7 @@ impl<'a> LinkEditParts<'a> {
     }
 }
 
-/// Part `i` of what a command places, or of none.
+/// Returns range `i` of a command, and none where there is no command.
 fn part_of_some(
     file: &[u8],
     encoding: Encoding,

@@ -15,23 +15,23 @@ use crate::segment::name_16;
 pub struct MachoSection<'a> {
     /// The file offset of its header.
     pub place: u64,
-    /// The name of its segment, as its own header has it, without the zeros behind it.
+    /// `segname`, the name of its segment, without trailing zeros.
     pub segment: &'a [u8],
-    /// Its name, without the zeros behind it.
+    /// `sectname`, its name, without trailing zeros.
     pub name: &'a [u8],
-    /// Its virtual address.
+    /// `addr`, its virtual address.
     pub addr: u64,
-    /// In bytes.
+    /// `size`, in bytes.
     pub size: u64,
-    /// The file offset of its bytes.
+    /// `offset`, the file offset of its bytes.
     pub offset: u64,
-    /// `flags`, with its type in the low byte.
+    /// `flags`, with the section type in the low byte.
     pub flags: u32,
     /// Whether its bytes are in this file.
     pub in_file: bool,
 }
 
-/// Whether the type in a section's flags says that it is filled with zeros.
+/// Returns whether the section type in `flags` is one of the zero-filled types.
 fn is_zero_filled(flags: u32) -> bool
     ensures { result ≡ is_zero_filled flags }
 {
@@ -39,7 +39,7 @@ fn is_zero_filled(flags: u32) -> bool
     kind == S_ZEROFILL || kind == S_GB_ZEROFILL || kind == S_THREAD_LOCAL_ZEROFILL
 }
 
-/// Whether the bytes of a section are in the file.
+/// Returns whether the bytes of a section are in the file.
 #[tactic(auto, unfolding(crate::specs::Tables::is_in_file))]
 fn is_in_file(file: &[u8], encoding: Encoding, segment: &[u8], offset: u32, flags: u32) -> bool
     requires encoding { encoding ≡ encoding_of file.now }
@@ -52,7 +52,7 @@ fn is_in_file(file: &[u8], encoding: Encoding, segment: &[u8], offset: u32, flag
     encoding.four(file, 12) != MH_DSYM || segment == b"__DWARF".as_slice()
 }
 
-/// The section whose header stands at a place, in its class.
+/// Returns the section whose header is at file offset `place`.
 #[tactic(auto, unfolding(crate::specs::Tables::section_at))]
 pub fn section_at<'a>(
     file: &'a [u8],

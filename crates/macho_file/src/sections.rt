@@ -13,7 +13,7 @@ use crate::segments::next_segment;
 use crate::walk::Walk;
 use std::marker::Model;
 
-/// The sections that are still to come, over all segments in the file's order.
+/// The sections of all segments that `next` has not returned yet, in file order.
 #[derive(Drop)]
 pub struct Sections<'a> {
     walk: Walk<'a>,

@@ -15,25 +15,25 @@ use byte_cursor::text_at;
 pub struct MachoSegment<'a> {
     /// The file offset of its command.
     pub place: u64,
-    /// Its name, without the zeros behind it.
+    /// `segname`, its name, without trailing zeros.
     pub name: &'a [u8],
-    /// Its virtual address.
+    /// `vmaddr`, its virtual address.
     pub vaddr: u64,
-    /// How many bytes it has in memory.
+    /// `vmsize`, how many bytes it has in memory.
     pub memsz: u64,
-    /// The file offset of its bytes.
+    /// `fileoff`, the file offset of its bytes.
     pub offset: u64,
-    /// How many bytes it has in the file.
+    /// `filesize`, how many bytes it has in the file.
     pub filesz: u64,
-    /// The most that its memory may be protected for, 0 where it can't be touched.
+    /// `maxprot`, the maximum protection of its memory, 0 where it can't be accessed.
     pub maxprot: u32,
-    /// The number of its first section, among those of all segments.
+    /// The number of its first section. Sections are numbered over all segments.
     pub first: u32,
-    /// How many sections it has.
+    /// `nsects`, the number of its sections.
     pub count: u32,
 }
 
-/// The name in the 16 bytes at a file offset, which may have no zero behind it.
+/// Returns the name in the 16 bytes at file offset `at`. A name of 16 bytes has no terminating zero byte.
 #[tactic(auto, unfolding(crate::specs::Layout::name_16))]
 pub fn name_16(file: &[u8], at: u64) -> &[u8]
     requires within { at + 16 ≤ length file.now }
@@ -47,7 +47,7 @@ pub fn name_16(file: &[u8], at: u64) -> &[u8]
     }
 }
 
-/// How many sections the command of a segment has.
+/// Returns the number of sections of a segment command.
 #[tactic(auto, unfolding(crate::specs::Commands::section_count_of))]
 pub fn section_count_of(file: &[u8], encoding: Encoding, command: Command) -> u32
     requires encoding { encoding ≡ encoding_of file.now }
@@ -59,7 +59,7 @@ pub fn section_count_of(file: &[u8], encoding: Encoding, command: Command) -> u3
     form.four(file, command.place + form.pick(48, 64))
 }
 
-/// The segment of a command, the sections of which are numbered from `first` on.
+/// Returns the segment of a command. Its sections are numbered from `first` on.
 #[tactic(auto, unfolding(crate::specs::Tables::segment_at))]
 pub fn segment_at<'a>(
     file: &'a [u8],

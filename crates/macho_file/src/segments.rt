@@ -15,7 +15,7 @@ use crate::segment::{MachoSegment, segment_at};
 use crate::walk::Walk;
 use std::marker::Model;
 
-/// The next command that is a segment.
+/// Returns the next segment command.
 #[tactic(auto, using(crate::proofs::SegmentLemmas::same_segments, crate::proofs::SegmentLemmas::same_at, crate::proofs::SegmentLemmas::passed_by))]
 pub fn next_segment(walk: &mut Walk<'_>) -> Option<Command>
     ensures file { walk.new.file ≡ walk.old.file }
@@ -35,7 +35,7 @@ pub fn next_segment(walk: &mut Walk<'_>) -> Option<Command>
     None
 }
 
-/// The segments that are still to come, in the file's order.
+/// The segments that `next` has not returned yet, in file order.
 #[derive(Drop)]
 pub struct Segments<'a> {
     walk: Walk<'a>,

@@ -1,4 +1,4 @@
-//! The sizes that load commands have at least.
+//! The minimum sizes of load commands.
 
 ghost use Rattle.std.specs.Prelude.{◌≡◌, ◌+◌, ◌≤◌, ◌<◌, ◌^◌, length, nat_le};
 ghost use Rattle.macho_file.specs.Layout.{encoding_of};
@@ -10,14 +10,14 @@ use crate::encoding::Encoding;
 use crate::link_edit::data_kind;
 use crate::segment::section_count_of;
 
-/// Whether a command of this kind has the form `dyld_info_command`.
+/// Returns whether a command of this kind is a `dyld_info_command`.
 pub fn is_dyld_info(kind: u32) -> bool
     ensures { result ≡ is_dyld_info kind }
 {
     kind == LC_DYLD_INFO || kind == LC_DYLD_INFO_ONLY
 }
 
-/// The size of a command that isn't a segment, by its kind.
+/// Returns the minimum size in bytes of a command that isn't a segment, by its kind.
 #[tactic(auto, unfolding(crate::specs::Commands::least_by_kind))]
 fn least_by_kind(kind: u32) -> u64
     ensures { result ≡ least_by_kind kind }
@@ -37,7 +37,7 @@ fn least_by_kind(kind: u32) -> u64
     }
 }
 
-/// Whether a command that lies in the file has the least size of its kind.
+/// Returns whether a command that lies in the file has at least the minimum size of its kind.
 #[tactic(auto, unfolding(crate::specs::Commands::least_size))]
 pub fn has_least_size(file: &[u8], encoding: Encoding, command: Command) -> bool
     requires encoding { encoding ≡ encoding_of file.now }

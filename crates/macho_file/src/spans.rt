@@ -13,18 +13,18 @@ use crate::symbol::MachoSymbol;
 use size_core::NoMemory;
 use std::alloc::Global;
 
-/// The addresses from a symbol's value on that are its own.
+/// The address range of a symbol, which starts at its value.
 #[derive(Clone, Copy, Debug)]
 pub struct SymbolSpan<'a> {
     /// The symbol's name.
     pub name: &'a [u8],
-    /// Its value, a virtual address.
+    /// Its value, which is a virtual address.
     pub start: u64,
-    /// In bytes.
+    /// Its size in bytes.
     pub len: u64,
 }
 
-/// Whether symbol `i` is the first at its section and value.
+/// Returns whether symbol `i` is the first one with its section and value.
 fn is_first(symbols: &[MachoSymbol<'_>], keys: &[Key], i: usize, symbol: &MachoSymbol<'_>) -> bool
     requires index { IsIndex (map symbol_shown symbols.now) keys.now }
     requires addresses { AreAddresses (map symbol_shown symbols.now) }
@@ -35,7 +35,7 @@ fn is_first(symbols: &[MachoSymbol<'_>], keys: &[Key], i: usize, symbol: &MachoS
     keys[first].number as usize == i
 }
 
-/// The least of the greater values in the section of a symbol.
+/// Returns the smallest of the greater values in the section of a symbol.
 fn next_value(symbols: &[MachoSymbol<'_>], keys: &[Key], symbol: &MachoSymbol<'_>) -> Option<u64>
     requires index { IsIndex (map symbol_shown symbols.now) keys.now }
     requires addresses { AreAddresses (map symbol_shown symbols.now) }
@@ -53,7 +53,7 @@ fn next_value(symbols: &[MachoSymbol<'_>], keys: &[Key], symbol: &MachoSymbol<'_
     }
 }
 
-/// The bytes from the value of a symbol that takes part to its section's end.
+/// Returns the number of bytes from the value of a symbol to the end of its section. The symbol takes part.
 #[tactic(auto, unfolding(crate::specs::Spans::takes_part))]
 fn rest_of_section(extents: &[Extent], symbol: &MachoSymbol<'_>) -> u64
     requires { takes_part extents.now (symbol_shown symbol.now) ≡ true }
@@ -63,7 +63,7 @@ fn rest_of_section(extents: &[Extent], symbol: &MachoSymbol<'_>) -> u64
     extent.size - (symbol.value - extent.addr)
 }
 
-/// The span of symbol `i`, where it is the first at its section and value.
+/// Returns the span of symbol `i`, where it is the first one with its section and value.
 #[tactic(auto, unfolding(crate::specs::Spans::span_of))]
 fn span_at<'a>(
     extents: &[Extent],
@@ -94,7 +94,7 @@ fn span_at<'a>(
     })
 }
 
-/// Adds the span of symbol `i`, where it is the first at its section and value.
+/// Adds the span of symbol `i`, where it is the first one with its section and value.
 fn push_span<'a>(
     spans: &mut Vec<SymbolSpan<'a>>,
     extents: &[Extent],
@@ -118,7 +118,8 @@ fn push_span<'a>(
     Ok(())
 }
 
-/// The spans of symbols that take part, in their order. They are looked up in an index, which is sorted once.
+/// Returns the spans of symbols that take part, in symbol order. An index that is sorted once finds the
+/// next value.
 #[tactic(auto, using(crate::proofs::SpanLemmas::span_next, crate::proofs::SpanLemmas::spans_end, crate::proofs::SpanLemmas::spans_begin, crate::proofs::SpanLemmas::part_at, crate::proofs::LeastLemmas::shown_at))]
 pub fn spans_of<'a>(
     alloc: Global,

@@ -1,4 +1,4 @@
-//! What a file's commands have, counted once.
+//! Counts the tables of a file once.
 
 ghost use Rattle.std.specs.Prelude.{◌≡◌, ◌+◌, ◌<◌, ◌^◌, ◌==◌, None, Some, length, true, if◌then◌else◌};
 ghost use Rattle.macho_file.specs.Layout.{encoding_of, header_len, command_count};
@@ -13,15 +13,15 @@ use crate::encoding::Encoding;
 use crate::segment::section_count_of;
 use crate::walk::Walk;
 
-/// How many segments and sections there are, and the first command with a table of symbols.
-#[derive(Clone, Copy, Debug)]
+/// The numbers of segments and sections, and the first command with a symbol table.
+#[derive(Clone, Copy)]
 pub struct Survey {
     pub segments: u32,
     pub sections: u32,
     pub symtab: Option<Command>,
 }
 
-/// How many sections a command has.
+/// Returns the number of sections of a command.
 #[tactic(auto, using(crate::proofs::TableLemmas::sections_of_segment, crate::proofs::TableLemmas::sections_of_other, crate::proofs::TableLemmas::segment_within))]
 fn sections_in(file: &[u8], encoding: Encoding, command: Command) -> u32
     requires header { HasHeader file.now encoding }
@@ -36,9 +36,9 @@ fn sections_in(file: &[u8], encoding: Encoding, command: Command) -> u32
 }
 
 impl Survey {
-    /// With one more command.
+    /// Returns the survey with one more command.
     #[tactic(auto, using(crate::proofs::TableLemmas::table_inside))]
-    fn with(self, file: &[u8], encoding: Encoding, command: Command) -> Survey
+    fn add_command(self, file: &[u8], encoding: Encoding, command: Command) -> Survey
         requires header { HasHeader file.now encoding }
         requires inside { IsInside file.now command }
         requires segments { self.segments + 1 < 2 ^ 32 }
@@ -66,7 +66,7 @@ impl Survey {
     }
 }
 
-/// What the commands of a file have.
+/// Surveys the commands of a file.
 #[tactic(auto, using(crate::proofs::TableLemmas::sections_small, crate::proofs::TableLemmas::commands_small, crate::proofs::TableLemmas::sections_begin, crate::proofs::TableLemmas::segments_begin, crate::proofs::TableLemmas::table_begins, crate::proofs::TableLemmas::segments_more, crate::proofs::TableLemmas::sections_more, crate::proofs::TableLemmas::found_more))]
 pub fn count_tables(file: &[u8], encoding: Encoding) -> Survey
     requires { HasCommands file.now encoding (header_len file.now) (command_count file.now) }
@@ -82,7 +82,7 @@ pub fn count_tables(file: &[u8], encoding: Encoding) -> Survey
         symtab: None,
     };
     'rows: while let Some(command) = walk.next() {
-        found = found.with(file, encoding, command);
+        found = found.add_command(file, encoding, command);
     }
     found
 }

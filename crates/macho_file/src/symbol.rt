@@ -9,8 +9,8 @@ pub struct MachoSymbol<'a> {
     pub name: &'a [u8],
     /// `n_type`.
     pub kind: u8,
-    /// `n_sect`, the number of its section from 1 on, or 0.
+    /// `n_sect`, the number of its section from 1 on, or 0 where it has none.
     pub sect: u8,
-    /// `n_value`, mostly a virtual address.
+    /// `n_value`, in most files a virtual address.
     pub value: u64,
 }

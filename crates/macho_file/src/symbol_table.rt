@@ -1,4 +1,4 @@
-//! The table of symbols.
+//! The symbol table.
 
 ghost use Rattle.std.specs.Prelude.{◌≡◌, ◌+◌, ◌*◌, ◌≤◌, ◌<◌, ◌^◌, IfOk, length};
 ghost use Rattle.size_core.specs.Checks.{Gives};
@@ -13,20 +13,20 @@ use crate::symbol::MachoSymbol;
 use byte_cursor::text_at;
 use size_core::{BadFile, Fault};
 
-/// Where the symbols and their names stand (`symtab_command`).
-#[derive(Clone, Copy, Debug, PartialEq, Eq, Hash)]
+/// The file ranges of the symbols and of their string table (`symtab_command`).
+#[derive(Clone, Copy)]
 pub struct SymbolTable {
     /// The file offset of the symbols.
     pub symoff: u32,
-    /// How many symbols there are.
+    /// The number of symbols.
     pub nsyms: u32,
-    /// The file offset of their names.
+    /// The file offset of the string table.
     pub stroff: u32,
-    /// How many bytes the names have.
+    /// The size of the string table in bytes.
     pub strsize: u32,
 }
 
-/// What a `symtab_command` at a place says.
+/// Returns the fields of the `symtab_command` at file offset `place`.
 #[tactic(auto, unfolding(crate::specs::Symbols::table_at))]
 fn table_at(file: &[u8], encoding: Encoding, place: u64) -> SymbolTable
     requires encoding { encoding ≡ encoding_of file.now }
@@ -42,7 +42,8 @@ fn table_at(file: &[u8], encoding: Encoding, place: u64) -> SymbolTable
     }
 }
 
-/// The table of a command, whose symbols and names have to lie in the file, or an empty one.
+/// Returns the symbol table of a command, and an empty one where there is no command. TablePastEnd where
+/// the symbols or the string table end after the file.
 #[tactic(auto, unfolding(crate::specs::Symbols::table_of))]
 pub fn table_of(
     file: &[u8],
@@ -75,7 +76,7 @@ pub fn table_of(
     Ok(table)
 }
 
-/// The name of the symbol at a place.
+/// Returns the name of the symbol at file offset `place`.
 #[tactic(auto, unfolding(crate::specs::Symbols::symbol_name))]
 fn symbol_name<'a>(
     file: &'a [u8],
@@ -103,7 +104,7 @@ fn symbol_name<'a>(
     }
 }
 
-/// Symbol `k` of a table.
+/// Returns symbol `k` of a table.
 #[tactic(auto, unfolding(crate::specs::Symbols::symbol_of), using(crate::proofs::SymbolLemmas::symbol_within))]
 pub fn symbol_of<'a>(
     file: &'a [u8],

@@ -15,7 +15,7 @@ use crate::symbol_table::{SymbolTable, symbol_of};
 use size_core::NoMemory;
 use std::alloc::Global;
 
-/// Whether an address lies in the section of a number.
+/// Returns whether an address lies in the section with this number.
 fn lies_in(extents: &[Extent], sect: u8, value: u64) -> bool
     ensures { result ≡ lies_in value (extent_numbered extents.now sect) }
 {
@@ -28,8 +28,8 @@ fn lies_in(extents: &[Extent], sect: u8, value: u64) -> bool
     }
 }
 
-/// Whether a symbol takes part: it is no debugger's, it is defined in a section, it has a name, and its value
-/// lies in its section.
+/// Returns whether a symbol takes part: it isn't for a debugger, it is defined in a section, it has a name,
+/// and its value lies in its section.
 #[tactic(auto, unfolding(crate::specs::Spans::takes_part))]
 fn takes_part(extents: &[Extent], symbol: &MachoSymbol<'_>) -> bool
     ensures { result ≡ takes_part extents.now (symbol_shown symbol.now) }
@@ -43,8 +43,8 @@ fn takes_part(extents: &[Extent], symbol: &MachoSymbol<'_>) -> bool
     lies_in(extents, symbol.sect, symbol.value)
 }
 
-/// Adds a symbol that takes part.
-fn push_taking<'a>(
+/// Adds a symbol if it takes part.
+fn push_if_taking_part<'a>(
     taking: &mut Vec<MachoSymbol<'a>>,
     extents: &[Extent],
     symbol: MachoSymbol<'a>,
@@ -59,9 +59,9 @@ fn push_taking<'a>(
     Ok(())
 }
 
-/// The symbols of a table that take part, in its order. Each symbol of the table is read.
+/// Returns the symbols of a table that take part, in table order. Each symbol of the table is read.
 #[tactic(auto, using(crate::proofs::TakenLemmas::taken_next, crate::proofs::TakenLemmas::taken_bad, crate::proofs::TakenLemmas::taken_end, crate::proofs::TakenLemmas::taken_none, crate::proofs::TakenLemmas::few_more))]
-pub fn taking_part<'a>(
+pub fn symbols_taking_part<'a>(
     alloc: Global,
     file: &'a [u8],
     encoding: Encoding,
@@ -78,7 +78,7 @@ pub fn taking_part<'a>(
     let mut taking = Vec::new(alloc);
     'rows: for k in 0..table.nsyms {
         let symbol = symbol_of(file, encoding, table, k)?;
-        push_taking(&mut taking, extents, symbol)?;
+        push_if_taking_part(&mut taking, extents, symbol)?;
     }
     Ok(taking)
 }

@@ -1,4 +1,4 @@
-//! The load commands of a file, one after another.
+//! Walks over the load commands of a file.
 
 ghost use Rattle.std.specs.Prelude.{◌≡◌, [], ◌∷◌, MatchOption, IfSome, Ok};
 ghost use Rattle.size_core.specs.Checks.{first_of};
@@ -11,7 +11,7 @@ use crate::command::{Command, command_at};
 use crate::encoding::Encoding;
 use std::marker::Model;
 
-/// A file, and those of its commands that are still to come. All of them are checked.
+/// A file, and its commands that `next` has not returned yet. All of them are checked.
 #[derive(Drop)]
 pub struct Walk<'a> {
     file: &'a [u8],
@@ -32,7 +32,7 @@ impl<'a> Model for Walk<'a> {
 }
 
 impl<'a> Walk<'a> {
-    /// All commands of a file.
+    /// Returns a walk over all commands of a file.
     pub fn new(file: &'a [u8], encoding: Encoding) -> Walk<'a>
         requires { HasCommands file.now encoding (header_len file.now) (command_count file.now) }
         ensures file { result.file ≡ file.entry.now }
@@ -46,7 +46,7 @@ impl<'a> Walk<'a> {
         }
     }
 
-    /// The whole file.
+    /// Returns the bytes of the whole file.
     pub fn bytes(&self) -> &'a [u8]
         ensures value { result.now ≡ self.now.file }
         ensures header { HasHeader self.now.file (encoding_of self.now.file) }
@@ -54,14 +54,14 @@ impl<'a> Walk<'a> {
         self.file
     }
 
-    /// The file's class and byte order.
+    /// Returns the class and the byte order of the file.
     pub fn encoding(&self) -> Encoding
         ensures { result ≡ encoding_of self.now.file }
     {
         self.encoding
     }
 
-    /// The next command.
+    /// Returns the next command.
     #[tactic(auto, using(crate::proofs::WalkLemmas::is_inside, crate::proofs::WalkLemmas::has_eight, crate::proofs::WalkLemmas::fits_here, crate::proofs::WalkLemmas::goes_on, crate::proofs::WalkLemmas::comes, crate::proofs::WalkLemmas::is_over))]
     pub fn next(&mut self) -> Option<Command>
         ensures file { self.new.file ≡ self.old.file }

@@ -13,7 +13,7 @@ HasByte turn = 0 < length turn
 abbrev IsInChunk : List ℕ → Type 0
 IsInChunk turn = length turn ≤ turn_most
 
--- turns that took these bytes, and each one byte at least
+-- Turns that took these bytes, each at least one.
 pub record Filled (before now : List (List ℕ)) (bytes : List ℕ) : Type 0 where
   pub made : List (List ℕ)
   pub behind : now ≡ before ++ made
@@ -21,7 +21,7 @@ pub record Filled (before now : List (List ℕ)) (bytes : List ℕ) : Type 0 whe
   pub some : All HasByte made
   pub most : All IsInChunk made
 
--- no turn
+-- No turn.
 pub Filled-none : (turns : List (List ℕ)) → Filled turns turns []
 Filled-none turns = record {
   made = [];
@@ -31,7 +31,7 @@ Filled-none turns = record {
   most = All-nil IsInChunk;
 }
 
--- they are a reading
+-- Such turns are a reading.
 pub Filled-took : (before now : List (List ℕ)) (bytes : List ℕ) → Filled before now bytes → Took before now bytes
 Filled-took before now bytes f = record {
   made = f.made;
@@ -44,7 +44,7 @@ Filled-took before now bytes f = record {
 pub Took-none : (turns : List (List ℕ)) → Took turns turns []
 Took-none turns = Filled-took turns turns [] (Filled-none turns)
 
--- one turn
+-- One turn is a reading.
 pub Took-one : (before now : List (List ℕ)) (turn : List ℕ) → now ≡ before ++ turn ∷ [] → length turn ≤ turn_most → Took before now turn
 Took-one before now turn behind most = record {
   made = turn ∷ [];
@@ -54,7 +54,7 @@ Took-one before now turn behind most = record {
   most = All-push IsInChunk [] turn (All-nil IsInChunk) most;
 }
 
--- one turn more that took a byte
+-- One more turn that took a byte.
 pub Filled-more : (before mid now : List (List ℕ)) (bytes turn : List ℕ) → Filled before mid bytes → now ≡ mid ++ turn ∷ [] → 0 < length turn → length turn ≤ turn_most → Filled before now (bytes ++ turn)
 Filled-more before mid now bytes turn f behind some most = record {
   made = f.made ++ turn ∷ [];
@@ -64,7 +64,7 @@ Filled-more before mid now bytes turn f behind some most = record {
   most = All-push IsInChunk f.made turn f.most most;
 }
 
--- all but the last of two lists end to end, where each of the first is as it should be
+-- All but the last of two concatenated lists, where the condition holds of each item of the first.
 All-but-last : (P : List ℕ → Type 0) (xs ys : List (List ℕ)) → All P xs → All P (take (length ys - 1) ys) → All P (take (length (xs ++ ys) - 1) (xs ++ ys))
 All-but-last P xs [] each rest = All-take P (length (xs ++ []) - 1) (xs ++ []) (All-append P xs [] each (All-nil P))
 All-but-last P xs (y ∷ ys) each rest =
@@ -73,7 +73,7 @@ All-but-last P xs (y ∷ ys) each rest =
     let parts = ap (λ n. take n (xs ++ y ∷ ys)) count ∙ take-append-add xs (y ∷ ys) (length ys) in
     subst (All P) (sym parts) (All-append P xs (take (length ys) (y ∷ ys)) each (subst (λ n. All P (take n (y ∷ ys))) last rest))
 
--- turns that took a byte each, and a reading behind them
+-- Turns that took a byte each, and a reading after them.
 pub Took-behind : (before mid now : List (List ℕ)) (xs ys : List ℕ) → Filled before mid xs → Took mid now ys → Took before now (xs ++ ys)
 Took-behind before mid now xs ys f t = record {
   made = f.made ++ t.made;
@@ -83,23 +83,23 @@ Took-behind before mid now xs ys f t = record {
   most = All-append IsInChunk f.made t.made f.most t.most;
 }
 
--- turns that took a byte each, and one that took none, or no other
+-- Turns that took a byte each, and at most one more that took none.
 pub Took-last : (before mid now : List (List ℕ)) (bytes : List ℕ) → Filled before mid bytes → Took mid now [] → Took before now bytes
 Took-last before mid now bytes f t = subst (Took before now) (append-nil bytes) (Took-behind before mid now bytes [] f t)
 
--- the count of all bytes grows by those of a reading
+-- The count of all bytes grows by those of a reading.
 pub Took-length : (before now : List (List ℕ)) (bytes : List ℕ) → Took before now bytes → length (concat now) ≡ length (concat before) + length bytes
 Took-length before now bytes t =
     ap (λ ts. length (concat ts)) t.behind ∙ (ap length (concat-append before t.made) ∙ (length-append (concat before) (concat t.made) ∙ ap (λ bs. length (concat before) + length bs) t.whole))
 
--- a list was filled up to i, and another has that front and n bytes more, of one turn
+-- A list was filled up to i, and another has the same first i bytes and n more, from one turn.
 pub Filled-taken : (before mid now : List (List ℕ)) (xs ys : List ℕ) (i n : ℕ) → take i ys ≡ take i xs → i + n ≤ length ys → 0 < n → n ≤ turn_most
     → Filled before mid (take i xs) → now ≡ mid ++ take n (drop i ys) ∷ [] → Filled before now (take (i + n) ys)
 Filled-taken before mid now xs ys i n front fits some most f behind =
     let long : length (take n (drop i ys)) ≡ n = omega (arith, length-take n (drop i ys), length-drop i ys, fits) in
     rw take-add (Filled-more before mid now (take i ys) (take n (drop i ys)) (subst (Filled before mid) (sym front) f) behind (omega (arith, long, some)) (omega (arith, long, most)))
 
--- turns that took a byte each, and one of no byte
+-- Turns that took a byte each, and one that took none.
 pub Took-end : (before mid now : List (List ℕ)) (bytes xs : List ℕ) (n : ℕ) → Filled before mid bytes → now ≡ mid ++ take n xs ∷ [] → n ≡ 0 → Took before now bytes
 Took-end before mid now bytes xs n f behind none =
     Took-last before mid now bytes f (Took-one mid now [] (behind ∙ ap (λ k. mid ++ take k xs ∷ []) none) (omega arith))

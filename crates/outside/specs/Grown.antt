@@ -1,12 +1,12 @@
--- What was added to the bytes that a sink has.
+-- How the bytes of a sink grow.
 use Rattle.std.specs.Prelude.{◌≡◌, ℕ, ◌<◌, List, length, take, Option}
 use Rattle.std.specs.Io.KnownBytes.{append_known}
 
--- the bytes, where they are told, grew by these
+-- The bytes of a sink, where they are known, grew by these.
 abbrev pub Grew : Option (List ℕ) → Option (List ℕ) → List ℕ → Type 0
 Grew old new bytes = new ≡ append_known old bytes
 
--- they grew by a proper prefix of these
+-- The bytes of a sink, where they are known, grew by a proper prefix of these.
 pub record GrewByPart (old new : Option (List ℕ)) (bytes : List ℕ) : Type 0 where
   pub count : ℕ
   pub proper : count < length bytes

@@ -3,27 +3,27 @@ use Rattle.std.specs.Prelude.{◌≡◌, ℕ, ◌+◌, ◌<◌, List, [], ◌∷
 use Rattle.std.specs.Str.{bytes_eq}
 use Rattle.outside.specs.Causes.{RoseBy}
 
--- names, and the bytes of each
+-- Names, and the bytes of each.
 abbrev pub Pairs : Type 0
 Pairs = List (List ℕ × List ℕ)
 
--- the bytes of a name: those of its first pair, and none where it has no pair
+-- The bytes of a name: those of its first pair, and none where it has no pair.
 abbrev pub held_bytes : Pairs → List ℕ → List ℕ
 held_bytes [] name = []
 held_bytes (pair ∷ rest) name = if bytes_eq pair.0 name then pair.1 else held_bytes rest name
 
--- these are the bytes of the name, where the object tells
+-- These are the bytes of the name, where the contents of the files are known.
 abbrev pub IsHeld : Option Pairs → List ℕ → List ℕ → Type 0
 IsHeld None name bytes = ⊤
 IsHeld (Some pairs) name bytes = bytes ≡ held_bytes pairs name
 
--- The name holds more bytes than the limit. Where the object doesn't tell, it took more than the limit, by the
--- count of the bytes that it took before and takes now.
+-- The name has more bytes than the limit. Where the contents aren't known, the count of read bytes rose by
+-- more than the limit.
 abbrev pub IsLonger : Option Pairs → List ℕ → ℕ → ℕ → ℕ → Type 0
 IsLonger None name limit before now = RoseBy (limit + 1) before now
 IsLonger (Some pairs) name limit before now = limit < length (held_bytes pairs name)
 
--- The bytes that a read gave count as taken, where the object doesn't tell what it holds.
+-- The bytes that a read returned were counted, where the contents of the files aren't known.
 abbrev pub IsTaken : Option Pairs → ℕ → ℕ → ℕ → Type 0
 IsTaken None count before now = RoseBy count before now
 IsTaken (Some pairs) count before now = ⊤

@@ -1,10 +1,10 @@
-//! A count of calls, some of which are to fail.
+//! A count of calls, some of which are made to fail.
 
 ghost use Rattle.std.specs.Prelude.{◌≡◌};
 ghost use Rattle.outside.specs.Causes.{raised};
 ghost use Rattle.outside.specs.Memory.{next_fails};
 
-// Counts a call, and says whether it is to fail. A call past the greatest u64 has no number.
+// Counts a call, and returns whether it has to fail. A call after 2^64 - 1 others never fails.
 pub(crate) fn count_call(calls: &mut u64, failing: &[u64]) -> bool
     ensures counted { calls.new ≡ raised calls.old }
     ensures fails { result ≡ next_fails calls.old failing.now }

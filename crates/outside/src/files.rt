@@ -7,7 +7,7 @@ ghost use Rattle.outside.specs.Held.{Pairs, IsHeld, IsLonger, IsTaken};
 use std::alloc::{AllocError, Global};
 use thiserror::Error;
 
-/// Why a read gave no bytes.
+/// Why a read returned no bytes.
 #[derive(Clone, Copy, Debug, PartialEq, Eq, Hash, Error)]
 pub enum FileAnswer {
     /// The file couldn't be read.
@@ -34,23 +34,24 @@ impl From<AllocError> for FileAnswer {
 
 /// Files by name.
 pub trait Files {
-    /// The names and the bytes that they hold, where the object tells. A name holds the bytes of its first
-    /// pair, and none where it has no pair.
+    /// The names and the bytes of the files, where they are known. A name has the bytes of its first pair,
+    /// and no bytes where it has no pair.
     ghost held: { Self → Option Pairs };
 
-    /// How often a read has failed. It may stop at the greatest u64.
+    /// How many reads have failed. The count may stop at 2^64 - 1.
     ghost faults: { Self → ℕ };
 
-    /// The name of the last read that failed, empty before any, where the object tells.
+    /// The name of the last read that failed, empty before any failure, where it is known.
     ghost last_failed: { Self → Option (List ℕ) };
 
-    /// How many bytes were taken, where the object doesn't tell what it holds. It may stop at the greatest u64.
+    /// How many bytes were read, where the contents of the files aren't known. The count may stop at 2^64 -
+    /// 1.
     ghost taken: { Self → ℕ };
 
-    /// The names that were asked for, in order, whatever was answered.
+    /// The names that were requested, in order, whatever the reads returned.
     ghost asked: { Self → List (List ℕ) };
 
-    /// The bytes of a file, where they are at most `limit`.
+    /// Returns the bytes of a file, where they are at most `limit`.
     fn read(&mut self, alloc: Global, name: &str, limit: u64) -> Result<Vec<u8>, FileAnswer>
         ensures asked { asked self.new ≡ asked self.old ++ name.now ∷ [] }
         ensures held { held self.new ≡ held self.old }

@@ -1,4 +1,5 @@
-//! The files and writers of the host: the trusted edge, which tells nothing of what files hold.
+//! The files and writers of the host. This is the trusted edge: contracts don't know what the host's files
+//! hold.
 
 ghost use Rattle.std.specs.Prelude.{◌≡◌, ◌≢◌, ◌≤◌, ◌<◌, ◌+◌, ◌↔◌, ◌++◌, ◌∷◌, [], None, IfOk, OnOk, OnErr, IsErrOf, length, take};
 ghost use Rattle.std.specs.Io.KnownBytes.{Appends};
@@ -20,7 +21,7 @@ use std::marker::Model;
 use std::mem::replace;
 use std::{fs, io, rt};
 
-/// A writer of std, flushed after each write. It tells nothing of what it wrote.
+/// A writer of std, flushed after each write. Its written bytes aren't known to contracts.
 #[derive(Drop)]
 pub struct HostSink<W: Write + Drop> {
     writer: W,
@@ -36,7 +37,7 @@ impl<W: Write + Drop> Model for HostSink<W> {
 }
 
 impl<W: Write + Drop> HostSink<W> {
-    /// A sink over a writer. No write has failed.
+    /// Returns a sink over a writer, with no failed write.
     pub fn new(writer: W) -> HostSink<W>
         ensures { result ≡ (writer, 0) }
     {
@@ -49,8 +50,9 @@ impl<W: Write + Drop> Sink for HostSink<W> {
 
     ghost faults = { λ s. s.1 };
 
-    /// Fails where the writer or its flush does, or where the writer takes nothing. An Ok is what the writer
-    /// took, by what it holds, where it tells.
+    /// Writes some bytes and flushes. Fails where the writer or its flush fails, or where the writer takes
+    /// no byte. After an Ok, the writer's model has grown by the bytes that it took, where it has a model
+    /// of them.
     fn write(&mut self, piece: &[u8]) -> Result<usize, Failed>
         requires { 0 < length piece.now }
         ensures some { IfOk result (λ n. 0 < n) }
@@ -78,7 +80,7 @@ impl<W: Write + Drop> Sink for HostSink<W> {
     }
 }
 
-/// The host's files. They tell nothing of what they hold.
+/// The host's files. Their contents aren't known to contracts.
 #[derive(Drop)]
 pub struct HostFiles<'r, R: rt::Files> {
     rt: &'r R,
@@ -96,7 +98,7 @@ impl<'r, R: rt::Files> Model for HostFiles<'r, R> {
 }
 
 impl<'r, R: rt::Files> HostFiles<'r, R> {
-    /// The files of a runtime. No read has failed, there was no turn, and no name was asked for.
+    /// Returns the files of a runtime, before any read.
     pub fn new(rt: &'r R) -> HostFiles<'r, R>
         ensures { result ≡ record { faults = 0; turns = []; asked = [] } }
     {
@@ -120,8 +122,8 @@ impl<'r, R: rt::Files> Files for HostFiles<'r, R> {
 
     ghost asked = { λ f. f.asked };
 
-    /// Takes at most one byte more than the limit. Each turn but the last takes one byte at least, and none takes
-    /// more than 2^18. A failed read counts as a fault, and nothing else does.
+    /// Reads at most one byte more than the limit. Each turn but the last takes at least one byte, and none
+    /// takes more than 2^18. A failed read counts as a fault, and nothing else does.
     fn read(&mut self, alloc: Global, name: &str, limit: u64) -> Result<Vec<u8>, FileAnswer>
         ensures asked { self.new.asked ≡ self.old.asked ++ name.now ∷ [] }
         ensures later { self.old.faults ≤ self.new.faults }
@@ -151,7 +153,7 @@ impl<'r, R: rt::Files> Files for HostFiles<'r, R> {
     }
 }
 
-// The bytes of an open file, up to so many, with its turns noted behind those that were before.
+// Reads an open file, up to `most` bytes. The new turns are noted after the earlier ones.
 fn read_file<F: Read + Drop>(
     alloc: Global,
     file: F,
@@ -167,7 +169,7 @@ fn read_file<F: Read + Drop>(
     read
 }
 
-// The answer for an error: want of memory is no fault.
+// Returns the answer for an error. Out of memory is no fault.
 fn answer(faults: &mut u64, e: &io::Error) -> FileAnswer
     ensures counted { (result ≡ FileAnswer.Failed) → faults.new ≡ raised faults.old }
     ensures not_counted { (result ≢ FileAnswer.Failed) → faults.new ≡ faults.old }

@@ -1,4 +1,4 @@
-//! What a program is handed to reach outside: files by name, and places to write to.
+//! What a program gets to reach the outside: files by name, and sinks to write to.
 #![tactic(auto)]
 
 mod calls;
@@ -17,6 +17,3 @@ pub use notes::Notes;
 pub use reading::take_up_to;
 pub use sink::{Failed, Sink, write_pieces, write_whole};
 pub use turns::{TurnReader, Turns};
-
-#[cfg(test)]
-mod tests;

@@ -1,4 +1,4 @@
-//! Files and a sink in memory, which fail at the calls that a list names.
+//! Files and a sink in memory, which fail at the calls whose numbers are listed.
 
 ghost use Rattle.std.specs.Prelude.{◌≡◌, ◌≢◌, ◌≤◌, ◌<◌, ◌++◌, ◌∷◌, IfOk, OnOk, OnErr, IsErrOf, Some, [], length, take};
 ghost use Rattle.outside.specs.Causes.{Rose};
@@ -15,8 +15,8 @@ use size_core::NoMemory;
 use std::alloc::Global;
 use std::marker::Model;
 
-/// A sink with room for a number of bytes that is known before. It takes at most a stated number of bytes
-/// in a call, and fails at the calls that a list names; calls are counted from 1.
+/// A sink with a fixed capacity in bytes. It takes at most a given number of bytes in a call, and fails at
+/// the calls whose numbers are listed. Calls are counted from 1.
 #[derive(Drop)]
 pub struct MemSink {
     bytes: Vec<u8>,
@@ -39,8 +39,8 @@ impl Model for MemSink {
 }
 
 impl MemSink {
-    /// A sink with `room` bytes of room, which are reserved here. In a call it takes at most `take` bytes,
-    /// or 1 where that is 0.
+    /// Returns a sink that can hold `room` bytes, which are allocated here. A call takes at most `take`
+    /// bytes, or 1 where `take` is 0.
     pub fn new(
         alloc: Global,
         room: usize,
@@ -60,7 +60,7 @@ impl MemSink {
         })
     }
 
-    /// What it took.
+    /// Returns the bytes that were written.
     pub fn written(&self) -> &[u8]
         ensures { result.now ≡ self.now.written }
     {
@@ -73,8 +73,8 @@ impl Sink for MemSink {
 
     ghost faults = { λ s. s.faults };
 
-    /// Fails exactly where the list names the call, or no room is left. Takes the least of the piece's
-    /// length, the most of a call, and the room that is left. It takes no memory.
+    /// Fails exactly where the call is listed as failing or the sink is full. Otherwise it takes the
+    /// smallest of the piece's length, the most of a call, and the free capacity. It allocates no memory.
     fn write(&mut self, piece: &[u8]) -> Result<usize, Failed>
         requires { 0 < length piece.now }
         ensures some { IfOk result (λ n. 0 < n) }
@@ -100,7 +100,7 @@ impl Sink for MemSink {
     }
 }
 
-// The bytes of the first pair with this name, and none where there is no such pair.
+// Returns the bytes of the first pair with this name, and no bytes where there is no such pair.
 fn find<'a>(pairs: &'a [(String, Vec<u8>)], name: &str) -> &'a [u8]
     ensures { result.now ≡ held_bytes (seen_pairs pairs.now) name.now }
 {
@@ -114,7 +114,7 @@ fn find<'a>(pairs: &'a [(String, Vec<u8>)], name: &str) -> &'a [u8]
     &[]
 }
 
-/// Files in memory, which fail at the reads that a list names; reads are counted from 1.
+/// Files in memory, which fail at the reads whose numbers are listed. Reads are counted from 1.
 #[derive(Drop)]
 pub struct MemFiles {
     pairs: Vec<(String, Vec<u8>)>,
@@ -135,7 +135,7 @@ impl Model for MemFiles {
 }
 
 impl MemFiles {
-    /// Files of these names and bytes; the reads of these numbers are to fail.
+    /// Returns files with these names and bytes. The reads whose numbers are in `failing` fail.
     pub fn new(pairs: Vec<(String, Vec<u8>)>, failing: Vec<u64>) -> MemFiles
         ensures { result ≡ fresh_files (seen_pairs pairs.items) failing.items }
     {
@@ -149,7 +149,7 @@ impl MemFiles {
         }
     }
 
-    // What a read of this name answers that is to fail.
+    // Makes the read of this name fail, and returns its answer.
     fn fail(&mut self, alloc: Global, name: &str) -> FileAnswer
         ensures no_other { result ≢ FileAnswer.TooLong }
         ensures failed { (result ≡ FileAnswer.Failed) → self.new ≡ failed_at self.old name.now }
@@ -167,7 +167,7 @@ impl MemFiles {
     }
 }
 
-// A copy of bytes that are no longer than the limit.
+// Returns a copy of bytes that are no longer than the limit.
 fn copy_of(alloc: Global, bytes: &[u8], limit: u64) -> Result<Vec<u8>, FileAnswer>
     ensures { Reads result (bytes_or_long bytes.now limit) }
 {
@@ -188,7 +188,7 @@ impl Files for MemFiles {
 
     ghost asked = { λ f. f.asked };
 
-    /// Fails exactly where the list names the read, unless there is no memory to keep its name.
+    /// Fails exactly where the read is listed as failing, unless there is no memory to keep its name.
     fn read(&mut self, alloc: Global, name: &str, limit: u64) -> Result<Vec<u8>, FileAnswer>
         ensures asked { self.new.asked ≡ self.old.asked ++ name.now ∷ [] }
         ensures held { Some self.new.pairs ≡ Some self.old.pairs }
@@ -230,7 +230,7 @@ impl Model for NoFaultFiles {
 }
 
 impl NoFaultFiles {
-    /// Files of these names and bytes.
+    /// Returns files with these names and bytes.
     pub fn new(pairs: Vec<(String, Vec<u8>)>) -> NoFaultFiles
         ensures { result ≡ record { pairs = seen_pairs pairs.items; asked = [] } }
     {

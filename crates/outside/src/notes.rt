@@ -1,11 +1,11 @@
-//! Lists that only clauses read. They take no memory, and adding to one does nothing at run time.
+//! Lists that only contracts read. They use no memory, and adding an item does nothing at run time.
 
 ghost use Rattle.std.specs.Prelude.{◌≡◌, ◌++◌, ◌∷◌, [], ℕ, List};
 ghost use Rattle.std.specs.Borrow.{ftrue};
 
 use std::marker::{Model, PhantomData};
 
-/// A list of bytes that only clauses read, as the names that were asked for.
+/// A list of byte strings that only contracts read, such as the requested names.
 #[derive(Drop)]
 pub struct Notes {
     marker: PhantomData<u8>,
@@ -17,7 +17,7 @@ impl Model for Notes {
 }
 
 impl Notes {
-    // An empty list.
+    // Returns an empty list.
     pub(crate) fn new() -> Notes
         ensures { result.items ≡ [] }
     {
@@ -26,7 +26,7 @@ impl Notes {
         }
     }
 
-    // One item more, at the end.
+    // Adds an item at the end.
     pub(crate) fn add(&mut self, _item: &[u8])
         ensures { self.new.items ≡ self.old.items ++ _item.now ∷ [] }
     {}

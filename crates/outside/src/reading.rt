@@ -1,4 +1,4 @@
-//! The reading of a file in turns.
+//! Reads a file in turns. A turn is one call of `read` on an open file.
 
 ghost use Rattle.std.specs.Prelude.{◌≡◌, ◌≢◌, ◌≤◌, ◌<◌, ◌+◌, ◌++◌, ◌∷◌, [], IfErr, IfOk, OnOk, OnErr, length, take, drop, vec_len};
 ghost use Rattle.std.specs.Io.KnownBytes.{Consumes, IsAtEnd, Keeps};
@@ -15,9 +15,9 @@ use std::io::Read;
 // The most bytes that one turn takes.
 const CHUNK: u64 = 1 << 18;
 
-/// All that a reader has left, or its first `most` bytes, and the error that ended the reading: that of a turn,
-/// which counts as failed, or want of memory. Each turn but the last takes one byte at least, and none takes more
-/// than 2^18.
+/// Reads all that a reader has left, up to `most` bytes. Returns the bytes, with the error that ended the
+/// reading: that of a turn, which counts as failed, or out of memory. Each turn but the last takes at least
+/// one byte, and none takes more than 2^18.
 pub fn take_up_to<F: Read + Drop>(
     alloc: Global,
     file: &mut TurnReader<F>,
@@ -46,8 +46,8 @@ pub fn take_up_to<F: Read + Drop>(
     (bytes, Ok(()))
 }
 
-// One read into a vector after its first `filled` bytes, of at most `most` bytes. Where there is no room, the
-// vector grows by zeros first; what an earlier read left of them serves the next.
+// Reads at most `most` bytes into a vector, after its first `filled` bytes. Where the vector is full, it
+// first grows by zeros. Zeros that an earlier read didn't fill are used again.
 fn read_more<F: Read + Drop>(
     file: &mut TurnReader<F>,
     bytes: &mut Vec<u8>,
@@ -74,7 +74,7 @@ fn read_more<F: Read + Drop>(
     file.read(&mut bytes[filled..])
 }
 
-// Makes a vector longer than `filled`, and at most `most` longer.
+// Makes a vector longer than `filled`, by at most `most` bytes.
 fn make_room(bytes: &mut Vec<u8>, filled: usize, most: u64) -> Result<(), AllocError>
     requires filled { filled ≤ vec_len bytes.old }
     requires some { 0 < most }

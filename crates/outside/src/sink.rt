@@ -1,4 +1,4 @@
-//! A place to write to, as a program sees it.
+//! An output, as a program sees it.
 
 ghost use Rattle.std.specs.Prelude.{◌≡◌, ◌<◌, ◌≤◌, List, ℕ, Option, length, take, IfOk, OnOk, OnErr};
 ghost use Rattle.outside.specs.Causes.{Rose};
@@ -12,15 +12,15 @@ use thiserror::Error;
 #[error("write failed")]
 pub struct Failed;
 
-/// A place to write to.
+/// An output that takes bytes.
 pub trait Sink {
-    /// The bytes that were written, where the object tells.
+    /// The bytes that were written, where they are known.
     ghost written: { Self → Option (List ℕ) };
 
-    /// How often a write has failed. It may stop at the greatest u64.
+    /// How many writes have failed. The count may stop at 2^64 - 1.
     ghost faults: { Self → ℕ };
 
-    /// Writes some first bytes of a piece, one at least, and answers how many.
+    /// Writes some of the first bytes of a piece, at least one, and returns how many.
     fn write(&mut self, piece: &[u8]) -> Result<usize, Failed>
         requires { 0 < length piece.now }
         ensures some { IfOk result (λ n. 0 < n) }
@@ -33,7 +33,7 @@ pub trait Sink {
         ensures failed { OnErr result (Rose (faults self.old) (faults self.new)) };
 }
 
-/// Writes all the bytes. Where a write fails, the rest isn't tried.
+/// Writes all the bytes. After a write that fails, no other is tried.
 pub fn write_whole<S: Sink>(sink: &mut S, bytes: &[u8]) -> Result<(), Failed>
     ensures whole { OnOk result (Grew (S.written sink.old) (S.written sink.new) bytes.now) }
     ensures part { OnErr result (GrewByPart (S.written sink.old) (S.written sink.new) bytes.now) }
@@ -48,7 +48,7 @@ pub fn write_whole<S: Sink>(sink: &mut S, bytes: &[u8]) -> Result<(), Failed>
     Ok(())
 }
 
-/// Writes the pieces in turn, each whole. Where a write fails, the rest isn't tried.
+/// Writes the pieces in order, each whole. After a write that fails, no other is tried.
 pub fn write_pieces<S: Sink>(sink: &mut S, pieces: &[&[u8]]) -> Result<(), Failed>
     ensures whole { OnOk result (Grew (S.written sink.old) (S.written sink.new) (joined pieces.now)) }
     ensures part { OnErr result (GrewByPart (S.written sink.old) (S.written sink.new) (joined pieces.now)) }

@@ -1,4 +1,4 @@
-//! Readers that note their turns.
+//! Readers that note their turns. A turn is one call of `read` on an open file.
 
 ghost use Rattle.std.specs.Prelude.{◌≡◌, ◌++◌, ◌∷◌, [], ℕ, List, IfOk, OnOk, OnErr, take};
 ghost use Rattle.std.specs.Io.{ReadsAtMost};
@@ -10,8 +10,8 @@ use std::io;
 use std::io::Read;
 use std::marker::Model;
 
-/// The turns of readings, in order: the bytes that each took. Only clauses read them, and only a read of a
-/// `TurnReader` adds one.
+/// The turns of all readings in order, each as the bytes that it took. Only contracts read them, and only a
+/// read of a `TurnReader` adds one.
 #[derive(Drop)]
 pub struct Turns {
     bytes: Notes,
@@ -24,7 +24,7 @@ impl Model for Turns {
 }
 
 impl Turns {
-    /// No turn.
+    /// Returns an empty list of turns.
     pub fn new() -> Turns
         ensures { result ≡ [] }
     {
@@ -34,7 +34,7 @@ impl Turns {
     }
 }
 
-/// A reader that notes its turns: each read of it is one.
+/// A reader that notes its turns. Each call of `read` is one turn.
 #[derive(Drop)]
 pub struct TurnReader<F: Read + Drop> {
     file: F,
@@ -51,7 +51,7 @@ impl<F: Read + Drop> Model for TurnReader<F> {
 }
 
 impl<F: Read + Drop> TurnReader<F> {
-    /// A reader whose turns are noted behind these. None has failed.
+    /// Returns a reader whose turns are noted after these, with no failed turn.
     pub fn new(file: F, turns: Turns) -> TurnReader<F>
         ensures { result ≡ record { file = file; turns = turns; failures = 0 } }
     {
@@ -62,14 +62,14 @@ impl<F: Read + Drop> TurnReader<F> {
         }
     }
 
-    /// The turns, with those that were before.
+    /// Returns the turns, with those that were there at the start.
     pub fn into_turns(self) -> Turns
         ensures { result ≡ self.turns }
     {
         self.turns
     }
 
-    /// How many turns failed. A count stops at the end of its type.
+    /// Returns how many turns failed. The count stops at 2^64 - 1.
     pub fn failures(&self) -> u64
         ensures { result ≡ self.now.failures }
     {

@@ -1,4 +1,4 @@
--- The claims that cover a place, one after the other.
+-- The claims that cover a byte, one after the other.
 use Rattle.std.proofs.Common.{◌≡◌, ◌+◌, ◌-◌, ◌<◌, ◌≤◌, ℕ, zero, suc, Bool, true, false, cond, List, [], ◌∷◌, ◌++◌, length, map, take, get_or, slice_get, Some, refl, sym, ap, ◌∙◌, arith}
 use Rattle.std.specs.Prelude.{◌==◌}
 use Rattle.std.specs.List.{All}
@@ -24,7 +24,7 @@ use Rattle.place_explain.specs.declared.named.Explained.{Explained}
 use Rattle.place_explain.specs.declared.named.NamedClaim.{NamedClaim}
 use Rattle.place_explain.specs.declared.named.PlaceSource.{PlaceSource}
 
--- the first claim that covers gives the label
+-- The first claim that covers gives the label.
 rewritten-step : (rewritten : List ℕ → List ℕ) (unmapped : List ℕ) (n : ℕ) (c : LabelledClaim) (found : List NamedClaim) (later : List ℕ) (b : Bool) → later ≡ rewritten (label_of_first unmapped found)
     → cond b (rewritten c.label) later ≡ rewritten (label_of_first unmapped (cond b (named n c ∷ found) found))
 rewritten-step rewritten unmapped n c found later true e = refl
@@ -49,13 +49,13 @@ RewritesTheLabelAlone-all f spot limit name rewritten s =
     let found : List NamedClaim = covering_place f.len f.loads spot s in
     ap (with_label name (within_limit limit found) (over_limit limit found)) (FirstHasLabel-all f spot rewritten s)
 
--- the names so far
+-- The names so far.
 pub names-more : {X Y : Type 0} (f : X → Y) (old new : List Y) (xs : List X) (k : ℕ) (x : X) (y : Y) → slice_get xs k ≡ Some x → old ≡ map f (take k xs) → y ≡ f x → new ≡ old ++ y ∷ [] → new ≡ map f (take (k + 1) xs)
 names-more f old new xs k x y at is named more =
     more ∙ (ap (λ z. old ++ z ∷ []) named ∙ (ap (λ o. o ++ f x ∷ []) is
     ∙ (ap (λ z. map f (take k xs) ++ f z ∷ []) (sym (get_or_from_slice_get xs k x x at)) ∙ sym (map_more f xs k x (slice_get_within xs k x at)))))
 
--- a number is one of so many from one on
+-- A number from first on, among count numbers.
 record IsAmong (first count n : ℕ) : Type 0 where
   low : first ≤ n
   high : n < first + count
@@ -70,14 +70,14 @@ numbers-among : {X : Type 0} (test : X → Bool) (n : ℕ) (xs : List X) (k d : 
 numbers-among test n [] k d lt = absurd (omega arith)
 numbers-among test n (x ∷ xs) k d lt = within-step n (length xs) (numbers_of test (n + 1) xs) (test x) (numbers-among test (n + 1) xs) k d lt
 
--- each is the number of a claim
+-- Each is the number of a claim.
 pub numbers-within : (test : Claim → Bool) (claims : List Claim) (numbers : List ℕ) → numbers ≡ numbers_of test 1 claims → All (IsNumber claims) numbers
 numbers-within test claims numbers is = rw is (λ k d lt. above (get_or (numbers_of test 1 claims) k d) (numbers-among test 1 claims k d lt))
   where
     above : (n : ℕ) → IsAmong 1 (length claims) n → IsNumber claims n
     above n among = record { above = omega arith; within = omega arith }
 
--- the claims of these numbers are those that cover
+-- The claims with these numbers are those that cover the byte.
 named-step : (f : ℕ → NamedClaim) (n : ℕ) (c : NamedClaim) (ns : List ℕ) (found : List NamedClaim) (b : Bool) → f n ≡ c → map f ns ≡ found → map f (cond b (n ∷ ns) ns) ≡ cond b (c ∷ found) found
 named-step f n c ns found true here e = ap (λ d. d ∷ map f ns) here ∙ ap (λ cs. c ∷ cs) e
 named-step f n c ns found false here e = e
@@ -102,7 +102,7 @@ named-all pool len loads spot claims =
     named-from pool (labelled_covers len loads spot) (named_at pool claims) 1 claims
     (λ k lt. let same : 1 + k - 1 ≡ k = omega arith in ap (λ m. named (1 + k) (labelled pool (get_or claims m no_claim))) same)
 
--- what a limit gives
+-- What a limit keeps.
 limit-map : {X Y : Type 0} (f : X → Y) (b : Bool) (n : ℕ) (xs : List X) → map f (cond b xs (take n xs)) ≡ cond b (map f xs) (take n (map f xs))
 limit-map f true n xs = refl
 limit-map f false n xs = sym (take-map f n xs)

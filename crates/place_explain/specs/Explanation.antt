@@ -1,4 +1,4 @@
--- What is said of a place.
+-- The explanation of a byte.
 use Rattle.std.specs.Prelude.{ℕ, ◌+◌, Bool, if◌then◌else◌, List, [], ◌∷◌}
 use Rattle.size_core.specs.declared.claim.Load.{Load}
 use Rattle.size_core.specs.declared.place.Place.{Place}
@@ -12,25 +12,27 @@ use Rattle.place_explain.specs.declared.named.Explained.{Explained}
 use Rattle.place_explain.specs.declared.named.NamedClaim.{NamedClaim}
 use Rattle.place_explain.specs.declared.named.PlaceSource.{PlaceSource}
 
--- a claim under its number
+-- A claim with its number.
 abbrev pub named : ℕ → LabelledClaim → NamedClaim
 named n c = record { number = n; side = c.side; label = c.label }
 
--- the claims that cover, each under its number in the list, whose first has this number
+-- The claims that cover, each with its number in the list. The first claim of the list has the number n.
 abbrev pub covering : (LabelledClaim → Bool) → ℕ → List LabelledClaim → List NamedClaim
 covering covers n [] = []
 covering covers n (c ∷ cs) = if covers c then named n c ∷ covering covers (n + 1) cs else covering covers (n + 1) cs
 
--- the label of the first of these claims, or of what none covers
+-- The label of the first of these claims, or else the label for uncovered bytes.
 abbrev pub label_of_first : List ℕ → List NamedClaim → List ℕ
 label_of_first unmapped [] = unmapped
 label_of_first unmapped (c ∷ cs) = c.label
 
--- the claims of a data source that cover a place of a file with this length and these loads, in order, from number 1 on
+-- The claims of a data source that cover a byte of a file with this length and these loads, in order, counted
+-- from 1.
 abbrev pub covering_place : ℕ → List Load → Place → SourceView → List NamedClaim
 covering_place len loads spot s = covering (labelled_covers len loads spot) 1 s.claims
 
--- what a data source says of a place: the label, the claims that cover it within a limit, and how many others do
+-- What a data source says about a byte before labels are rewritten: the label, the claims that cover it within
+-- a limit, and the number of further ones.
 abbrev pub explained : ℕ → List Load → Place → ℕ → SourceView → Explained
 explained len loads spot limit s = record {
   label = label_of_first s.unmapped (covering_place len loads spot s);
@@ -38,13 +40,13 @@ explained len loads spot limit s = record {
   more = over_limit limit (covering_place len loads spot s);
 }
 
--- the same under the data source's name, the label rewritten
+-- An explanation with the data source's name and the rewritten label.
 abbrev pub under_name : List ℕ → (List ℕ → List ℕ) → Explained → PlaceSource
 under_name name rewritten e = record { name = name; label = rewritten e.label; claims = e.claims; more = e.more }
 
--- What a data source of this name, all labels of which are rewritten, says of a place of a file: the label that it
--- gives the place; the claims that cover the place, in order, each under its number and its label before that, within a
--- limit above 0 the first and so many further ones; and how many others there are.
+-- What a data source says about a byte of a file: the data source's name; the label of the byte, rewritten; the
+-- claims that cover it, in order, each with its number and its label before the rewrite; and the number of
+-- further claims. A limit above 0 keeps the first claim and limit further ones.
 abbrev pub explanation : FileView → Place → ℕ → List ℕ → (List ℕ → List ℕ) → SourceView → PlaceSource
 explanation f spot limit name rewritten s = record {
   name = name;

@@ -1,4 +1,4 @@
--- What follows of the claims that cover a place.
+-- What follows for the claims that cover a byte.
 use Rattle.std.specs.Prelude.{◌≡◌, ℕ, List}
 use Rattle.size_core.specs.declared.place.Place.{Place}
 use Rattle.size_model.specs.Sizes.{with_rewriting}
@@ -7,13 +7,15 @@ use Rattle.size_model.specs.declared.view.SourceView.{SourceView}
 use Rattle.place_explain.specs.Explanation.{covering_place, label_of_first, explained, under_name, explanation}
 use Rattle.place_explain.specs.Places.{place_label}
 
--- the label of a place is that of the first claim that covers it, rewritten
+-- For each file and byte, the label is that of the first claim that covers the byte, rewritten. This is the
+-- contract of `first_has_label`.
 abbrev pub FirstHasLabel : Type 0
 FirstHasLabel =
     (f : FileView) (spot : Place) (rewritten : List ℕ → List ℕ) (s : SourceView)
     → place_label f spot (with_rewriting rewritten s) ≡ rewritten (label_of_first s.unmapped (covering_place f.len f.loads spot s))
 
--- an explanation is what the data source says before labels are rewritten, its label rewritten
+-- For each byte, limit and name, an explanation is the explanation before labels are rewritten, with its label
+-- rewritten. This is the contract of `rewrites_the_label_alone`.
 abbrev pub RewritesTheLabelAlone : Type 0
 RewritesTheLabelAlone =
     (f : FileView) (spot : Place) (limit : ℕ) (name : List ℕ) (rewritten : List ℕ → List ℕ) (s : SourceView)

@@ -1,4 +1,4 @@
--- Claims by number under their labels.
+-- Claims by number, with their labels.
 use Rattle.std.specs.Prelude.{◌<◌, ◌≤◌, ◌-◌, ℕ, List, length, get_or}
 use Rattle.size_core.specs.declared.claim.Claim.{Claim}
 use Rattle.size_core.specs.declared.claim.Side.TheVariants.{Both}
@@ -7,17 +7,19 @@ use Rattle.size_model.specs.Numbered.{labelled}
 use Rattle.place_explain.specs.Explanation.{named}
 use Rattle.place_explain.specs.declared.named.NamedClaim.{NamedClaim}
 
--- a number of a claim of the list, from 1 on
+-- A number of a claim of the list, counted from 1.
 pub record IsNumber (claims : List Claim) (n : ℕ) : Type 0 where
   pub above : 0 < n
   pub within : n ≤ length claims
 
+-- The span without a byte.
 abbrev pub no_span : Span
 no_span = record { space = 0; start = 0; len = 0 }
 
+-- The claim without a byte.
 abbrev pub no_claim : Claim
 no_claim = record { side = Both; vm = no_span; file = no_span; label = 0 }
 
--- the claim of a number, under it and with its label's text
+-- The claim with this number, with its label's text.
 abbrev pub named_at : List (List ℕ) → List Claim → ℕ → NamedClaim
 named_at pool claims n = named n (labelled pool (get_or claims (n - 1) no_claim))

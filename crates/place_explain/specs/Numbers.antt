@@ -1,15 +1,15 @@
--- The numbers of what passes a test, and how many of a list a limit gives.
+-- The numbers of the items that pass a test, and what a limit keeps of a list.
 use Rattle.std.specs.Prelude.{ℕ, ◌+◌, ◌-◌, ◌==◌, Bool, if◌then◌else◌, List, [], ◌∷◌, length, take}
 
--- the numbers of those that pass a test, where the first of the list has this number
+-- The numbers of the items that pass a test. The first item of the list has the number n.
 abbrev pub numbers_of : {X : Type 0} → (X → Bool) → ℕ → List X → List ℕ
 numbers_of test n [] = []
 numbers_of test n (x ∷ xs) = if test x then n ∷ numbers_of test (n + 1) xs else numbers_of test (n + 1) xs
 
--- what a limit gives: the first of a list and so many further ones, and all where it is 0
+-- What a limit keeps of a list: the first item and limit further ones, or all items where it is 0.
 abbrev pub within_limit : {X : Type 0} → ℕ → List X → List X
 within_limit limit xs = if limit == 0 then xs else take (limit + 1) xs
 
--- how many others there are
+-- The number of items that a limit leaves out.
 abbrev pub over_limit : {X : Type 0} → ℕ → List X → ℕ
 over_limit limit xs = if limit == 0 then 0 else length xs - (limit + 1)

@@ -1,4 +1,4 @@
-//! Which claims cover a place.
+//! The claims that cover a byte.
 
 ghost use Rattle.std.specs.Prelude.{◌≡◌, IfOk, IsTrue};
 ghost use Rattle.place_explain.specs.Numbers.{numbers_of};
@@ -10,7 +10,8 @@ use dual_map::Base;
 use size_core::{Claim, NoMemory, Place};
 use std::alloc::Global;
 
-/// Whether a place lies in a file of `file_len` bytes: its offset is below the length, or its address is mapped.
+/// Whether a byte belongs to a file of `file_len` bytes: its file offset is below the length, or its virtual
+/// address is mapped.
 pub fn is_inside(base: &Base, file_len: u64, place: &Place) -> bool
     ensures { result ≡ is_inside file_len base.now.loads place.now }
 {
@@ -20,7 +21,7 @@ pub fn is_inside(base: &Base, file_len: u64, place: &Place) -> bool
     }
 }
 
-/// Whether a claim covers a place of a file of `file_len` bytes, over which the base was built.
+/// Whether a claim covers a byte of a file of `file_len` bytes. The base was built for this file.
 pub fn covers(base: &Base, file_len: u64, claim: &Claim, place: &Place) -> bool
     requires { base.now.len ≡ file_len }
     ensures { result ≡ claim_covers file_len base.now.loads place.now claim.now }
@@ -28,8 +29,8 @@ pub fn covers(base: &Base, file_len: u64, claim: &Claim, place: &Place) -> bool
     Spot::of(base, place).is_covered_by(claim)
 }
 
-/// The numbers, from 1 on and ascending, of all claims of the list that cover a place inside a file of `file_len`
-/// bytes, over which the base was built.
+/// The numbers, counted from 1 and ascending, of all claims that cover a byte of a file of `file_len` bytes.
+/// The base was built for this file.
 pub fn explain(
     alloc: Global,
     base: &Base,

@@ -1,14 +1,14 @@
-//! Laws of explanations: each is the contract of a function that does nothing.
+//! Laws of explanations. Each is the contract of a function with an empty body.
 
 ghost use Rattle.place_explain.specs.Laws.{FirstHasLabel, RewritesTheLabelAlone};
 
-/// The label of a place is that of the first claim that covers it, or of what none covers, rewritten where the data
-/// source's labels are.
+/// The label of a byte is that of the first claim that covers it, or the label for uncovered bytes. It is
+/// rewritten where the data source rewrites its labels.
 pub fn first_has_label()
     ensures { FirstHasLabel }
 {}
 
-/// What a data source with rewritten labels says of a place is what it says before that, with its label rewritten.
+/// Rewriting changes only the label of an explanation.
 pub fn rewrites_the_label_alone()
     ensures { RewritesTheLabelAlone }
 {}

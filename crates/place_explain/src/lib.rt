@@ -1,4 +1,4 @@
-//! What a data source says of one place of a file: its label, and the claims that cover it.
+//! Why a byte of a file has its label: the label that a data source gives it, and the claims that cover it.
 #![tactic(auto)]
 
 mod covering;
@@ -9,6 +9,3 @@ mod spot;
 pub use covering::{covers, explain, is_inside};
 pub use laws::{first_has_label, rewrites_the_label_alone};
 pub use named::{Explained, NamedClaim, NamedClaims, Numbers, PlaceSource, explain_source};
-
-#[cfg(test)]
-mod tests;

@@ -1,4 +1,4 @@
-//! The claims that cover a place, under their numbers and labels.
+//! The claims that cover a byte, with their numbers and labels.
 
 ghost use Rattle.std.specs.Prelude.{◌≡◌, ◌+◌, ◌<◌, ◌==◌, min, if◌then◌else◌, All, IfOk, IsTrue, length, map};
 ghost use Rattle.size_core.specs.declared.claim.Claim.{Claim as ClaimSpec};
@@ -13,10 +13,11 @@ use dual_map::Base;
 use size_core::{Bytes, Claim, LabelPool, List, NoMemory, Place, Side, Text};
 use std::alloc::Global;
 
-/// The numbers of claims, from 1 on.
+/// The numbers of claims, counted from 1.
 pub type Numbers = List<u64>;
 
-/// A claim, by its number in the list of its data source, from 1 on, its side and its label before any rewrite.
+/// A claim: its number in the list of its data source, counted from 1, its side, and its label before any
+/// rewrite.
 #[derive(Debug, Drop)]
 pub struct NamedClaim {
     pub number: u64,
@@ -24,11 +25,11 @@ pub struct NamedClaim {
     pub label: Bytes,
 }
 
-/// Claims under their numbers.
+/// Claims with their numbers.
 pub type NamedClaims = List<NamedClaim>;
 
-/// What a data source says of a place before labels are rewritten: the label, the claims that cover it, and how many
-/// others there are that a limit left over.
+/// What a data source says about a byte before labels are rewritten: the label, the claims that cover the byte,
+/// and the number of further claims that a limit leaves out.
 #[derive(Debug, Drop)]
 pub struct Explained {
     pub label: Bytes,
@@ -36,8 +37,9 @@ pub struct Explained {
     pub more: u64,
 }
 
-/// What the data source of this name says of a place: the label, rewritten where its labels are; the claims that cover
-/// the place, of which the first gives the label; and how many others there are that a limit left over.
+/// What the data source with this name says about a byte: its label, rewritten where the data source rewrites
+/// labels; the claims that cover it, whose first gives the label; and the number of further claims that a limit
+/// leaves out.
 #[derive(Debug, Drop)]
 pub struct PlaceSource {
     pub name: Text,
@@ -46,7 +48,7 @@ pub struct PlaceSource {
     pub more: u64,
 }
 
-// The claim of a number with its label.
+// The claim with this number, and its label.
 fn named_claim(
     alloc: Global,
     claims: &[Claim],
@@ -65,7 +67,7 @@ fn named_claim(
     })
 }
 
-// How many of so many claims a limit gives.
+// How many of `len` claims a limit keeps.
 fn count_within(limit: u32, len: usize) -> usize
     ensures { result ≡ (if limit == 0 then len else min len (limit + 1)) }
 {
@@ -76,7 +78,7 @@ fn count_within(limit: u32, len: usize) -> usize
     }
 }
 
-// The claims of the numbers that a limit gives.
+// The claims that a limit keeps of those with these numbers.
 fn named_claims(
     alloc: Global,
     numbers: &Numbers,
@@ -96,7 +98,7 @@ fn named_claims(
     Ok(named)
 }
 
-// The label of the first of these claims, or of what none covers.
+// The label of the first of these claims, or else the label for uncovered bytes.
 fn label_of_first(
     alloc: Global,
     claims: &NamedClaims,
@@ -112,10 +114,10 @@ fn label_of_first(
     claims.get(0).label.copy()
 }
 
-/// What a data source says of a place of a file of `file_len` bytes before labels are rewritten: of its claims, whose
-/// labels have numbers of the pool, the label of the first that covers the place, or that of the number `unmapped`; and
-/// the claims that cover the place, of which a `limit` above 0 gives the first and so many further ones, with the
-/// number of the others. No other claim's label is copied.
+/// What a data source says about a byte of a file of `file_len` bytes, before labels are rewritten. The labels
+/// of claims are numbers in the pool, and `unmapped` is the number of the label for uncovered bytes. A `limit`
+/// above 0 keeps the first claim that covers the byte and `limit` further ones. Only the labels of these claims
+/// are copied.
 pub fn explain_source(
     alloc: Global,
     base: &Base,

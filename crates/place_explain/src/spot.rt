@@ -1,4 +1,4 @@
-//! A place in the file and in memory.
+//! A byte with both of its addresses.
 
 ghost use Rattle.std.specs.Prelude.{◌≡◌, ℕ, List};
 ghost use Rattle.size_core.specs.declared.claim.Load.{Load};
@@ -10,7 +10,7 @@ ghost use Rattle.place_explain.specs.Spots.{IsSpot};
 use dual_map::Base;
 use size_core::{Claim, Place, Side, Span};
 
-/// A place with its file offset and its address, as far as the loads give them.
+/// A byte with its file offset and its virtual address, as far as it has them.
 #[derive(Clone, Copy)]
 pub struct Spot {
     pub place: Place,
@@ -43,7 +43,7 @@ fn address_in(span: &Span, address: Option<(u32, u64)>) -> bool
 }
 
 impl Spot {
-    /// The place with its other side.
+    /// The byte with both of its addresses.
     pub fn of(base: &Base, place: &Place) -> Spot
         ensures { IsSpot base.now.len base.now.loads place.now result }
     {
@@ -61,7 +61,7 @@ impl Spot {
         }
     }
 
-    /// Whether a claim covers the place.
+    /// Whether a claim covers the byte.
     pub fn is_covered_by(&self, claim: &Claim) -> bool
         ensures { (len : ℕ) (loads : List Load) (place : PlaceSpec) → IsSpot len loads place self.now
             → result ≡ claim_covers len loads place claim.now }

@@ -12,7 +12,8 @@ either-none : (o : Option ℕ) → either o None ≡ o
 either-none None = refl
 either-none (Some x) = refl
 
--- where the first list has no label the second counts, and where the second has none the first does
+-- Where the first list gives no label the second one counts, and where the second gives none the first one
+-- does.
 pub label_append_right : (ps qs : List Piece) (x : ℕ) → label_in ps x ≡ None → label_in (ps ++ qs) x ≡ label_in qs x
 label_append_right ps qs x e = label_in-append ps qs x ∙ ap (λ o. either o (label_in qs x)) e
 
@@ -22,7 +23,7 @@ label_append_left ps qs x e = label_in-append ps qs x ∙ (ap (λ o. either (lab
 label_append_some : (ps qs : List Piece) (x y : ℕ) → label_in ps x ≡ Some y → label_in (ps ++ qs) x ≡ Some y
 label_append_some ps qs x y e = label_in-append ps qs x ∙ ap (λ o. either o (label_in qs x)) e
 
--- within its bounds a clipped range labels as the range does
+-- Within its bounds a clipped range labels as the range does.
 clipped : (range p : Piece) (from to x : ℕ) → p.label ≡ range.label → p.start ≡ max from range.start → end_of p ≡ min to (end_of range) → from ≤ x → x < to → label_in (p ∷ []) x ≡ label_in (range ∷ []) x
 clipped range p from to x l s e a b =
     elim (has_cases range x) [
@@ -33,7 +34,7 @@ clipped range p from to x l s e a b =
       ]
     ]
 
--- a range has no label between bounds that it does not reach
+-- A range gives no label between bounds that it doesn't reach.
 unclipped : (range : Piece) (from to x : ℕ) → min to (end_of range) ≤ max from range.start → from ≤ x → x < to → label_in (range ∷ []) x ≡ None
 unclipped range from to x e a b =
     elim (has_cases range x) [
@@ -60,7 +61,7 @@ Fills-nothing range from to old tidy ends order e = record {
   filled = λ x a b. label_past old from x ends a ∙ sym (unclipped range from to x e a b);
 }
 
--- the new pieces are right up to a place, and the rest of the old ones starts there
+-- The new pieces are right up to a position, and the rest of the old ones starts there.
 pub record Swept (old : List Piece) (range : Piece) (rest : List Piece) (from : ℕ) (new : List Piece) : Type 0 where
   pub tidy : IsTidy new
   pub ends : EndsBy from new
@@ -123,7 +124,7 @@ Swept-end old range from new filled s f = record {
       ];
 }
 
--- one more range
+-- One more range.
 pub laid_more : (rs old : List Piece) (p : Piece) (new : List Piece) → IsLaid rs old → IsLaid (old ++ p ∷ []) new → IsLaid (rs ++ p ∷ []) new
 laid_more rs old p new a b = record {
   tidy = b.tidy;

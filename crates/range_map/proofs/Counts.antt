@@ -1,4 +1,4 @@
--- Counts of places by pieces.
+-- Counts of positions by pieces.
 use Rattle.std.proofs.Common.{◌≡◌, ◌+◌, ◌-◌, ◌<◌, ◌≤◌, ℕ, zero, suc, Bool, true, false, cond, List, [], ◌∷◌, ◌++◌, length, get_or, take, eqb, ◌||◌, inl, inr, ◌⊎◌, Option, None, Some, refl, sym, ap, ◌∙◌, subst, arith}
 use Rattle.std.proofs.lemmas.Bool.{cases_eq}
 use Rattle.std.proofs.lemmas.Bool.Decides.{nat_tests}
@@ -11,7 +11,7 @@ use Rattle.size_model.proofs.Counts.{count-zero, count-suc, count-same, count-ap
 use Rattle.size_model.proofs.Cuts.{label_at_head, label_past_head, StartsFrom, StartsFrom-Precedes, label_before}
 use Rattle.size_model.proofs.Places.{place_cases}
 
--- the sizes of the pieces whose label passes
+-- The sizes of the pieces whose label passes a test.
 abbrev pub size_of : (Option ℕ → Bool) → List Piece → ℕ
 size_of test [] = 0
 size_of test (p ∷ ps) = cond (test (Some p.label)) p.len 0 + size_of test ps
@@ -22,7 +22,7 @@ count-const f true a zero h = count-zero f a
 count-const f true a (suc n) h =
     count-suc f a n ∙ (ap (λ b. cond b 1 0 + count_from f (a + 1) n) (h a (omega arith) (omega arith)) ∙ omega (arith, count-const f true (a + 1) n (λ x b c. h x (omega arith) (omega arith))))
 
--- the places whose label passes are as many as the sizes of the pieces say
+-- As many positions have a label that passes as the sizes of the pieces say.
 pub count-tidy : (test : Option ℕ → Bool) → test None ≡ false → (ps : List Piece) (a n : ℕ) → IsTidy ps → StartsFrom a ps → EndsBy (a + n) ps → count_from (λ x. test (label_in ps x)) a n ≡ size_of test ps
 count-tidy test none [] a n t s e = count-none (λ x. test None) a n (λ x b c. none)
 count-tidy test none (p ∷ ps) a n t s e =
@@ -60,7 +60,7 @@ size_of-take test [] (suc i) = omega arith
 size_of-take test (p ∷ ps) zero = omega arith
 size_of-take test (p ∷ ps) (suc i) = omega (arith, size_of-take test ps i)
 
--- more positions pass a weaker test
+-- More positions pass a weaker test.
 pub count-either : (f g h : ℕ → Bool) (a n : ℕ) → ((x : ℕ) → f x ≡ true → (g x ≡ true) ⊎ (h x ≡ true)) → count_from f a n ≤ count_from g a n + count_from h a n
 count-either f g h a zero e = omega (arith, count-zero f a)
 count-either f g h a (suc n) e =
@@ -72,7 +72,7 @@ count-either f g h a (suc n) e =
     one_either true false true e = omega arith
     one_either true false false e = elim (e refl) [ inl h ↦ cc | inr h ↦ cc ]
 
--- one position is one
+-- At most one position equals v.
 pub count-one : (v a n : ℕ) → count_from (λ x. eqb x v) a n ≤ 1
 count-one v a zero = omega (arith, count-zero (λ x. eqb x v) a)
 count-one v a (suc n) =
@@ -101,7 +101,7 @@ place_among (p ∷ ps) r x e =
       ]
     ]
 
--- a range adds two places at most
+-- A range adds at most two endpoints.
 pub place_count-added : (old new : List Piece) (r : Piece) (n : ℕ) → KeepsPlaces (old ++ r ∷ []) new → place_count new n ≤ place_count old n + 2
 place_count-added old new r n keeps =
     let ends : ℕ → Bool = λ x. eqb x r.start || eqb x (end_of r) in

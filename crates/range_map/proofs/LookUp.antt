@@ -18,7 +18,7 @@ start_after p (q ∷ qs) (suc k) d t l =
     let b = start_after q qs k d t.2 (omega arith) in
     omega arith
 
--- a position that a piece of a tidy list has gets the piece's label
+-- A position that a piece of a tidy list contains gets the piece's label.
 pub label_at-get : (ps : List Piece) (k : ℕ) (d : Piece) (x : ℕ) → IsTidy ps → k < length ps → (get_or ps k d).start ≤ x → x < end_of (get_or ps k d) → label_in ps x ≡ Some (get_or ps k d).label
 label_at-get [] k d x t l a b = absurd (omega arith)
 label_at-get (p ∷ ps) zero d x t l a b = label_at_head p ps x a b
@@ -26,7 +26,7 @@ label_at-get (p ∷ ps) (suc k) d x t l a b =
     let s = start_after p ps k d t (omega arith) in
     label_past_head p ps x (omega arith) ∙ label_at-get ps k d x t.2 (omega arith) a b
 
--- the starts of a tidy list rise, and each piece ends by the start of a later one
+-- The starts of a tidy list rise, and each piece ends before a later one starts.
 pub ordered : (ps : List Piece) (j k : ℕ) (d : Piece) → IsTidy ps → j < k → k < length ps → end_of (get_or ps j d) ≤ (get_or ps k d).start
 ordered [] j k d t a b = absurd (omega arith)
 ordered (p ∷ ps) j zero d t a b = absurd (omega arith)
@@ -40,7 +40,7 @@ starts_rise ps t i j d a b =
       | inr k ↦ let e : i ≡ j = omega arith in rw e (omega arith)
     ]
 
--- where `partition_point` finds how many pieces start by a position
+-- The number of pieces that start at or before a position, which `partition_point` finds.
 abbrev pub StartsBy : ℕ → List Piece → ℕ → Type 0
 StartsBy x ps n = IsPartitionPoint (λ (p : Piece). leb p.start x ≡ true) (λ (p : Piece). leb p.start x ≡ false) ps n
 

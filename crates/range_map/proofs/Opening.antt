@@ -15,7 +15,7 @@ use Rattle.std.specs.Option.{IfSome, IsSome}
 use Rattle.std.specs.Ordering.{nat_cmp, is_lt}
 use Rattle.size_model.proofs.Cuts.{has_in, has_left, has_right, has_cases}
 
--- the label of the first range that has the place
+-- The label of the first range that contains the position.
 pub label_in-first : (claims : List Piece) (k x : ℕ) → k < length claims → has (at claims k) x ≡ true → ((j : ℕ) → j < k → has (at claims j) x ≡ false) → label_in claims x ≡ Some (at claims k).label
 label_in-first [] k x l h n = absurd (omega arith)
 label_in-first (c ∷ cs) zero x l h n = ap (λ b. cond b (Some c.label) (label_in cs x)) h
@@ -41,7 +41,7 @@ Contains-cases : (y : Reverse ℕ) (xs : List (Reverse ℕ)) (x : Reverse ℕ) �
 Contains-cases y xs x (zero, l, e) = inl e
 Contains-cases y xs x (suc k, l, e) = inr (k, (let m : suc k < length (y ∷ xs) = l in omega arith), e)
 
--- one more start
+-- One more start.
 pub IsOpening-more : (claims : List Piece) (starts : List (ℕ × ℕ)) (i from : ℕ) (old new : List (Reverse ℕ)) → IsOpening claims starts i from old → i < length starts → (get_or starts i (0, 0)).1 < length claims → (at claims (get_or starts i (0, 0)).1).start ≤ from → IsPermutation (numbered (get_or starts i (0, 0)).1 ∷ old) new → IsHeap lowest_first new → IsOpening claims starts (i + 1) from new
 IsOpening-more claims starts i from old new s l w t perm heap = record {
   within = omega arith;
@@ -61,7 +61,7 @@ IsOpening-more claims starts i from old new s l w t perm heap = record {
       ];
 }
 
--- a closed number leaves
+-- A range that has ended leaves the heap.
 pub AllOpen-popped : (claims : List Piece) (from : ℕ) (old new : List (Reverse ℕ)) (x : Reverse ℕ) → AllOpen claims from old → IsPermutation old (x ∷ new) → IsHeap lowest_first new → end_of (at claims x.0) ≤ from → AllOpen claims from new
 AllOpen-popped claims from old new x s perm heap past = record {
   heap = heap;
@@ -73,7 +73,7 @@ AllOpen-popped claims from old new x s perm heap past = record {
       ];
 }
 
--- what `pop` says where there is something to pop
+-- What `pop` returns where the heap isn't empty.
 pub popped : (r : Option (Reverse ℕ)) (old new : List (Reverse ℕ)) → IsSome r → IfSome r (λ x. x ≡ get_or old 0 x) → IfSome r (λ x. IsPermutation old (x ∷ new)) → IfSome r (λ x. PopsGreatest lowest_first old x new) → (x : Reverse ℕ) × (x ≡ get_or old 0 x) × IsPermutation old (x ∷ new) × PopsGreatest lowest_first old x new
 popped None old new s a b g = cc
 popped (Some x) old new s a b g = (x, a, b, g)
@@ -84,7 +84,7 @@ le_from_not_lt j k e = grind (arith, nat_tests)
 pub IsStarted-top : (claims : List Piece) (from : ℕ) (opened : List (Reverse ℕ)) (top : Reverse ℕ) → All (IsStarted claims from) opened → 0 < length opened → top ≡ get_or opened 0 top → IsStarted claims from top
 IsStarted-top claims from opened top h l e = subst (λ r. IsStarted claims from r) (sym e) (h 0 top l)
 
--- the top that is not closed is the first range that has the place
+-- The top of the heap, where it hasn't ended, is the first range that contains the position.
 pub label_in-top : (claims : List Piece) (from : ℕ) (opened : List (Reverse ℕ)) (top : Reverse ℕ) → AllOpen claims from opened → 0 < length opened → top ≡ get_or opened 0 top → IsUpperBound lowest_first top opened → from < end_of (at claims top.0) → (top.0 < length claims) × (label_in claims from ≡ Some (at claims top.0).label)
 label_in-top claims from opened top s l e greatest b =
     let t = IsStarted-top claims from opened top s.alive l e in

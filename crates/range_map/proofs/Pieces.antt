@@ -8,7 +8,7 @@ use Rattle.range_map.specs.Ranges.{EndsBy}
 use Rattle.range_map.specs.Emit.{touches, joins_last, longer, lengthened}
 use Rattle.size_model.proofs.Cuts.{label_past_head, StartsFrom}
 
--- the first of two labels
+-- The first of two labels.
 abbrev pub either : Option ℕ → Option ℕ → Option ℕ
 either None o = o
 either (Some v) o = Some v
@@ -34,7 +34,7 @@ pub EndsBy-push : (ps : List Piece) (p : Piece) (a b : ℕ) → EndsBy a ps → 
 EndsBy-push [] p a b e l h = (h, tt)
 EndsBy-push (q ∷ qs) p a b e l h = (omega arith, EndsBy-push qs p a b e.1 l h)
 
--- what does not join may be pushed
+-- A piece that doesn't join the last one may be pushed.
 pub IsTidy-push : (ps : List Piece) (p : Piece) → IsTidy ps → EndsBy p.start ps → joins_last ps p ≡ false → 0 < p.len → IsTidy (ps ++ p ∷ [])
 IsTidy-push [] p t e j h = (h, tt, tt)
 IsTidy-push (q ∷ []) p t e j h = (t.0, (e.0, λ a b. grind (arith, nat_tests)), (h, tt, tt))
@@ -79,7 +79,7 @@ EndsBy-get [] at n d e h = absurd (omega arith)
 EndsBy-get (q ∷ qs) at zero d e h = e.0
 EndsBy-get (q ∷ qs) at (suc n) d e h = EndsBy-get qs at n d e.1 (omega arith)
 
--- the last piece, as `last` gives it
+-- The last piece, as `last` returns it.
 last_place : (ps : List Piece) (q : Piece) → slice_get ps (length ps - 1) ≡ Some q → (n : ℕ) × (length ps ≡ suc n) × (get_or ps n q ≡ q)
 last_place ps q e =
     let l : length ps - 1 < length ps = slice_get_within ps (length ps - 1) q e in

@@ -1,4 +1,4 @@
--- Where the pieces of a tidy list begin and end, and how many there are.
+-- The endpoints of the pieces of a tidy list, and how many there are.
 use Rattle.std.proofs.Common.{◌≡◌, ◌+◌, ◌*◌, ◌≤◌, ℕ, Bool, true, false, ltb, List, [], ◌∷◌, length, inl, inr, arith}
 use Rattle.std.proofs.lemmas.Bool.Decides.{nat_tests}
 use Rattle.size_model.specs.declared.piece.Piece.{Piece}
@@ -9,7 +9,7 @@ use Rattle.size_model.proofs.Places.{place_cases, place-laid}
 pub KeepsPlaces-laid : (rs ps : List Piece) → IsLaid rs ps → KeepsPlaces rs ps
 KeepsPlaces-laid rs ps l x e = place-laid rs ps x l e
 
--- how many of the starts and ends of ranges are below a place
+-- The number of starts and ends of ranges below a position.
 abbrev one : Bool → ℕ
 one true = 1
 one false = 0

@@ -30,7 +30,7 @@ is_place-push (q ∷ qs) p x e =
       ]
     ]
 
--- the edges of one more range
+-- The edges with one more range.
 pub CoversPlaces-more : (ps : List Piece) (p : Piece) (edges : List ℕ) → CoversPlaces ps edges → CoversPlaces (ps ++ p ∷ []) ((edges ++ p.start ∷ []) ++ end_of p ∷ [])
 CoversPlaces-more ps p edges h x e =
     elim (is_place-push ps p x e) [
@@ -51,7 +51,7 @@ get_or-starts_from n (c ∷ cs) zero d l = ap (λ m. (c.start, m)) (sym (add-zer
 get_or-starts_from n (c ∷ cs) (suc k) d l =
     get_or-starts_from (n + 1) cs k d (omega arith) ∙ (let e : n + 1 + k ≡ n + suc k = omega arith in ap (λ m. ((at cs k).start, m)) e)
 
--- a start with its number
+-- A start with its number.
 pub record IsStart (claims : List Piece) (p : ℕ × ℕ) : Type 0 where
   pub within : p.1 < length claims
   pub start : (at claims p.1).start ≡ p.0
@@ -72,7 +72,7 @@ Contains-starts cs starts k perm l =
     let e : get_or (starts_from 0 cs) k ((at cs k).start, k) ≡ ((at cs k).start, k) = get_or-starts_from 0 cs k ((at cs k).start, k) l ∙ ap (λ i. ((at cs k).start, i)) (sym z) in
     Contains-permutation (starts_from 0 cs) starts ((at cs k).start, k) perm (k, omega (arith, length-starts_from 0 cs), e)
 
--- with all starts up to a place taken, each number that has the place is open
+-- After all starts up to a position, the heap holds each number whose range contains it.
 pub AllOpen-from_opening : (cs : List Piece) (starts : List (ℕ × ℕ)) (m from : ℕ) (opened : List (Reverse ℕ)) → IsPermutation (starts_from 0 cs) starts → IsNonDecreasingBy (λ (p : ℕ × ℕ). p.0) starts → IsOpening cs starts m from opened → (m < length starts → from < (at cs (get_or starts m (0, 0)).1).start) → AllOpen cs from opened
 AllOpen-from_opening cs starts m from opened perm sorted s rest = record {
   heap = s.heap;
@@ -99,7 +99,7 @@ steady_up cs from to zero h l = rw add-zero refl
 steady_up cs from to (suc n) h l =
     rw add-suc (sym (steady cs (suc (from + n)) (h (suc (from + n)) (omega arith) (omega arith))) ∙ steady_up cs from to n h (omega arith))
 
--- between two edges the label stays
+-- Between two edges the label stays the same.
 pub steady_between : (cs : List Piece) (from to x : ℕ) → ((y : ℕ) → from < y → y < to → is_place cs y ≡ false) → from ≤ x → x < to → label_in cs x ≡ label_in cs from
 steady_between cs from to x h a b =
     let e : from + (x - from) ≡ x = omega arith in
@@ -127,7 +127,7 @@ IsLaidTo-none cs from to old s l h e = record {
       ];
 }
 
--- no place is past the last edge
+-- No endpoint is past the last edge.
 ends_by_places : (cs : List Piece) (at' : ℕ) → ((x : ℕ) → is_place cs x ≡ true → x ≤ at') → EndsBy at' cs
 ends_by_places [] at' h = tt
 ends_by_places (c ∷ cs) at' h = (h (end_of c) (grind (arith, nat_tests)), ends_by_places cs at' (λ x e. h x (grind (arith, nat_tests))))
@@ -150,7 +150,7 @@ not_true : (b : Bool) → (b ≡ true → ⊥) → b ≡ false
 not_true true h = absurd (h refl)
 not_true false h = refl
 
--- between an edge and the next there is no place
+-- Between an edge and the next there is no endpoint.
 pub no_place_between : (cs : List Piece) (edges : List ℕ) (i from x : ℕ) → CoversPlaces cs edges → IsNonDecreasing edges → ((j : ℕ) → j < i → get_or edges j 0 ≤ from) → i < length edges → from < x → x < get_or edges i 0 → is_place cs x ≡ false
 no_place_between cs edges i from x c sorted passed l a b = not_true (is_place cs x) (λ e.
     let w = c x e in
@@ -160,7 +160,7 @@ no_place_between cs edges i from x c sorted passed l a b = not_true (is_place cs
       | inr k ↦ let q = sorted i w.0 0 k w.1 in omega arith
     ])
 
--- a label of the rest of a tidy list is one of the whole
+-- A label of the rest of a tidy list is a label of the whole list.
 label_tail : (p : Piece) (ps : List Piece) (x i : ℕ) → IsTidy (p ∷ ps) → label_in ps x ≡ Some i → label_in (p ∷ ps) x ≡ Some i
 label_tail p ps x i t e =
     elim (cases_lt x (end_of p)) [
@@ -168,7 +168,7 @@ label_tail p ps x i t e =
       | inr l ↦ label_past_head p ps x l ∙ e
     ]
 
--- a tidy list ends where its labels end
+-- A tidy list ends where its labels end.
 pub EndsBy-from_labels : (len : ℕ) (ps : List Piece) → IsTidy ps → ((x i : ℕ) → label_in ps x ≡ Some i → x < len) → EndsBy len ps
 EndsBy-from_labels len [] t h = tt
 EndsBy-from_labels len (p ∷ ps) t h =

@@ -8,36 +8,39 @@ use Rattle.size_model.specs.declared.piece.Piece.{Piece}
 use Rattle.size_model.specs.Cut.{end_of, label_in, IsTidy, is_place}
 use Rattle.range_map.specs.Ranges.{EndsBy}
 
+-- The piece without a position.
 abbrev pub no_piece : Piece
 no_piece = record { start = 0; len = 0; label = 0 }
 
--- the range of a number
+-- The range with this number.
 abbrev pub at : List Piece → ℕ → Piece
 at claims k = get_or claims k no_piece
 
+-- The order of the heap: the lowest number comes first.
 abbrev pub lowest_first : Reverse ℕ → Reverse ℕ → Ordering
 lowest_first x y = nat_cmp y.0 x.0
 
+-- A number, as an item of the heap.
 abbrev pub numbered : ℕ → Reverse ℕ
 numbered k = record { 0 = k }
 
--- the starts of ranges with their numbers
+-- The starts of the ranges with the ranges' numbers.
 abbrev pub starts_from : ℕ → List Piece → List (ℕ × ℕ)
 starts_from n [] = []
 starts_from n (c ∷ cs) = (c.start, n) ∷ starts_from (n + 1) cs
 
--- a number that is open or was: its range has started
+-- A number in the heap: its range has started at or before the position from.
 pub record IsStarted (claims : List Piece) (from : ℕ) (r : Reverse ℕ) : Type 0 where
   pub within : r.0 < length claims
   pub started : (at claims r.0).start ≤ from
 
--- each number that covers the position is open
+-- The heap holds each number whose range contains the position from.
 pub record AllOpen (claims : List Piece) (from : ℕ) (opened : List (Reverse ℕ)) : Type 0 where
   pub heap : IsHeap lowest_first opened
   pub alive : All (IsStarted claims from) opened
   pub held : (k : ℕ) → k < length claims → (at claims k).start ≤ from → from < end_of (at claims k) → Contains opened (numbered k)
 
--- of the first starts, each number whose range reaches past the position is open
+-- After the first next starts, the heap holds each of their numbers whose range reaches past the position from.
 pub record IsOpening (claims : List Piece) (starts : List (ℕ × ℕ)) (next from : ℕ) (opened : List (Reverse ℕ)) : Type 0 where
   pub within : next ≤ length starts
   pub heap : IsHeap lowest_first opened
@@ -45,12 +48,12 @@ pub record IsOpening (claims : List Piece) (starts : List (ℕ × ℕ)) (next fr
   pub reached : (j : ℕ) → j < next → (at claims (get_or starts j (0, 0)).1).start ≤ from
   pub held : (j : ℕ) → j < next → from < end_of (at claims (get_or starts j (0, 0)).1) → Contains opened (numbered (get_or starts j (0, 0)).1)
 
--- the pieces are those of the ranges up to a position
+-- The pieces are those of the ranges up to a position.
 pub record IsLaidTo (claims : List Piece) (to : ℕ) (ps : List Piece) : Type 0 where
   pub tidy : IsTidy ps
   pub ends : EndsBy to ps
   pub labels : (x : ℕ) → x < to → label_in ps x ≡ label_in claims x
 
--- each position at which a range begins or ends is an edge
+-- Each position at which a range begins or ends is an edge.
 abbrev pub CoversPlaces : List Piece → List ℕ → Type 0
 CoversPlaces claims edges = (x : ℕ) → is_place claims x ≡ true → Contains edges x

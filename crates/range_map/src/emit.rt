@@ -1,4 +1,4 @@
-//! Pieces added at the end of a tidy list.
+//! Appending pieces to a tidy list of pieces.
 
 ghost use Rattle.std.specs.Prelude.{◌≡◌, ◌+◌, ◌-◌, ◌^◌, ◌<◌, ◌≤◌, [], ◌∷◌, ◌++◌, OnOk};
 ghost use Rattle.size_model.specs.Cut.{IsLaid, IsTidy, end_of};
@@ -8,7 +8,7 @@ ghost use Rattle.range_map.specs.Ranges.{EndsBy};
 use size_model::Piece;
 use std::alloc::AllocError;
 
-// Whether two pieces touch and have one label.
+// Whether two pieces are adjacent and have the same label.
 fn touches(last: &Piece, piece: &Piece) -> bool
     requires { end_of last.now ≤ piece.now.start }
     ensures { result ≡ touches last.now piece.now }
@@ -16,7 +16,7 @@ fn touches(last: &Piece, piece: &Piece) -> bool
     last.start + last.len == piece.start && last.label == piece.label
 }
 
-// Whether the last piece touches the new one and has its label.
+// Whether the last piece is adjacent to the new one and has its label.
 fn joins(out: &[Piece], piece: &Piece) -> bool
     requires { EndsBy piece.now.start out.now }
     ensures { result ≡ joins_last out.now piece.now }
@@ -27,7 +27,7 @@ fn joins(out: &[Piece], piece: &Piece) -> bool
     }
 }
 
-// Makes the last piece longer.
+// Extends the last piece.
 fn lengthen(out: &mut Vec<Piece>, by: u128)
     requires { EndsBy (2 ^ 128 - 1 - by) out.old.items }
     ensures { out.new.items ≡ lengthened out.old.items by }
@@ -37,7 +37,7 @@ fn lengthen(out: &mut Vec<Piece>, by: u128)
     }
 }
 
-/// Adds a piece at the end, joined to the last one where they touch and have one label.
+/// Appends a piece. It is merged into the last one where they are adjacent and have the same label.
 pub fn emit(out: &mut Vec<Piece>, piece: Piece) -> Result<(), AllocError>
     requires tidy { IsTidy out.old.items }
     requires not_empty { 0 < piece.len }
@@ -54,7 +54,7 @@ pub fn emit(out: &mut Vec<Piece>, piece: Piece) -> Result<(), AllocError>
     Ok(())
 }
 
-/// Adds what of a range lies from one position up to another.
+/// Appends the part of a range between two positions.
 pub fn fill(out: &mut Vec<Piece>, range: &Piece, from: u128, to: u128) -> Result<(), AllocError>
     requires tidy { IsTidy out.old.items }
     requires ends { EndsBy from out.old.items }

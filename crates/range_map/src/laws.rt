@@ -1,4 +1,4 @@
-//! What is true of the pieces of range maps, with no map in hand.
+//! Laws about the pieces of range maps. They hold of lists of pieces, so no map is needed.
 
 ghost use Rattle.std.specs.Prelude.{◌≡◌, List, []};
 ghost use Rattle.size_model.specs.declared.piece.Piece.{Piece};

@@ -1,4 +1,4 @@
-//! Labelled ranges of positions: of all ranges that have a position, the first gives its label.
+//! Labelled ranges of positions. Where several ranges contain a position, the first of them gives its label.
 #![tactic(auto)]
 
 mod emit;
@@ -9,6 +9,3 @@ mod sweep;
 pub use laws::adding_in_order_builds;
 pub use range_map::RangeMap;
 pub use size_model::Piece;
-
-#[cfg(test)]
-mod tests;

@@ -1,4 +1,4 @@
-//! A map from positions to labels, kept as a sorted vector of disjoint pieces.
+//! A map from positions to labels, stored as a sorted vector of disjoint pieces.
 
 ghost use Rattle.std.specs.Prelude.{◌≡◌, ◌+◌, ◌*◌, ◌^◌, ◌<◌, ◌≤◌, ℕ, [], ◌∷◌, ◌++◌, length, slice_get, Some, OnOk, OnErr, IfOk, All};
 ghost use Rattle.size_model.specs.Cut.{end_of, label_in, place_count, IsLaid, IsTidy};
@@ -12,8 +12,8 @@ use std::alloc::Global;
 use std::marker::Model;
 use std::sync::ledger::Ledger;
 
-/// A map from positions to label numbers. Contracts see it as its pieces: sorted, disjoint, none empty,
-/// and of different labels where they touch. Each ends by 2^97.
+/// A map from positions to label numbers. Contracts see it as its pieces: sorted, disjoint, and not empty.
+/// Adjacent pieces have different labels, and all of them end at or before 2^97.
 #[derive(Debug, Drop)]
 pub struct RangeMap {
     alloc: Global,
@@ -47,7 +47,7 @@ fn label_of(pieces: &[Piece], x: u128) -> Option<usize>
 }
 
 impl RangeMap {
-    /// A map with no pieces.
+    /// An empty map.
     pub fn new(alloc: Global) -> Self
         ensures { result ≡ [] }
     {
@@ -57,8 +57,8 @@ impl RangeMap {
         }
     }
 
-    /// Gives a label to those of the `len` positions from `start` on that have none. After a refusal the map
-    /// is unchanged.
+    /// Labels those of the `len` positions from `start` on that have no label yet. On an error the map is
+    /// unchanged.
     pub fn add(&mut self, start: u128, len: u64, label: usize) -> Result<(), NoMemory>
         requires { start < 2 ^ 96 }
         ensures ok { OnOk result
@@ -86,8 +86,8 @@ impl RangeMap {
         Ok(())
     }
 
-    /// The map of ranges, the first one that has a position giving its label: what adding them in order
-    /// leaves, in n log n steps for n ranges in any order.
+    /// The map of these ranges, where the first range that contains a position gives its label. It is the map
+    /// that adding the ranges in order makes. For n ranges in any order it takes n log n steps.
     pub fn build(alloc: Global, claims: &[Piece]) -> Result<RangeMap, NoMemory>
         requires { All IsRange claims.now }
         ensures laid { IfOk result (IsLaid claims.now) }
@@ -97,7 +97,7 @@ impl RangeMap {
         Ok(RangeMap { alloc, pieces })
     }
 
-    /// How many pieces there are.
+    /// The number of pieces.
     pub fn len(&self) -> usize
         ensures count { result ≡ length self.now }
         ensures tidy { IsTidy self.now }
@@ -105,7 +105,7 @@ impl RangeMap {
         self.pieces.len()
     }
 
-    /// The piece of a number, in ascending order of positions. Counts one step.
+    /// The piece at index `i`, in ascending order of positions. Counts one step.
     pub fn piece<L: Ledger>(&self, i: usize, steps: &mut Steps<L>) -> Piece
         requires { i < length self.now }
         ensures value { slice_get self.now i ≡ Some result }
@@ -116,7 +116,7 @@ impl RangeMap {
         self.pieces[i]
     }
 
-    /// The label of a position, or `None` where no piece has it. Counts one step.
+    /// The label of a position, or `None` where no piece contains it. Counts one step.
     pub fn label_at<L: Ledger>(&self, x: u128, steps: &mut Steps<L>) -> Option<usize>
         ensures value { result ≡ label_in self.now x }
         ensures cost { steps.new ≡ steps.old + 1 }

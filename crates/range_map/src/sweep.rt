@@ -1,5 +1,5 @@
-//! The pieces of ranges, from left to right, with the numbers of the open ranges in a heap. A closed range stays
-//! in the heap until it comes to the top.
+//! A sweep over ranges from left to right. A heap holds the numbers of the open ranges. A range that has ended
+//! stays in the heap until it is at the top.
 
 ghost use Rattle.std.specs.Prelude.{false, ◌≡◌, ◌+◌, ◌^◌, ◌<◌, ◌≤◌, ℕ, length, get_or, None, Some, MatchOption, IfOk, All};
 ghost use Rattle.std.specs.List.Sorted.{IsNonDecreasing, IsNonDecreasingBy, IsPermutation};
@@ -14,7 +14,7 @@ use std::alloc::{AllocError, Global};
 use std::cmp::Reverse;
 use std::collections::BinaryHeap;
 
-// Opens each range that starts by a position, and answers how many of the starts are taken.
+// Opens each range that starts at or before a position. Returns how many of the starts are taken.
 fn open_starts(
     heap: &mut BinaryHeap<Reverse<usize>>,
     claims: &[Piece],
@@ -40,7 +40,8 @@ fn open_starts(
     Ok(at)
 }
 
-// The number of the first range that has a position. The closed ones above it leave the heap.
+// The number of the first range that contains a position. Ranges that have ended and come before it leave the
+// heap.
 fn first_open(heap: &mut BinaryHeap<Reverse<usize>>, claims: &[Piece], from: u128) -> Option<usize>
     requires fits { EndsBy (2 ^ 97) claims.now }
     requires all_open { AllOpen claims.now from (heap_items heap.old) }
@@ -59,7 +60,7 @@ fn first_open(heap: &mut BinaryHeap<Reverse<usize>>, claims: &[Piece], from: u12
     None
 }
 
-// The starts and ends of the ranges, in order.
+// The starts and ends of the ranges, sorted.
 fn edges_of(alloc: Global, claims: &[Piece]) -> Result<Vec<u128>, AllocError>
     requires fits { EndsBy (2 ^ 97) claims.now }
     ensures places { IfOk result (λ v. CoversPlaces claims.now v.items) }
@@ -75,7 +76,7 @@ fn edges_of(alloc: Global, claims: &[Piece]) -> Result<Vec<u128>, AllocError>
     Ok(edges)
 }
 
-// The ranges by where they start, with their numbers.
+// The starts of the ranges with the ranges' numbers, sorted by start.
 fn starts_of(alloc: Global, claims: &[Piece]) -> Result<Vec<(u128, usize)>, AllocError>
     ensures same { IfOk result (λ v. IsPermutation (starts_from 0 claims.now) v.items) }
     ensures sorted { IfOk result (λ v. IsNonDecreasingBy (λ p. p.0) v.items) }
@@ -88,7 +89,7 @@ fn starts_of(alloc: Global, claims: &[Piece]) -> Result<Vec<(u128, usize)>, Allo
     Ok(starts)
 }
 
-// The pieces from one edge to the next.
+// Appends the pieces between one edge and the next.
 fn segment(
     out: &mut Vec<Piece>,
     heap: &mut BinaryHeap<Reverse<usize>>,
@@ -126,7 +127,7 @@ fn segment(
     Ok(next)
 }
 
-/// The cut of the labelling that the ranges give, the first one first.
+/// The pieces of these ranges, where the first range that contains a position gives its label.
 pub fn laid(alloc: Global, claims: &[Piece]) -> Result<Vec<Piece>, AllocError>
     requires fits { EndsBy (2 ^ 97) claims.now }
     ensures laid { IfOk result (λ v. IsLaid claims.now v.items) }

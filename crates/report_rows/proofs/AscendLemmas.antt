@@ -1,4 +1,4 @@
--- Rows in order have their labels of a level in order.
+-- Sorted rows have their labels at a level in order.
 use Rattle.std.proofs.Common.{◌≡◌, ℕ, zero, suc, ◌+◌, ◌<◌, ◌≤◌, List, [], ◌∷◌, length, drop, get_or, refl, sym, ap, false, arith}
 use Rattle.std.specs.Prelude.{All}
 use Rattle.std.specs.declared.cmp.Ordering.{Ordering}
@@ -14,7 +14,7 @@ use Rattle.rollup.specs.Totals.{row_cmp}
 use Rattle.rollup.specs.declared.table.RollupRow.{RollupRow}
 use Rattle.report_rows.specs.Groups.{row_from, table_at, labels_at}
 
--- each path has a label of the level
+-- Each path has a label at the level.
 abbrev pub IsDeep : ℕ → List RollupRow → Type 0
 IsDeep level rows = All (λ (r : RollupRow). level < length r.path) rows
 
@@ -41,7 +41,7 @@ first-label level r s p q e = not-above _ _ (rw (from_level level r p, from_leve
 label_of : (level : ℕ) (rows : List RollupRow) (i : ℕ) (r : RollupRow) → i < length rows → get_or (labels_at level rows) i [] ≡ get_or (get_or rows i r).path level []
 label_of level rows i r lt = get_or-map (λ (s : RollupRow). get_or s.path level []) rows i r [] lt
 
--- labels do not fall
+-- Labels don't descend.
 pub ascend : (level : ℕ) (rows : List RollupRow) (i j : ℕ) → IsStrictlySortedBy row_cmp (table_at level rows) → IsDeep level rows → i ≤ j → j < length rows
     → is_gt (slice_cmp nat_cmp (get_or (labels_at level rows) i []) (get_or (labels_at level rows) j [])) ≡ false
 unfolding IsStrictlySortedBy
@@ -67,7 +67,7 @@ both-ways Less Greater e a b = cc b
 both-ways Equal s e a b = refl
 both-ways Greater s e a b = cc a
 
--- between two rows of one label each row has it
+-- Between two rows with one label each row has it.
 pub between : (level : ℕ) (rows : List RollupRow) (i k j : ℕ) → IsStrictlySortedBy row_cmp (table_at level rows) → IsDeep level rows → i ≤ k → k ≤ j → j < length rows
     → get_or (labels_at level rows) i [] ≡ get_or (labels_at level rows) j [] → get_or (labels_at level rows) k [] ≡ get_or (labels_at level rows) i []
 between level rows i k j sorted deep low high lt same =

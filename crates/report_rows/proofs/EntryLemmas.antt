@@ -27,7 +27,7 @@ use Rattle.report_rows.proofs.OrderLemmas.{sum_by-in_order}
 use Rattle.report_rows.proofs.TableLemmas.{same_bytes, sum_by-map, sum_by-same, labels-sum}
 use Rattle.report_rows.proofs.GroupLemmas.{deep_of, sum-table}
 
--- where two paths begin alike, their order is that of what follows
+-- Where two paths begin alike, their order is that of the rest.
 pub past : (k : List ℕ) (p q : List (List ℕ)) → path_cmp (k ∷ p) (k ∷ q) ≡ path_cmp p q
 past k p q = rw (tied_itself nat_list_cmp_total k) refl
 
@@ -61,7 +61,7 @@ sorted-path : (l : List ℕ) (r : RollupRow) (t : Table) (q : List (List ℕ)) �
 sorted-path l r t [] is first rest = rest
 sorted-path l r t (k ∷ p) is first rest = sorted-at l r t k p (bytes_eq l k) is refl first rest
 
--- the table under a label is in order
+-- The table under a label is sorted.
 pub under-sorted : (l : List ℕ) (t : Table) → IsStrictlySortedBy row_cmp t → IsStrictlySortedBy row_cmp (under l t)
 unfolding under IsStrictlySortedBy
 under-sorted l [] h = tt
@@ -86,7 +86,7 @@ map-same f g P same (x ∷ xs) all = rw (same x (All-head P x xs all), map-same 
 same-others : (n m v w f g : ℕ) → n ≡ m → v ≡ w → f ≡ g → ◌≡◌ {A = Entry} (record { kind = Others n; vm = v; file = f; below = [] }) (record { kind = Others m; vm = w; file = g; below = [] })
 same-others n m v w f g a b e = rw (a, b, e) refl
 
--- groups that are left over stand for their entries taken together
+-- Groups that are left out represent one entry for their entries.
 others-are : (o : RowOptions) (level : ℕ) (all : List RollupRow) (left : List Group) → group_entry level all (others_group o left) ≡ others_entry (map (group_entry level all) left)
 others-are o level all left =
     let f = group_entry level all in
@@ -105,7 +105,7 @@ module _ (o : RowOptions) (depth level : ℕ) (all : List RollupRow) (part : IsP
   abbrev lab : Group → List ℕ
   lab = group_label level all
 
-  -- groups stand for the entries of the children
+  -- Groups represent the entries of the children.
   pub groups-are : map (group_entry level all) groups ≡ map (label_entry table) (children o table)
   groups-are =
       map-same (group_entry level all) (λ g. label_entry table (lab g)) (IsGroup o level all) (λ g group. group.entry) groups every
@@ -124,7 +124,7 @@ module _ (o : RowOptions) (depth level : ℕ) (all : List RollupRow) (part : IsP
         sum-table size same level all,
       )
 
-  -- what a limit leaves over fits
+  -- The groups that a limit leaves out fit.
   pub left-fits : (limit : ℕ) → Fits (drop limit groups)
   left-fits limit = record {
     vm = omega (
@@ -146,7 +146,7 @@ module _ (o : RowOptions) (depth level : ℕ) (all : List RollupRow) (part : IsP
   abbrev pub grouped : List Group
   grouped = within o.limit (λ (g h : Group). nat_cmp h.key.0 g.key.0) (others_group o) groups
 
-  -- the groups within the limit stand for the entries
+  -- The groups within the limit represent the entries.
   pub entries-are : map (group_entry level all) grouped ≡ entries_of o table
   entries-are =
       let left = drop o.limit groups in

@@ -1,4 +1,4 @@
--- Groups are gathered label by label.
+-- Groups are collected label by label.
 use Rattle.std.proofs.Common.{◌≡◌, ℕ, ◌<◌, ◌≤◌, List, [], ◌∷◌, ◌++◌, length, drop, get_or, map, sym, ap, ◌∙◌, Bool, true, false, cond, arith}
 use Rattle.std.specs.Prelude.{All, filter}
 use Rattle.std.proofs.lemmas.List.{map-append, append-nil, append_assoc, drop_all, length-map}

@@ -1,4 +1,4 @@
--- The group that begins at a row whose label no earlier row has.
+-- The group whose first row has a label that no earlier row has.
 use Rattle.std.proofs.Common.{◌≡◌, ◌≢◌, ℕ, ◌+◌, ◌-◌, ◌<◌, ◌≤◌, List, [], ◌∷◌, length, take, drop, get_or, map, refl, sym, ap, ◌∙◌, subst, arith, Bor, inl, inr}
 use Rattle.std.specs.Prelude.{All}
 use Rattle.std.specs.List.{sum_by}
@@ -19,7 +19,7 @@ use Rattle.report_rows.proofs.AscendLemmas.{IsDeep, between}
 use Rattle.report_rows.proofs.RowLemmas.{seen-labels}
 use Rattle.report_rows.proofs.RunLemmas.{IsRun, mid, run-under}
 
--- what stands behind references
+-- The rows that references refer to.
 abbrev pub seen : List (Bor RollupRow) → List RollupRow
 seen rows = map (λ (r : Bor RollupRow). r.now) rows
 
@@ -38,7 +38,7 @@ seen-rest rows from = ap seen (take_rest rows from) ∙ sym (drop-map (λ (r : B
 pub seen-mid : (rows : List (Bor RollupRow)) (from n : ℕ) → seen (take n (drop from rows)) ≡ take n (drop from (seen rows))
 seen-mid rows from n = sym (take-map (λ (r : Bor RollupRow). r.now) n (drop from rows)) ∙ ap (take n) (sym (drop-map (λ (r : Bor RollupRow). r.now) from rows))
 
--- a sum over a part is no more than the sum over all
+-- A sum over a part is no more than the sum over all.
 pub part-le : {X : Type 0} (f : X → ℕ) (xs : List X) (from n : ℕ) → sum_by f (take n (drop from xs)) ≤ sum_by f xs
 part-le f xs from n = omega (arith, sum_by-take-le f (drop from xs) n, sum_by-take-drop f xs from)
 
@@ -104,7 +104,7 @@ rest rows from = take (length rows - from) (drop from rows)
 abbrev of-row : Bor RollupRow → List (List ℕ)
 of-row r = r.now.path
 
--- what the rows at the front of a part say of all rows
+-- What the rows at the front of a part say about all rows.
 pub record Found (level : ℕ) (all : List RollupRow) (from n : ℕ) : Type 0 where
   pub run : IsRun level all (get_or (labels_at level all) from []) from (from + n)
   pub border : IsBorder (labels_at level all) (from + n)
@@ -133,7 +133,7 @@ found depth level rows from n is below border some within alike other =
 same-entry : (k : RowKind) (v w f g : ℕ) (s t : Table) → v ≡ w → f ≡ g → s ≡ t → ◌≡◌ {A = Entry} (record { kind = k; vm = v; file = f; below = s }) (record { kind = k; vm = w; file = g; below = t })
 same-entry k v w f g s t a b e = rw (a, b, e) refl
 
--- the group of a run stands for the entry of its label
+-- The group of a run represents the entry of its label.
 pub run-group : (o : RowOptions) (level : ℕ) (all : List RollupRow) (from to key vm file : ℕ) → IsRun level all (get_or (labels_at level all) from []) from to
     → key ≡ key_of o vm file → vm ≡ vm_sum (mid from to all) → file ≡ file_sum (mid from to all)
     → IsGroup o level all (record { key = record { 0 = key }; from = from; to = to; kind = kinds.Label; vm = vm; file = file })

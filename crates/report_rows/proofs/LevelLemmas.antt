@@ -1,4 +1,4 @@
--- Rows of levels: what holds of each with the rows behind it, their tree, and the sums of a level.
+-- Rows of levels: what holds of each with the rows after it, their tree, and the sums of a level.
 use Rattle.std.proofs.Common.{◌≡◌, ℕ, zero, suc, ◌+◌, ◌-◌, ◌<◌, ◌≤◌, ◌==◌, ◌||◌, List, [], ◌∷◌, ◌++◌, length, take, get_or, map, refl, sym, ap, ◌∙◌, subst, zero-add, Bool, true, false, not, le-ltb, lt-ltb, eq-eqb, ne_eqb, arith}
 use Rattle.std.specs.Prelude.{⊤, All, nat_lt}
 use Rattle.std.specs.List.{sum_by, flat_map}
@@ -11,7 +11,7 @@ use Rattle.report_rows.specs.declared.row.Row.{Row}
 use Rattle.report_rows.specs.Levels.{EachRow, rows_over}
 use Rattle.report_rows.specs.Trees.{has_children, is_others, AreLevels, level_sum}
 
--- rows go on at a lesser level, or end
+-- Rows go on at a lesser level, or end.
 abbrev pub Stops : {R : Type 0} → (R → ℕ) → ℕ → List R → Type 0
 Stops at level [] = ⊤
 Stops at level (r ∷ rows) = at r < level
@@ -20,7 +20,7 @@ pub stops-later : {R : Type 0} (at : R → ℕ) (low high : ℕ) (rows : List R)
 stops-later at low high [] le stops = tt
 stops-later at low high (r ∷ rows) le stops = omega (arith, stops)
 
--- rows that are seen by a function are rows over the same
+-- Rows seen through a function are rows over the same entries.
 module _ {T E R S : Type 0} (entries : T → List E) (below : E → T) (row : ℕ → E → R) (side : R → S) where
   map-blocks : (n level : ℕ) → ((t : T) → map side (rows_over entries below row n (level + 1) t) ≡ rows_over entries below (λ l e. side (row l e)) n (level + 1) t)
       → (es : List E) → map side (flat_map (λ (e : E). row level e ∷ rows_over entries below row n (level + 1) (below e)) es)
@@ -37,9 +37,9 @@ module _ {T E R S : Type 0} (entries : T → List E) (below : E → T) (row : �
   map-rows zero level t = refl
   map-rows (suc n) level t = map-blocks n level (map-rows n (level + 1)) (entries t)
 
--- how the rows of a level are listed
+-- How the rows of a level are listed.
 module _ {T E R : Type 0} (entries : T → List E) (below : E → T) (row : ℕ → E → R) where
-  -- a row and what stands below it
+  -- A row and the rows below it.
   abbrev pub block : ℕ → ℕ → E → List R
   block depth level e = row level e ∷ rows_over entries below row (depth - (level + 1)) (level + 1) (below e)
 
@@ -51,7 +51,7 @@ module _ {T E R : Type 0} (entries : T → List E) (below : E → T) (row : ℕ 
   unfolding rows_over
   rows-more depth level t lt = let k : depth - level ≡ suc (depth - (level + 1)) = omega arith in rw k refl
 
-  -- the rows of one entry more
+  -- The rows of one more entry.
   pub block-more : {G : Type 0} (depth level : ℕ) (ge : G → E) (items : List G) (i : ℕ) (g : G) (first out pushed new : List R) (r : R) → i < length items
       → out ≡ first ++ flat_map (block depth level) (map ge (take i items)) → r ≡ row level (ge (get_or items i g)) → pushed ≡ out ++ r ∷ []
       → new ≡ pushed ++ rows_over entries below row (depth - (level + 1)) (level + 1) (below (ge (get_or items i g)))
@@ -64,7 +64,7 @@ module _ {T E R : Type 0} (entries : T → List E) (below : E → T) (row : ℕ 
       more ∙ (ap (λ xs. xs ++ under) push ∙ (append_assoc out (r ∷ []) under ∙ (ap (λ xs. out ++ xs) b ∙ (ap (λ xs. xs ++ f (ge h)) so-far
       ∙ (flat_map_more f first (map ge (take i items)) (ge h) ∙ ap (λ es. first ++ flat_map f es) (sym (map_more ge items i g lt)))))))
 
--- what holds of each row, where it holds of the row of an entry before what stands below it
+-- What holds of each row, where it holds of the row of an entry before the rows below it.
 module _ {T E R : Type 0} (entries : T → List E) (below : E → T) (row : ℕ → E → R) (at : R → ℕ) (at-row : (level : ℕ) (e : E) → at (row level e) ≡ level) where
   abbrev listed : ℕ → ℕ → T → List R
   listed n level t = rows_over entries below row n level t
@@ -72,7 +72,7 @@ module _ {T E R : Type 0} (entries : T → List E) (below : E → T) (row : ℕ 
   abbrev blocks : ℕ → ℕ → List E → List R
   blocks n level es = flat_map (λ (e : E). row level e ∷ listed n (level + 1) (below e)) es
 
-  -- the rows of entries go on at their level
+  -- The rows of entries go on at their level.
   pub stops-entries : (n level : ℕ) (es : List E) (after : List R) → Stops at (level + 1) after → Stops at (level + 1) (blocks n level es ++ after)
   stops-entries n level [] after stops = stops
   stops-entries n level (e ∷ es) after stops = omega (arith, at-row level e)
@@ -108,12 +108,12 @@ module _ {T E R : Type 0} (entries : T → List E) (below : E → T) (row : ℕ 
     pub each-row : (t : T) → Of depth t → EachRow P (listed depth 0 t)
     each-row t of = subst (EachRow P) (append-nil (listed depth 0 t)) (each-listed depth 0 t [] (omega arith) of tt tt)
 
--- a row has no children where the next level is no greater
+-- A row has no children where the next level is no greater.
 pub no-child : (level : ℕ) (r : Row) (rows : List Row) → r.level ≡ level → Stops (λ (s : Row). s.level) (level + 1) rows → has_children r rows ≡ false
 no-child level r [] e stops = refl
 no-child level r (next ∷ rows) e stops = le-ltb r.level next.level (omega (arith, stops))
 
--- and it has some where the next is greater
+-- A row has children where the next level is greater.
 child : (r : Row) (next : Row) (rows : List Row) → r.level < next.level → has_children r (next ∷ rows) ≡ true
 child r next rows lt = lt-ltb r.level next.level lt
 
@@ -129,7 +129,7 @@ pub some-of : {X : Type 0} (xs : List X) → 0 < length xs → has_some xs ≡ t
 some-of [] lt = absurd (omega arith)
 some-of (x ∷ xs) lt = refl
 
--- rows as those of a report, which have the level that they stand in
+-- Rows as those of a report, each with its level.
 module _ {T E : Type 0} (entries : T → List E) (below : E → T) (shape : E → Row) where
   abbrev pub row_at : ℕ → E → Row
   row_at level e = record (shape e) { level = level }
@@ -143,7 +143,7 @@ module _ {T E : Type 0} (entries : T → List E) (below : E → T) (shape : E �
   abbrev level-of : Row → ℕ
   level-of r = r.level
 
-  -- whether the row of an entry has children
+  -- Whether the row of an entry has children.
   children-are : (n level : ℕ) (e : E) (after : List Row) → Stops level-of (level + 1) after → has_children (row_at level e) (rows_at (suc n) (level + 1) (below e) ++ after) ≡ has_some (entries (below e))
   unfolding rows_over
   children-are n level e after stops = over (entries (below e))
@@ -154,7 +154,7 @@ module _ {T E : Type 0} (entries : T → List E) (below : E → T) (shape : E �
 
   module _ (Of : ℕ → T → Type 0) (Sound : ℕ → E → Type 0) (sound : (n : ℕ) (t : T) → Of (suc n) t → All (Sound n) (entries t)) (deep : (n : ℕ) (e : E) → Sound n e → Of n (below e))
       (some : (n : ℕ) (e : E) → Sound (suc n) e → has_some (entries (below e)) ≡ not (is_others (shape e).kind)) where
-    -- what holds of the levels below a label, holds of those below a row that has children
+    -- What holds of the levels below a label holds of those below a row that has children.
     pub of-children : (n level : ℕ) (e : E) (after : List Row) → Sound n e → Stops level-of (level + 1) after → has_children (row_at level e) (rows_at n (level + 1) (below e) ++ after) ≡ true
         → (P : ℕ → Type 0) → ((m : ℕ) → is_others (shape e).kind ≡ false → P (suc m)) → P n
     unfolding rows_over
@@ -169,7 +169,7 @@ module _ {T E : Type 0} (entries : T → List E) (below : E → T) (shape : E �
         label false e = refl
 
     module _ (depth : ℕ) where
-      -- what a tree says of a row
+      -- What a tree says about a row.
       abbrev InTree : Row → List Row → Type 0
       InTree r rows = (r.level < depth) × (has_children r rows ≡ not (is_others r.kind || (r.level + 1 == depth))) × Stops level-of (r.level + 1 + 1) rows
 
@@ -190,13 +190,13 @@ module _ {T E : Type 0} (entries : T → List E) (below : E → T) (shape : E �
       are-levels high [] stops each = tt
       are-levels high (r ∷ rows) stops each = (omega (arith, stops), each.0.0, each.0.1, are-levels (r.level + 1) rows each.0.2 each.1)
 
-      -- the rows form a tree
+      -- The rows form a tree.
       pub are-tree : (t : T) → Of depth t → AreLevels depth 0 (rows_at depth 0 t)
       are-tree t of =
           are-levels 0 (rows_at depth 0 t) (subst (Stops level-of 1) (append-nil (rows_at depth 0 t)) (stops-rows entries below row_at level-of (λ l e. refl) depth 0 t [] tt))
           (each-row entries below row_at level-of (λ l e. refl) Of Sound sound deep depth InTree in-tree t of)
 
-  -- a sum over a level passes over the rows of deeper levels
+  -- A sum over a level skips the rows of deeper levels.
   module _ (size : Row → ℕ) where
     over-row : (level : ℕ) (r : Row) (rows : List Row) → level < r.level → level_sum size level (r ∷ rows) ≡ level_sum size level rows
     over-row level r rows lt =
@@ -232,7 +232,7 @@ module _ {T E : Type 0} (entries : T → List E) (below : E → T) (shape : E �
         (ap (level_sum size level) (append_assoc (rows_at n (level + 1) (below e)) (of-entries n level es) after) ∙ over-rows level n (level + 1) (below e) (of-entries n level es ++ after) (omega arith)) in
         omega (arith, first, at-entries n level after es, sum_by-cons (λ (d : E). size (row_at level d)) e es)
 
-    -- a level adds up its entries
+    -- A level adds up its entries.
     pub at-rows : (n level : ℕ) (t : T) (after : List Row) → level_sum size level (rows_at (suc n) level t ++ after) ≡ sum_by (λ (e : E). size (row_at level e)) (entries t) + level_sum size level after
     unfolding rows_over
     at-rows n level t after = at-entries n level after (entries t)

@@ -29,7 +29,7 @@ lower m n = at (leb n m) refl
     at false e = grind (arith, common_steps)
 
 module _ {X : Type 0} (limit : ℕ) (cmp : X → X → Ordering) (together : List X → X) where
-  -- a list that no limit cuts
+  -- A list that no limit cuts.
   pub within-all : (xs : List X) → (limit ≡ 0) ⊎ (length xs ≤ limit) → within limit cmp together xs ≡ xs
   unfolding within
   within-all xs (inl none) = rw none refl
@@ -37,7 +37,7 @@ module _ {X : Type 0} (limit : ℕ) (cmp : X → X → Ordering) (together : Lis
       let e : leb (length xs) limit ≡ true = grind (arith, common_steps) in
       at-few (limit == 0) (leb (length xs) limit) xs (placed cmp (together (drop limit xs)) (take limit xs)) e
 
-  -- a list that is longer than the limit
+  -- A list that is longer than the limit.
   pub within-more : (xs : List X) → 0 < limit → limit < length xs → within limit cmp together xs ≡ placed cmp (together (drop limit xs)) (take limit xs)
   unfolding within
   within-more xs some more =
@@ -64,7 +64,7 @@ module _ {X : Type 0} (limit : ℕ) (cmp : X → X → Ordering) (together : Lis
       at true = refl
       at false = omega (arith, sum_by-placed cmp f (together (drop limit xs)) (take limit xs), e, sum_by-take-drop f xs limit)
 
--- where an element is placed that stands before the first of which a test holds
+-- The position of an element that comes before the first one that passes a test.
 module _ {X : Type 0} (cmp : X → X → Ordering) (p : X → Bool) (x : X) where
   insert-at : (y : X) (ys : List X) (b : Bool) → p y ≡ b → placed cmp x ys ≡ insert ys (position_or_len p ys) x
       → cond (not b) (y ∷ placed cmp x ys) (x ∷ y ∷ ys) ≡ insert (y ∷ ys) (cond (not b) (1 + position_or_len p ys) 0) x
@@ -78,7 +78,7 @@ module _ {X : Type 0} (cmp : X → X → Ordering) (p : X → Bool) (x : X) wher
   placed-insert tells [] = refl
   placed-insert tells (y ∷ ys) = rw (tells y) (insert-at y ys (p y) refl (placed-insert tells ys))
 
--- what stands for the elements of a list stands for them within a limit
+-- Elements that represent those of a list do so within a limit.
 module _ {X Y : Type 0} (cmp : X → X → Ordering) (by : Y → Y → Ordering) (f : X → Y) where
   map-at : (x y : X) (ys : List X) (b c : Bool) → b ≡ c → map f (placed cmp x ys) ≡ placed by (f x) (map f ys)
       → map f (cond b (y ∷ placed cmp x ys) (x ∷ y ∷ ys)) ≡ cond c (f y ∷ placed by (f x) (map f ys)) (f x ∷ f y ∷ map f ys)

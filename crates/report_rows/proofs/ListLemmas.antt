@@ -6,7 +6,7 @@ use Rattle.report_rows.specs.declared.groups.Group.{Group}
 use Rattle.report_rows.specs.Groups.{IsPart, IsRange}
 use Rattle.report_rows.proofs.GroupLemmas.{seen, seen-mid, part-le}
 
--- the rows under a group are a part in order
+-- The rows under a group are a sorted part.
 pub part-of : (depth level : ℕ) (rows : List (Bor RollupRow)) (g : Group) → IsPart depth level (seen rows) → IsRange level (seen rows) g
     → IsPart depth (level + 1) (seen (take (g.to - g.from) (drop g.from rows)))
 part-of depth level rows g part range =

@@ -1,4 +1,4 @@
--- Lists in order: what is placed among them, and that they are determined.
+-- Sorted lists: inserting an element, and that a sorted list is determined by its elements.
 use Rattle.std.proofs.Common.{◌≡◌, ℕ, zero, suc, ◌+◌, List, [], ◌∷◌, get_or, refl, sym, ap, ◌∙◌, Bool, true, false, cond, arith, add-one, inl, inr}
 use Rattle.std.specs.Prelude.{All}
 use Rattle.std.specs.declared.cmp.Ordering.{Ordering}
@@ -14,7 +14,7 @@ use Rattle.std.proofs.lemmas.List.Sums.{sum_by-cons}
 use Rattle.std.proofs.lemmas.List.Sorted.{ranks_by, sorted_far, sum_by-IsPermutation}
 use Rattle.report_rows.specs.Order.{placed, in_order}
 
--- sums over a list with one element more
+-- Sums over a list with one more element.
 sum_by-at : {X : Type 0} (f : X → ℕ) (x y : X) (xs ys : List X) (b : Bool) → sum_by f xs ≡ f x + sum_by f ys → sum_by f (cond b (y ∷ xs) (x ∷ y ∷ ys)) ≡ f x + sum_by f (y ∷ ys)
 sum_by-at f x y xs ys true e = omega (arith, e, sum_by-cons f y xs, sum_by-cons f y ys)
 sum_by-at f x y xs ys false e = sum_by-cons f x (y ∷ ys)
@@ -29,7 +29,7 @@ unfolding in_order
 sum_by-in_order cmp f [] = refl
 sum_by-in_order cmp f (x ∷ xs) = sum_by-placed cmp f x (in_order cmp xs) ∙ (ap (λ n. f x + n) (sum_by-in_order cmp f xs) ∙ sym (sum_by-cons f x xs))
 
--- what holds of each
+-- What holds of each element.
 All-at : {X : Type 0} (P : X → Type 0) (x y : X) (xs ys : List X) (b : Bool) → P x → All P xs → All P (y ∷ ys) → All P (cond b (y ∷ xs) (x ∷ y ∷ ys))
 All-at P x y xs ys true one more all = All-cons P y xs (All-head P y ys all) more
 All-at P x y xs ys false one more all = All-cons P x (y ∷ ys) one all
@@ -44,7 +44,7 @@ unfolding in_order
 All-in_order cmp P [] all = all
 All-in_order cmp P (x ∷ xs) all = All-placed cmp P x (in_order cmp xs) (All-head P x xs all) (All-in_order cmp P xs (All-tail P x xs all))
 
--- one element before a list in order
+-- One element before a sorted list.
 sorted-cons : {X : Type 0} (R : X → X → Ordering) (x : X) (xs : List X) → All (λ z. is_lt (R z x) ≡ false) xs → IsSorted R xs → IsSorted R (x ∷ xs)
 sorted-cons R x xs first rest zero d low high = first 0 d (omega arith)
 sorted-cons R x xs first rest (suc k) d low high = rw add-one (rw add-one at (rest k d (omega arith) (omega arith)))
@@ -95,7 +95,7 @@ module _ {X : Type 0} (R : X → X → Ordering) (o : IsTotalOrder R) where
   in_order-sorted [] = λ k d low high. absurd (omega arith)
   in_order-sorted (x ∷ xs) = placed-sorted x (in_order R xs) (in_order-sorted xs)
 
--- a test that no element passes counts none
+-- A test that no element passes counts none.
 count-none : {X : Type 0} (p : X → Bool) (xs : List X) → All (λ x. p x ≡ false) xs → count_by p xs ≡ 0
 count-none p [] h = refl
 count-none p (x ∷ xs) h =
@@ -103,18 +103,18 @@ count-none p (x ∷ xs) h =
     let rest = count-none p xs (λ j d lt. h (suc j) d (omega arith)) in
     rw (sum_by-cons (λ y. cond (p y) 1 0) x xs, first) (omega (arith, rest))
 
--- where a test counts none, it fails at the first
+-- Where a test counts none, it fails at the first element.
 count-first : {X : Type 0} (p : X → Bool) (x : X) (xs : List X) → count_by p (x ∷ xs) ≡ 0 → p x ≡ false
 count-first p x xs h = elim (cases_Bool (p x)) [
   | inl hit ↦ absurd (let e = rw (sum_by-cons (λ y. cond (p y) 1 0) x xs, hit) at h in omega arith)
   | inr miss ↦ miss
 ]
 
--- the first of a list in order is above no other
+-- The first element of a sorted list is above no other.
 least : {X : Type 0} (R : X → X → Ordering) (o : IsTotalOrder R) (x : X) (xs : List X) → IsSorted R (x ∷ xs) → count_by (λ y. is_lt (R y x)) (x ∷ xs) ≡ 0
 least R o x xs sorted = count-none (λ y. is_lt (R y x)) (x ∷ xs) (λ j d lt. sorted_far (λ a b. is_lt (R a b)) (ranks_by o (λ a. a)) (x ∷ xs) sorted 0 j d (omega arith) lt)
 
--- neither is below the other
+-- Neither is below the other.
 tied : (r s : Ordering) → r ≡ ordering_reverse s → is_lt r ≡ false → is_lt s ≡ false → r ≡ Equal
 tied Less s e a b = cc a
 tied Equal s e a b = refl
@@ -122,7 +122,7 @@ tied Greater Less e a b = cc b
 tied Greater Equal e a b = cc e
 tied Greater Greater e a b = cc e
 
--- lists in order that every test counts alike are one list
+-- Sorted lists that every test counts alike are one list.
 one_list : {X : Type 0} (R : X → X → Ordering) (o : IsTotalOrder R) (is : (a b : X) → R a b ≡ Equal → a ≡ b) (xs ys : List X)
     → IsSorted R xs → IsSorted R ys → ((p : X → Bool) → count_by p ys ≡ count_by p xs) → xs ≡ ys
 one_list R o is [] [] s t same = refl
@@ -135,7 +135,7 @@ one_list R o is (x ∷ xs) (y ∷ ys) s t same =
     let rest : xs ≡ ys = one_list R o is xs ys (tail-sorted R x xs s) (tail-sorted R y ys t) (λ p. let e = rw (sum_by-cons (λ z. cond (p z) 1 0) y ys, sum_by-cons (λ z. cond (p z) 1 0) x xs, head) at (same p) in omega (arith, e)) in
     rw (head, rest) refl
 
--- what has the elements of a list and is in order is the list in order
+-- A list with the same elements that is sorted is the sorted list.
 pub in_order_is : {X : Type 0} (R : X → X → Ordering) → IsTotalOrder R → ((a b : X) → R a b ≡ Equal → a ≡ b) → (xs ys : List X) → IsPermutation xs ys → IsSorted R ys → ys ≡ in_order R xs
 in_order_is R o is xs ys same sorted =
     one_list R o is ys (in_order R xs) sorted (in_order-sorted R o xs) (λ p. sum_by-in_order R (λ x. cond (p x) 1 0) xs ∙ sym (sum_by-IsPermutation (λ x. cond (p x) 1 0) xs ys same))

@@ -53,7 +53,7 @@ none-at label l p false n m other isnt e = at (p label) e
 abbrev hit : List ℕ → List ℕ → ℕ
 hit label l = cond (bytes_eq l label) 1 0
 
--- a label that passes a test stands as often among those that pass it
+-- A label that passes a test is as often among those that pass it.
 times-filter : (label : List ℕ) (p : List ℕ → Bool) (labels : List (List ℕ)) → times label (filter p labels) ≡ cond (p label) (times label labels) 0
 times-filter label p [] = none (p label)
   where
@@ -76,7 +76,7 @@ nothing-shown true false = refl
 nothing-shown false true = refl
 nothing-shown false false = refl
 
--- each label with a shown size is a child once, and no other is
+-- Each label with a shown size is a child once, and no other label is.
 child-once : (o : RowOptions) (t : Table) (label : List ℕ) → times label (children o t) ≡ cond (has_shown o t label) 1 0
 unfolding children
 child-once o t label =
@@ -90,12 +90,12 @@ child-once o t label =
         let unshown : has_shown o t label ≡ false = ap (λ u. is_shown o (vm_sum u) (file_sum u)) empty ∙ nothing-shown (shows_vm o.domain) (shows_file o.domain) in
         rw unshown refl
 
--- What stands in a level.
+-- The entries of a level.
 
 abbrev once-if : Bool → ℕ
 once-if b = cond b 1 0
 
--- whether no label is left out, and which are
+-- Whether no label is left out, and which are.
 abbrev fits : RowOptions → List (List ℕ) → Bool
 fits o labels = (o.limit == 0) || leb (length labels) o.limit
 
@@ -113,12 +113,12 @@ some-left labels n more = above (length (drop n labels)) (omega (arith, length-d
     above : (m : ℕ) → 0 < m → (m == 0) ≡ false
     above m lt = grind (arith, common_steps)
 
--- a size of entries that is one of labels, and one of the labels that are left out
+-- A size of entries that is a size of labels, and of the labels that are left out.
 module _ (o : RowOptions) (t : Table) (labels : List (List ℕ)) where
   abbrev dropped : List (List ℕ)
   dropped = drop o.limit labels
 
-  -- the sum over the entries, and over the labels that none of them stands for alone
+  -- The sum over the entries, and over the labels that have no entry of their own.
   sum-limited : (f : Entry → ℕ) (g : List ℕ → ℕ) (h : List (List ℕ) → ℕ) → ((l : List ℕ) → f (label_entry t l) ≡ g l) → h [] ≡ 0
       → (fits o labels ≡ false → f (others_entry (map (label_entry t) dropped)) ≡ h dropped)
       → sum_by f (limited o (map (label_entry t) labels)) + sum_by g (left-out o labels) ≡ sum_by g labels + h (left-out o labels)
@@ -139,7 +139,7 @@ module _ (o : RowOptions) (t : Table) (labels : List (List ℕ)) where
           rw (back, front)
           (omega (arith, sum_by-placed (by_key o) f (others_entry (map (label_entry t) dropped)) (map (label_entry t) (take o.limit labels)), others more, of-labels (take o.limit labels), sum_by-take-drop g labels o.limit))
 
-  -- the same of a size that the rows of labels lack
+  -- The same for a size that the rows of labels lack.
   sum-taken : (f : Entry → ℕ) (h : List (List ℕ) → ℕ) → ((l : List ℕ) → f (label_entry t l) ≡ 0) → h [] ≡ 0
       → (fits o labels ≡ false → f (others_entry (map (label_entry t) dropped)) ≡ h dropped) → sum_by f (limited o (map (label_entry t) labels)) ≡ h (left-out o labels)
   sum-taken f h is none others = omega (arith, sum-limited f (λ l. 0) h is none others, sum-zero labels, sum-zero (left-out o labels))
@@ -162,7 +162,7 @@ module _ (o : RowOptions) (vm file : Path → ℕ) (t : Table) (are : AreSizesBe
   file-at : (path : Path) (l : List ℕ) → file_sum (under l (under_path path t)) ≡ file (path ++ l ∷ [])
   file-at path l = ap file_sum (sym (under-more path l t)) ∙ are.file_is (path ++ l ∷ [])
 
-  -- a level shows what stands under a path
+  -- A level shows the labels under a path.
   shows-level : (n level : ℕ) (path : Path) (after : List Row) → Stops level-of level after → ShowsLevel o vm file path level (listing o (suc n) level (under_path path t) ++ after)
   shows-level n level path after stops =
       let u : Table = under_path path t in
@@ -188,7 +188,7 @@ module _ (o : RowOptions) (vm file : Path → ℕ) (t : Table) (are : AreSizesBe
             (λ more. sum_by-map (λ (e : Entry). e.file) (label_entry u) (drop o.limit labels) ∙ sum_by-same (λ l. file_sum (under l u)) (λ l. file (path ++ l ∷ [])) (drop o.limit labels) (file-at path));
       }
 
-  -- what an entry of a table stands for
+  -- What an entry of a table represents.
   data IsEntry (u : Table) (e : Entry) : Type 0 where
     of_label : (l : List ℕ) → e ≡ label_entry u l → IsEntry u e
     of_others : (left : List Entry) → e ≡ others_entry left → IsEntry u e
@@ -197,11 +197,11 @@ module _ (o : RowOptions) (vm file : Path → ℕ) (t : Table) (are : AreSizesBe
   entries-are u = All-within o.limit (by_key o) others_entry (IsEntry u) (map (label_entry u) (children o u)) (All-map (IsEntry u) (label_entry u) (children o u) (λ k d lt. of_label _ refl)) (of_others _ refl)
 
   module _ (depth : ℕ) where
-    -- rows that may follow any row under a path
+    -- Rows that may follow any row under a path.
     Go : ℕ → Path → List Row → Type 0
     Go level path rows = (before : Path) → take level before ≡ path → ShowRows o vm file depth before rows
 
-    -- the rows of a level under a path may, where those that follow them may
+    -- The rows of a level under a path may, where those that follow them may.
     Lists : ℕ → ℕ → Type 0
     Lists n level = (path : Path) (after : List Row) → length path ≡ level → Stops level-of (level + 1) after → Go level path after → Go level path (listing o n level (under_path path t) ++ after)
 

@@ -14,7 +14,7 @@ use Rattle.report_rows.specs.Rows.{listing}
 use Rattle.report_rows.specs.Tables.{Table}
 use Rattle.report_rows.proofs.GroupLemmas.{seen}
 
--- from the first label on a table is itself
+-- From the first label on, a table is itself.
 pub whole_table : (rows : List RollupRow) → table_at 0 rows ≡ rows
 whole_table [] = refl
 whole_table (r ∷ rows) = ap (λ t. r ∷ t) (whole_table rows)
@@ -27,14 +27,14 @@ is_part depth lengths mapped rows all totals e = subst (IsPart depth 0) (sym e) 
   file_fits = omega (arith, totals.file, totals.lengths_fit);
 })
 
--- the rows up to one more
+-- The rows up to one more.
 pub rows_more : (rows : List RollupRow) (old new : List (Bor RollupRow)) (i : ℕ) (r : Bor RollupRow) → i < length rows → seen old ≡ take i rows → new ≡ old ++ r ∷ [] → slice_get rows i ≡ Some r.now
     → seen new ≡ take (i + 1) rows
 rows_more rows old new i r lt so-far push at =
     ap seen push ∙ (map_push (λ (r : Bor RollupRow). r.now) old r
     ∙ (ap (λ xs. xs ++ r.now ∷ []) so-far ∙ (ap (λ x. take i rows ++ x ∷ []) (sym (get_or_from_slice_get rows i r.now r.now at)) ∙ sym (take_more rows i r.now lt))))
 
--- a tree by its parts
+-- A tree by its parts.
 pub same_tree : (o : RowOptions) (depth vm file v f : ℕ) (rows : List Row) (out : List Row) (all : Table) → vm ≡ v → file ≡ f → out ≡ [] → rows ≡ out ++ listing o (depth - 0) 0 (table_at 0 all)
     → ◌≡◌ {A = RowTree} (record { depth = depth; vm = vm; file = file; rows = rows }) (record { depth = depth; vm = v; file = f; rows = listing o depth 0 all })
 same_tree o depth vm file v f rows out all a b none made =

@@ -1,4 +1,4 @@
--- Rows behind references, their labels and their sums.
+-- Rows that references refer to, their labels and their sums.
 use Rattle.std.proofs.Common.{◌≡◌, ℕ, ◌+◌, ◌<◌, ◌≤◌, List, [], length, take, get_or, map, refl, sym, ap, ◌∙◌, Bool, true, false, not, Some, Bor}
 use Rattle.std.specs.Prelude.{slice_get}
 use Rattle.std.specs.List.{sum_by}
@@ -12,14 +12,14 @@ use Rattle.report_rows.specs.Levels.{level_labels}
 use Rattle.std.proofs.lemmas.Simd.{map-map}
 use Rattle.report_rows.proofs.TableLemmas.{bytes_eq-same}
 
--- the sum so far and the next element of a list that is seen by a function
+-- The sum so far and the next element of a list that is seen through a function.
 pub mapped_more : {X Y : Type 0} (g : X → Y) (f : Y → ℕ) (xs : List X) (i : ℕ) (x : X) → i < length xs → x ≡ get_or xs i x
     → sum_by f (map g (take i xs)) + f (g x) ≤ sum_by f (map g xs)
 mapped_more g f xs i x lt e =
     let inside : i < length (map g xs) = rw length-map lt in
     rw (take-map g i xs, get_or-map g xs i x (g x) lt, ← e) at (sum_by_more_le f (map g xs) i (g x) inside)
 
--- the label of a level of what is read
+-- The label at a level of what is read.
 pub label_read : {X : Type 0} (path : X → List (List ℕ)) (xs : List X) (level i : ℕ) (x : X) (label : List ℕ) → i < length xs → x ≡ get_or xs i x → slice_get (path x) level ≡ Some label
     → get_or (level_labels path level xs) i [] ≡ label
 label_read path xs level i x label lt e at =
@@ -29,7 +29,7 @@ pub label_at : {X : Type 0} (path : X → List (List ℕ)) (xs : List X) (level 
     → get_or (level_labels path level xs) i [] ≡ label
 label_at path xs level i x label lt at = label_read path xs level i (get_or xs i x) label lt (get_or_default xs i x (get_or xs i x) lt) at
 
--- the labels of rows behind references
+-- The labels of rows that references refer to.
 pub seen-labels : (level : ℕ) (rows : List (Bor RollupRow)) → labels_at level (map (λ r. r.now) rows) ≡ level_labels (λ (r : Bor RollupRow). r.now.path) level rows
 seen-labels level rows = map-map (λ (r : RollupRow). get_or r.path level []) (λ (r : Bor RollupRow). r.now) rows
 

@@ -11,7 +11,7 @@ use Rattle.report_rows.specs.Tables.{Table, without, under, with_first, first_la
 use Rattle.report_rows.proofs.TableLemmas.{has, same_bytes, bytes_eq-same}
 use Rattle.report_rows.proofs.AscendLemmas.{IsDeep, from_level}
 
--- the label of a row
+-- The label of a row.
 abbrev label_in : ℕ → RollupRow → List ℕ
 label_in level r = get_or r.path level []
 
@@ -51,7 +51,7 @@ none-of : (b : Bool) (j k : List ℕ) (labels : List (List ℕ)) → bytes_eq j 
 none-of true j k labels e h = h
 none-of false j k labels e h = rw e h
 
--- a label that no row has is none of the first
+-- A label that no row has is none of the first.
 pub none-has : (level : ℕ) (l : List ℕ) (rows : List RollupRow) → IsDeep level rows → All (λ (r : RollupRow). label_in level r ≢ l) rows → has (first_labels (table_at level rows)) l ≡ false
 unfolding first_labels
 none-has level l [] deep all = refl
@@ -67,7 +67,7 @@ first-of-all l labels p e = rw e refl
 first-again : (l : List ℕ) (labels : List (List ℕ)) (p : List (List ℕ)) → with_first (l ∷ p) (l ∷ labels) ≡ l ∷ labels
 first-again l labels p = rw (bytes_eq-same l) refl
 
--- the labels of rows that share one, and of rows without it
+-- The labels of rows that share one, and of rows without it.
 pub first_labels-run : (level : ℕ) (l : List ℕ) (run rest : List RollupRow) → IsDeep level run → All (λ (r : RollupRow). label_in level r ≡ l) run → 0 < length run
     → has (first_labels (table_at level rest)) l ≡ false → first_labels (table_at level (run ++ rest)) ≡ l ∷ first_labels (table_at level rest)
 unfolding first_labels
@@ -84,7 +84,7 @@ first_labels-run level l (r ∷ s ∷ run) rest deep all some none =
     let more = first_labels-run level l (s ∷ run) rest (All-tail D r (s ∷ run) deep) (All-tail P r (s ∷ run) all) (omega arith) none in
     ap (λ q. with_first q (first_labels (table_at level (s ∷ run ++ rest)))) e ∙ (ap (with_first (l ∷ drop (level + 1) r.path)) more ∙ first-again l (first_labels (table_at level rest)) (drop (level + 1) r.path))
 
--- Rows from one place up to another that have a label which no row before or after them has.
+-- Rows from one index up to another that have a label which no row before or after them has.
 pub record IsRun (level : ℕ) (rows : List RollupRow) (l : List ℕ) (from to : ℕ) : Type 0 where
   pub deep : IsDeep level rows
   pub some : from < to
@@ -146,7 +146,7 @@ module _ (level : ℕ) (rows : List RollupRow) (l : List ℕ) (from to : ℕ) (r
   all-split : rows ≡ take from rows ++ (mid from to rows ++ drop to rows)
   all-split = sym (take-append-drop from rows) ∙ ap (λ xs. take from rows ++ xs) from-split
 
-  -- the table under the label of a run is the run's rows from the next label on
+  -- The table under the label of a run is the run's rows from the next label on.
   pub run-under : under l (table_at level rows) ≡ table_at (level + 1) (mid from to rows)
   run-under =
       ap (λ xs. under l (table_at level xs)) all-split
@@ -155,7 +155,7 @@ module _ (level : ℕ) (rows : List RollupRow) (l : List ℕ) (from to : ℕ) (r
       ∙ (ap (λ t. under l (table_at level (take from rows)) ++ t) (under-append l (table_at level (mid from to rows)) (table_at level (drop to rows)))
       ∙ rw (under-none level l (take from rows) front-deep front-none, under-all level l (mid from to rows) mid-deep mid-all, under-none level l (drop to rows) back-deep back-none) (append-nil (table_at (level + 1) (mid from to rows))))))
 
-  -- a run's label comes before those of the rows after it
+  -- A run's label comes before those of the rows after it.
   pub run-labels : first_labels (table_at level (drop from rows)) ≡ l ∷ first_labels (table_at level (drop to rows))
   run-labels =
       ap (λ xs. first_labels (table_at level xs)) from-split

@@ -8,7 +8,7 @@ use Rattle.report_rows.specs.Shown.{shown}
 none-above : (n : ℕ) → nat_lt 0 n ≡ false → n ≡ 0
 none-above n e = grind (arith, common_steps)
 
--- a size that is shown, where nothing shown is above 0
+-- A size that is shown, where nothing shown is above 0.
 pub first-none : (a b : Bool) (v f : ℕ) → a ≡ true → (nat_lt 0 (shown a v) || nat_lt 0 (shown b f)) ≡ false → v ≡ 0
 first-none true b v f e unshown = none-above v (or_parts (nat_lt 0 v) (nat_lt 0 (shown b f)) unshown).0
 first-none false b v f e unshown = cc e
@@ -17,7 +17,7 @@ pub second-none : (a b : Bool) (v f : ℕ) → b ≡ true → (nat_lt 0 (shown a
 second-none a true v f e unshown = none-above f (or_parts (nat_lt 0 (shown a v)) (nat_lt 0 f) unshown).1
 second-none a false v f e unshown = cc e
 
--- which size it is that is above 0
+-- Which size is above 0.
 pub some-shown : (a b : Bool) (v f : ℕ) → (nat_lt 0 (shown a v) || nat_lt 0 (shown b f)) ≡ true → ((a ≡ true) × (0 < v)) ⊎ ((b ≡ true) × (0 < f))
 some-shown true b v f is = elim (cases_Bool (nat_lt 0 v)) [
   | inl above ↦ inl (refl, grind (arith, common_steps))

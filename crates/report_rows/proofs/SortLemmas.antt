@@ -1,4 +1,4 @@
--- Groups in order have their labels in order.
+-- Sorted groups have their labels in order.
 use Rattle.std.proofs.Common.{◌≡◌, ℕ, ◌+◌, ◌<◌, ◌≤◌, List, [], ◌∷◌, length, get_or, map, refl, sym, ap, ◌∙◌, false, arith}
 use Rattle.std.specs.Prelude.{All, filter}
 use Rattle.std.specs.declared.cmp.Ordering.{Ordering}
@@ -73,7 +73,7 @@ module _ (o : RowOptions) (depth level : ℕ) (all : List RollupRow) (part : IsP
       rw (get_or-map lab (g ∷ groups) (k + 1) g d inside, get_or-map lab (g ∷ groups) k g d here)
       (order-step (get_or (g ∷ groups) k g) (get_or (g ∷ groups) (k + 1) g) (every k g here) (every (k + 1) g inside) (sorted k g low inside))
 
-  -- sorted groups are the children
+  -- Sorted groups are the children.
   pub sorted-children : (given sorted : List Group) → IsPermutation given sorted → IsSorted (λ x y. group_ord.ghosts.cmp x y) sorted → All (IsGroup o level all) sorted
       → map lab given ≡ filter (has_shown o table) (first_labels table) → map lab sorted ≡ children o table
   unfolding children

@@ -23,7 +23,7 @@ pub sum-zero : {X : Type 0} (xs : List X) → sum_by (λ x. 0) xs ≡ 0
 sum-zero [] = refl
 sum-zero (x ∷ xs) = omega (arith, sum_by-cons (λ y. 0) x xs, sum-zero xs)
 
--- the sums of two sizes over a part, where they are alike in what is left out
+-- The sums of two sizes over a part, where they are alike in what is left out.
 pub both-sums : {X : Type 0} (p : X → Bool) (f g : X → ℕ) → ((x : X) → p x ≡ false → f x ≡ g x) → (xs : List X) → sum_by f (filter p xs) + sum_by g xs ≡ sum_by g (filter p xs) + sum_by f xs
 both-sums p f g alike [] = refl
 both-sums {X} p f g alike (x ∷ xs) = at (p x) refl (both-sums p f g alike xs)
@@ -39,7 +39,7 @@ same_bytes a b e = (bytes_eq-Decides a b).0 e
 pub bytes_eq-same : (a : List ℕ) → bytes_eq a a ≡ true
 bytes_eq-same a = (bytes_eq-Decides a a).1 refl
 
--- a sum over the table under a label
+-- A sum over the table under a label.
 pub under-sum : (f : RollupRow → ℕ) (label : List ℕ) (t : Table) → sum_by f (under label t) ≡ sum_by (λ (r : RollupRow). sum_by f (without label r r.path)) t
 unfolding under
 under-sum f label [] = refl
@@ -47,7 +47,7 @@ under-sum f label (r ∷ t) =
     sum_by-append f (without label r r.path) (under label t)
     ∙ (ap (λ n. sum_by f (without label r r.path) + n) (under-sum f label t) ∙ sym (sum_by-cons (λ (s : RollupRow). sum_by f (without label s s.path)) r t))
 
--- a size of rows, whatever their paths
+-- A size of rows that doesn't depend on their paths.
 module _ (size : RollupRow → ℕ) (same : (r : RollupRow) (p : List (List ℕ)) → size (record r { path = p }) ≡ size r) where
   prefix-at : (r : RollupRow) (l k : List ℕ) (path p : List (List ℕ)) (b : Bool)
       → sum_by (λ (s : RollupRow). cond (starts_with bytes_eq s.path path) (size s) 0) (cond b (record r { path = p } ∷ []) []) ≡ cond (b && starts_with bytes_eq p path) (size r) 0
@@ -61,7 +61,7 @@ module _ (size : RollupRow → ℕ) (same : (r : RollupRow) (p : List (List ℕ)
   prefix-step r l path [] = refl
   prefix-step r l path (k ∷ p) = prefix-at r l k path p (bytes_eq l k)
 
-  -- the size of the table under a path is that of the path
+  -- The size of the table under a path is that of the path.
   pub prefix-sum : (path : List (List ℕ)) (t : Table) → sum_by size (under_path path t) ≡ size_of size t path
   prefix-sum [] t = refl
   prefix-sum (l ∷ path) t =
@@ -70,7 +70,7 @@ module _ (size : RollupRow → ℕ) (same : (r : RollupRow) (p : List (List ℕ)
       ∙ (under-sum f l t
       ∙ sum_by-same (λ (r : RollupRow). sum_by f (without l r r.path)) (λ (r : RollupRow). cond (starts_with bytes_eq r.path (l ∷ path)) (size r) 0) t (λ r. prefix-step r l path r.path))
 
-  -- the size that a row gives the table under a label
+  -- The size that a row adds to the table under a label.
   given-at : (r : RollupRow) (p : List (List ℕ)) (b : Bool) → sum_by size (cond b (record r { path = p } ∷ []) []) ≡ cond b (size r) 0
   given-at r p true = omega (arith, sum_by-cons size (record r { path = p }) [], same r p)
   given-at r p false = refl
@@ -89,7 +89,7 @@ sum_by-plus f g (x ∷ xs) = omega (arith, sum_by-cons (λ y. f y + g y) x xs, s
 abbrev pub has : List (List ℕ) → List ℕ → Bool
 has labels k = list_any (λ (m : List ℕ). bytes_eq m k) labels
 
--- a number at one label
+-- A number at one label, and 0 at others.
 abbrev one : List ℕ → ℕ → List ℕ → ℕ
 one k n l = cond (bytes_eq l k) n 0
 
@@ -112,7 +112,7 @@ once-path : (n : ℕ) (k : List ℕ) (p labels : List (List ℕ)) → sum_by (on
 once-path n k [] labels rest = rest
 once-path n k (j ∷ p) labels rest = once-first n k j labels (has labels j) refl rest
 
--- each label of a table stands once among its first labels
+-- Each label of a table is once among its first labels.
 pub once : (n : ℕ) (k : List ℕ) (t : Table) → sum_by (one k n) (first_labels t) ≡ cond (has (first_labels t) k) n 0
 unfolding first_labels
 once n k [] = refl
@@ -146,7 +146,7 @@ absent-path r k (j ∷ p) labels rest none empty =
     let both = has-more (has labels j) j k labels refl none in
     rw (without-other r k j p both.0) (empty both.1)
 
--- no row stands under a label that is none of the first
+-- No row is under a label that is none of the first.
 pub absent : (k : List ℕ) (t : Table) → has (first_labels t) k ≡ false → under k t ≡ []
 unfolding first_labels under
 absent k [] none = refl
@@ -177,7 +177,7 @@ module _ (size : RollupRow → ℕ) (same : (r : RollupRow) (p : List (List ℕ)
   step-path r t [] e some = absurd (omega arith)
   step-path r t (k ∷ p) e some = step-labels r t k p (with_first (k ∷ p) (first_labels t)) e ∙ step-at r t k (has (first_labels t) k) refl
 
-  -- the sizes under the labels of a table add up to its own
+  -- The sizes under the labels of a table add up to its own.
   pub labels-sum : (t : Table) → All (λ (r : RollupRow). 0 < length r.path) t → sum_by (below t) (first_labels t) ≡ sum_by size t
   unfolding first_labels
   labels-sum [] all = refl

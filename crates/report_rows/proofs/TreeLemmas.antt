@@ -21,7 +21,7 @@ use Rattle.report_rows.proofs.OrderLemmas.{sum_by-in_order, All-in_order}
 use Rattle.report_rows.proofs.ShownLemmas.{first-none, second-none, some-shown}
 use Rattle.report_rows.proofs.TableLemmas.{both-sums, sum-zero, sum_by-map, sum_by-same, labels-sum}
 
--- each path has so many labels
+-- Each path has this many labels.
 abbrev pub AreOf : ℕ → Table → Type 0
 AreOf n t = All (λ (r : RollupRow). length r.path ≡ n) t
 
@@ -33,7 +33,7 @@ of-path n l r (k ∷ p) rest e more = at (bytes_eq l k)
     at true = All-cons (λ (s : RollupRow). length s.path ≡ n) (record r { path = p }) rest (omega arith) more
     at false = more
 
--- under a label they have one less
+-- Under a label they have one less.
 of-under : (n : ℕ) (l : List ℕ) (t : Table) → AreOf (suc n) t → AreOf n (under l t)
 unfolding under
 of-under n l [] all = λ k d lt. absurd (omega arith)
@@ -41,11 +41,11 @@ of-under n l (r ∷ t) all =
     let P : RollupRow → Type 0 = λ s. length s.path ≡ suc n in
     of-path n l r r.path (under l t) (All-head P r t all) (of-under n l t (All-tail P r t all))
 
--- sums over the entries
+-- Sums over the entries.
 sum-shown : {X : Type 0} (p : X → Bool) (f : X → ℕ) (xs : List X) → ((x : X) → p x ≡ false → f x ≡ 0) → sum_by f (filter p xs) ≡ sum_by f xs
 sum-shown p f xs none = omega (arith, both-sums p f (λ x. 0) none xs, sum-zero xs, sum-zero (filter p xs))
 
--- a size of entries that is a size of the tables under labels, and 0 where nothing is shown
+-- A size of entries that is a size of the tables under labels, and 0 where nothing is shown.
 record IsSize (o : RowOptions) (f : Entry → ℕ) (size : RollupRow → ℕ) : Type 0 where
   pub same : (r : RollupRow) (p : List (List ℕ)) → size (record r { path = p }) ≡ size r
   pub label : (t : Table) (l : List ℕ) → f (label_entry t l) ≡ sum_by size (under l t)
@@ -67,7 +67,7 @@ entries-sum o f size n t is all =
     ∙ (sum_by-same (λ l. f (label_entry t l)) (λ l. sum_by size (under l t)) (first_labels t) (is.label t)
     ∙ labels-sum size is.same t (λ k d lt. omega (arith, all k d lt)))))
 
--- no entries without rows
+-- There are no entries without rows.
 entries-none : (o : RowOptions) → entries_of o [] ≡ []
 unfolding children first_labels in_order
 entries-none o = within-nil o.limit (by_key o) others_entry
@@ -93,7 +93,7 @@ file-size o shows = record {
   none = λ t unshown. second-none (shows_vm o.domain) (shows_file o.domain) (vm_sum t) (file_sum t) shows unshown;
 }
 
--- where a shown size is above 0, there are entries
+-- Where a shown size is above 0, there are entries.
 some-entry : (o : RowOptions) (n : ℕ) (t : Table) → AreOf (suc n) t → is_shown o (vm_sum t) (file_sum t) ≡ true → 0 < length (entries_of o t)
 some-entry o n t all is = elim (some-shown (shows_vm o.domain) (shows_file o.domain) (vm_sum t) (file_sum t) is) [
   | inl vm ↦ not-empty (λ (e : Entry). e.vm) (entries_of o t) (omega (arith, entries-sum o (λ e. e.vm) (λ r. r.vm) n t (vm-size o vm.0) all, vm.1))
@@ -104,7 +104,7 @@ some-entry o n t all is = elim (some-shown (shows_vm o.domain) (shows_file o.dom
     not-empty f [] h = absurd (omega arith)
     not-empty f (e ∷ es) h = omega arith
 
--- an entry of paths of suc n labels
+-- An entry of paths of suc n labels.
 record IsSound (o : RowOptions) (n : ℕ) (e : Entry) : Type 0 where
   pub deep : AreOf n e.below
   pub some : 0 < n → has_some (entries_of o e.below) ≡ not (is_others e.kind)
@@ -139,7 +139,7 @@ below-of e = e.below
 pub is-tree : (o : RowOptions) (depth : ℕ) (t : Table) → AreOf depth t → AreLevels depth 0 (listing o depth 0 t)
 is-tree o depth t all = are-tree (entries_of o) below-of (row_of 0) AreOf (IsSound o) (entries-sound o) (λ n e is. is.deep) (λ n e is. is.some (omega arith)) depth t all
 
--- sizes of rows that are sizes of entries
+-- Sizes of rows that are sizes of entries.
 module _ (o : RowOptions) (depth : ℕ) (size : Row → ℕ) (f : Entry → ℕ) (amount : RollupRow → ℕ) (is : IsSize o f amount) (alike : (level : ℕ) (e : Entry) → size (row_of level e) ≡ f e)
     (own : (n : ℕ) (e : Entry) → IsSound o n e → is_others e.kind ≡ false → f e ≡ sum_by amount e.below) where
   level-is : (n level : ℕ) (t : Table) (after : List Row) → AreOf (suc n) t → Stops (λ (r : Row). r.level) level after → level_sum size level (listing o (suc n) level t ++ after) ≡ sum_by amount t
@@ -147,7 +147,7 @@ module _ (o : RowOptions) (depth : ℕ) (size : Row → ℕ) (f : Entry → ℕ)
       level-sum (entries_of o) below-of (row_of 0) size n level t after stops
       ∙ (sum_by-same (λ e. size (row_of level e)) f (entries_of o t) (alike level) ∙ entries-sum o f amount n t is all)
 
-  -- the children of a row add up to it
+  -- The children of a row add up to it.
   row-sum : (n level : ℕ) (e : Entry) (after : List Row) → depth ≡ level + suc n → IsSound o n e → Stops (λ (r : Row). r.level) (level + 1) after
       → has_children (row_of level e) (listing o n (level + 1) e.below ++ after) ≡ true → level_sum size (level + 1) (listing o n (level + 1) e.below ++ after) ≡ size (row_of level e)
   row-sum n level e after d sound stops kids =

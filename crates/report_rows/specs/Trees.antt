@@ -8,17 +8,19 @@ use Rattle.report_rows.specs.declared.row.RowTree.{RowTree}
 use Rattle.report_rows.specs.Levels.{EachRow}
 use Rattle.report_rows.specs.Shown.{shows_vm, shows_file}
 
--- a row has children where the next row has a greater level
+-- Whether a row has children: the next row has a greater level.
 abbrev pub has_children : Row → List Row → Bool
 has_children r [] = false
 has_children r (next ∷ rows) = nat_lt r.level next.level
 
+-- Whether a row is an Others row.
 abbrev pub is_others : RowKind → Bool
 is_others (Others count) = true
 is_others (Label label) = false
 
--- The levels of these rows, the first of which is at most a highest one: each other is at most one more than the level
--- before it, each is below the depth, and the rows without children are the Others rows and those of the last level.
+-- The levels of these rows form a tree. The first is at most a highest level, and each other is at most one
+-- more than the level before it. Each is below the depth. The rows without children are the Others rows and
+-- those of the last level.
 abbrev pub AreLevels : ℕ → ℕ → List Row → Type 0
 AreLevels depth highest [] = ⊤
 AreLevels depth highest (r ∷ rows) =
@@ -26,26 +28,26 @@ AreLevels depth highest (r ∷ rows) =
     × (has_children r rows ≡ not (is_others r.kind || (r.level + 1 == depth)))
     × AreLevels depth (r.level + 1) rows
 
--- the levels of these rows form a tree of a depth
+-- The levels of these rows form a tree of a depth.
 abbrev pub IsTree : ℕ → List Row → Type 0
 IsTree depth rows = AreLevels depth 0 rows
 
--- the sizes of the rows of a level, up to the first row of a lesser level
+-- The sizes of the rows of a level, up to the first row of a lesser level.
 abbrev pub level_sum : (Row → ℕ) → ℕ → List Row → ℕ
 level_sum size level [] = 0
 level_sum size level (r ∷ rows) =
     if nat_lt r.level level then 0 else (if r.level == level then size r else 0) + level_sum size level rows
 
--- the sizes of the children of each row that has any add up to its own
+-- The sizes of a row's children add up to the row's size, for each row that has children.
 abbrev pub AddUp : (Row → ℕ) → List Row → Type 0
 AddUp size rows = EachRow (λ (r : Row) (later : List Row). has_children r later ≡ true → level_sum size (r.level + 1) later ≡ size r) rows
 
--- a size adds up: that of the first level to the total, and that of each row's children to the row's
+-- A size adds up: the first level adds up to the total, and each row's children to the row.
 pub record HasSums (size : Row → ℕ) (total depth : ℕ) (rows : List Row) : Type 0 where
   pub first : 0 < depth → level_sum size 0 rows ≡ total
   pub below : AddUp size rows
 
--- each shown size adds up
+-- Each shown size adds up.
 pub record AddsUp (domain : Domain) (t : RowTree) : Type 0 where
   pub vm : IsTrue (shows_vm domain) → HasSums (λ (r : Row). r.vm) t.vm t.depth t.rows
   pub file : IsTrue (shows_file domain) → HasSums (λ (r : Row). r.file) t.file t.depth t.rows

@@ -1,4 +1,4 @@
--- Worked tables, and the rows that a report has over them.
+-- Example tables, and the rows of reports over them.
 use Rattle.std.specs.Prelude.{◌≡◌, ℕ, List, [], ◌∷◌, codes}
 use Rattle.size_core.specs.declared.choices.Domain.{Domain}
 use Rattle.size_core.specs.declared.choices.Domain.TheVariants as domains
@@ -11,39 +11,45 @@ use Rattle.report_rows.specs.declared.row.Row.{Row}
 use Rattle.report_rows.specs.Tables.{Table}
 use Rattle.report_rows.specs.Rows.{listing}
 
+-- The options of an example.
 abbrev pub asked : ℕ → Sort → Domain → RowOptions
 asked limit sort domain = record { limit = limit; sort = sort; domain = domain }
 
+-- A row of an example table.
 abbrev pub path_row : List (List ℕ) → ℕ → ℕ → RollupRow
 path_row path vm file = record { path = path; vm = vm; file = file }
 
+-- The row of a label.
 abbrev pub label_row : ℕ → List ℕ → ℕ → ℕ → Row
 label_row level label vm file = record { level = level; kind = Label label; vm = vm; file = file }
 
+-- An Others row.
 abbrev pub others_row : ℕ → ℕ → ℕ → ℕ → Row
 others_row level count vm file = record { level = level; kind = Others count; vm = vm; file = file }
 
--- five labels, of which one has the text of an Others row
+-- Five labels. One of them has the text of an Others row.
 abbrev pub five : Table
 five =
     path_row (codes "[3 Others]" ∷ []) 0 9 ∷ path_row (codes "a" ∷ []) 1 8 ∷ path_row (codes "b" ∷ []) 2 4 ∷ path_row (codes "c" ∷ []) 3 2
     ∷ path_row (codes "d" ∷ []) 4 2 ∷ []
 
--- paths of two labels, and of three
+-- Paths of two labels.
 abbrev pub pairs : Table
 pairs =
     path_row (codes "a" ∷ codes "x" ∷ []) 1 4 ∷ path_row (codes "a" ∷ codes "y" ∷ []) 2 3 ∷ path_row (codes "a" ∷ codes "z" ∷ []) 3 1
     ∷ path_row (codes "b" ∷ codes "x" ∷ []) 9 0 ∷ path_row (codes "c" ∷ codes "x" ∷ []) 0 5 ∷ []
 
+-- Paths of three labels.
 abbrev pub triples : Table
 triples = path_row (codes "a" ∷ codes "x" ∷ codes "p" ∷ []) 1 1 ∷ path_row (codes "a" ∷ codes "x" ∷ codes "q" ∷ []) 0 2 ∷ []
 
--- all five, the lesser label first where sizes are equal
+-- The rows of all five labels, where the lesser label comes first for equal sizes.
 abbrev pub all_five : List Row
 all_five =
     label_row 0 (codes "[3 Others]") 0 9 ∷ label_row 0 (codes "a") 1 8 ∷ label_row 0 (codes "b") 2 4 ∷ label_row 0 (codes "c") 3 2
     ∷ label_row 0 (codes "d") 4 2 ∷ []
 
+-- The rows of the example tables.
 pub record WorkedTables : Type 0 where
   pub before_its_equal : listing (asked 2 sorts.Both domains.File) 1 0 five
       ≡ label_row 0 (codes "[3 Others]") 0 9 ∷ others_row 0 3 9 8 ∷ label_row 0 (codes "a") 1 8 ∷ []

@@ -1,4 +1,4 @@
-//! The labels of a level, each with its rows, in the order of a report.
+//! The labels of a level, grouped with their rows, in the order of a report.
 
 ghost use Rattle.std.specs.Prelude.{◌≡◌, ◌≢◌, ◌+◌, ◌-◌, ◌^◌, ◌<◌, ◌≤◌, ◌++◌, [], ◌∷◌, ℕ, All, length, map, filter, get_or, IfOk, OnOk, if◌then◌else◌};
 ghost use Rattle.report_rows.specs.Groups.{table_at, labels_at, group_label, group_entry, IsPart, IsGroup, IsBorder, IsRange, Fits, others_group};
@@ -15,18 +15,18 @@ use size_core::{NoMemory, Path};
 use std::alloc::Global;
 use std::cmp::Reverse;
 
-/// What a group stands for.
+/// The kind of a group.
 #[derive(Clone, Copy, PartialEq, Eq, PartialOrd, Ord, Debug)]
 pub enum Kind {
     /// One label.
     Label,
-    /// So many labels that a limit left over.
+    /// This many labels that a limit leaves out.
     Others(u64),
 }
 
-/// The rows of a rollup from `from` up to `to`, which share a label; or labels left over, with no rows. Groups
-/// come in the order of a report: the larger key first, and of one key the lesser label, which stands first
-/// among the rows.
+/// A group: the rows of a rollup from index `from` up to `to`, which share a label; or labels that a limit
+/// leaves out, with no rows. Groups are ordered as in a report: by key, the larger first, and for equal keys by
+/// label, which is the order of the rows.
 #[derive(Clone, Copy, PartialEq, Eq, PartialOrd, Ord, Debug)]
 pub struct Group {
     pub key: Reverse<u64>,
@@ -37,7 +37,7 @@ pub struct Group {
     pub file: u64,
 }
 
-/// The sizes of rows, added up: mapped addresses, and file bytes.
+/// The sums of the rows' VM sizes and file sizes, in bytes.
 pub fn sums(rows: &[&RollupRow]) -> (u64, u64)
     requires vm_fits { vm_sum (map (λ r. r.now) rows.now) ≤ 2 ^ 63 - 1 }
     requires file_fits { file_sum (map (λ r. r.now) rows.now) ≤ 2 ^ 63 - 1 }
@@ -61,7 +61,7 @@ impl<'a> HasPath for &'a RollupRow {
     }
 }
 
-// The group that begins at a row whose label no earlier row has.
+// The group whose first row is at `from`. No earlier row has its label.
 fn make_group(
     options: &RowOptions,
     depth: u32,
@@ -91,7 +91,7 @@ fn make_group(
     }
 }
 
-// Adds a group that has a shown size above 0.
+// Appends a group, where one of its shown sizes is above 0.
 fn keep(options: &RowOptions, groups: &mut Vec<Group>, group: Group) -> Result<(), NoMemory>
     ensures { OnOk result (groups.new.items
         ≡ groups.old.items ++ (if is_shown options.now group.vm group.file then group ∷ [] else [])) }
@@ -127,7 +127,7 @@ fn groups_of(
     Ok(groups)
 }
 
-// The labels of a level with a shown size above 0, in order.
+// The labels of a level with a shown size above 0, in the order of a report.
 fn children(
     alloc: Global,
     options: &RowOptions,
@@ -175,7 +175,7 @@ impl Grouped for Group {
     }
 }
 
-/// What stands in a level under these rows, in the order of a report.
+/// The groups of a level of these rows, within the limit, in the order of a report.
 pub fn entries(
     alloc: Global,
     options: &RowOptions,

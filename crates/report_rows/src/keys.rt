@@ -1,4 +1,4 @@
-//! What orders rows, and which of them are shown.
+//! Sort keys, and which rows are shown.
 
 ghost use Rattle.std.specs.Prelude.{◌≡◌};
 ghost use Rattle.report_rows.specs.Keys.{key_of, is_shown};
@@ -6,7 +6,7 @@ ghost use Rattle.report_rows.specs.Keys.{key_of, is_shown};
 use crate::row::RowOptions;
 use size_core::{Domain, Sort};
 
-/// The shown size that orders.
+/// The sort key: the shown size that rows are sorted by.
 pub fn key(options: &RowOptions, vm: u64, file: u64) -> u64
     ensures { result ≡ key_of options.now vm file }
 {

@@ -1,4 +1,4 @@
-//! Laws of tables: each is the contract of a function that does nothing.
+//! Laws of tables. Each is the contract of a function with an empty body.
 
 ghost use Rattle.report_rows.specs.Laws.{AddsUpInAllTrees, SizesByPrefix};
 ghost use Rattle.report_rows.specs.Paths.{RowsShowPaths};
@@ -8,15 +8,15 @@ pub fn sizes_by_prefix()
     ensures { SizesByPrefix }
 {}
 
-/// The rows of a report show the paths of its table. The row of a label has the sizes of its path, which is read off
-/// the rows above it; an Others row has the sums of just the labels that are left out; and each label with a shown size
-/// has its row or is one of those.
+/// The rows of a report show the paths of its table. The row of a label has the sizes of its path, which
+/// follows from the rows above it. An Others row has the sums of exactly the labels that are left out. Each
+/// label with a shown size has a row or is one of those left out.
 pub fn rows_show_paths()
     ensures { RowsShowPaths }
 {}
 
-/// In every report, whatever its options, the sizes of the first level's rows add up to the total, and those of the
-/// children of each row that has any to that of the row, for each size that is shown.
+/// In every report, for each shown size, the sizes of the first level's rows add up to the total, and the sizes
+/// of a row's children add up to the row's size. This holds for all options.
 pub fn shown_sizes_add_up()
     ensures { AddsUpInAllTrees }
 {}

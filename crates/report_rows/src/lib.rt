@@ -1,4 +1,5 @@
-//! The rows of a report: the labels of each level with their sizes, in order, those beyond a limit as one row.
+//! The rows of a report: the labels of each level with their sizes, in order. A limit collects the labels
+//! beyond it into one row.
 #![tactic(auto)]
 
 mod groups;
@@ -16,6 +17,3 @@ pub use limits::{Grouped, limit};
 pub use listing::rows;
 pub use paths::{HasPath, run_len};
 pub use row::{Row, RowKind, RowOptions, RowTree, Rows};
-
-#[cfg(test)]
-mod tests;

@@ -1,4 +1,4 @@
-//! Groups within a limit, and the others taken together.
+//! Groups within a limit, and one group for the others.
 
 ghost use Rattle.std.specs.Prelude.{◌≡◌, ℕ, List, OnOk, drop, nat_le};
 ghost use Rattle.std.specs.List.{position_or_len};
@@ -9,7 +9,7 @@ ghost use Rattle.report_rows.specs.Order.{within};
 use crate::row::RowOptions;
 use size_core::NoMemory;
 
-/// What stands in a level: a label, or labels left over. The larger key stands first.
+/// An item of a level: a label, or labels that are left out. The larger key comes first.
 pub trait Grouped: Copy {
     ghost key: { Self → ℕ };
 
@@ -17,17 +17,17 @@ pub trait Grouped: Copy {
 
     ghost together: { RowOptions → List Self → Self };
 
-    /// The shown size that orders.
+    /// The sort key: the shown size that rows are sorted by.
     fn key(&self) -> u64
         ensures { result ≡ key self.now };
 
-    /// Groups that are left over, taken together.
+    /// One group for these groups, which a limit leaves out.
     fn together(options: &RowOptions, left: &[Self]) -> Self
         requires { fits left.now }
         ensures { result ≡ together options.now left.now };
 }
 
-// Where a group of others stands: before the first group whose key is not larger.
+// The index for a group of others: that of the first group whose key isn't larger.
 fn place<G: Grouped>(groups: &[G], others: &G) -> usize
     ensures { result ≡ position_or_len (λ g. nat_le (G.key g) (G.key others.now)) groups.now }
 {
@@ -39,7 +39,7 @@ fn place<G: Grouped>(groups: &[G], others: &G) -> usize
     groups.len()
 }
 
-/// Leaves the groups within the limit, and one of the others where there are more. A limit of 0 is none.
+/// Keeps the groups within the limit, and replaces the others by one group. A limit of 0 means no limit.
 pub fn limit<G: Grouped>(options: &RowOptions, groups: &mut Vec<G>) -> Result<(), NoMemory>
     requires { G.fits (drop options.now.limit groups.old.items) }
     ensures { OnOk result (groups.new.items

@@ -31,7 +31,7 @@ fn make_row(rows: &[&RollupRow], level: u32, group: &Group) -> Result<Row, NoMem
     })
 }
 
-// Adds the rows of the levels from this one on.
+// Appends the rows of the levels from this one on.
 fn list(
     alloc: Global,
     options: &RowOptions,
@@ -57,7 +57,7 @@ fn list(
     Ok(())
 }
 
-// The tree of rows in order of their paths.
+// The tree of these rows. They are sorted by path.
 fn tree(
     alloc: Global,
     options: &RowOptions,
@@ -80,9 +80,9 @@ fn tree(
     })
 }
 
-/// The rows of a report over a rollup: the labels of each level with a shown size above 0, the larger key first,
-/// and of one key the lesser label. Where there is a limit, the labels beyond it are one row, before the labels of
-/// its key. The only error is want of memory.
+/// The rows of a report over a rollup: the labels of each level with a shown size above 0. They are ordered by
+/// key, the larger first, and for equal keys by label. With a limit, the labels beyond it become one row,
+/// before the labels with the same key. The only error is running out of memory.
 pub fn rows(alloc: Global, rollup: &Rollup, options: &RowOptions) -> Result<RowTree, NoMemory>
     ensures rows { IfOk result (λ t. t ≡ row_tree options.now rollup.now) }
     ensures levels { IfOk result (λ t. IsTree t.depth t.rows) }

@@ -1,11 +1,11 @@
-//! Paths that share their label of a level.
+//! Items that share their label at a level.
 
 ghost use Rattle.std.specs.Prelude.{◌≡◌, ◌≢◌, ◌<◌, ◌≤◌, [], ℕ, List, All, length, get_or};
 ghost use Rattle.report_rows.specs.Levels.{level_labels};
 
 use size_core::Path;
 
-/// What has a path of labels.
+/// An item with a path of labels.
 pub trait HasPath {
     ghost path: { Self → List (List ℕ) };
 
@@ -13,7 +13,7 @@ pub trait HasPath {
         ensures { result.now ≡ path self.now };
 }
 
-/// How many at the front share their label of a level.
+/// How many items at the front share their label at a level.
 pub fn run_len<T: HasPath>(items: &[T], level: usize) -> usize
     requires some { 0 < length items.now }
     requires deep { All (λ x. level < length (T.path x)) items.now }

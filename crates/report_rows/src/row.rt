@@ -1,50 +1,50 @@
-//! What a report's rows are.
+//! Rows and options of a report.
 
 use size_core::{Bytes, Domain, List, Sort};
 
-/// Which rows a report has, and in which order.
+/// Which rows a report has, and how they are sorted.
 #[derive(Clone, Copy, Debug, PartialEq, Eq, Hash)]
 pub struct RowOptions {
-    /// How many labels stand under one path; 0 for all.
+    /// The number of labels under one path that are kept. 0 means no limit.
     pub limit: u32,
-    /// Which size orders them.
+    /// The size that rows are sorted by.
     pub sort: Sort,
-    /// Which sizes are shown. A size that is not shown counts as 0 where rows are chosen and ordered.
+    /// The sizes that are shown. A size that isn't shown counts as 0 when rows are selected and sorted.
     pub domain: Domain,
 }
 
-/// What a row stands for.
+/// The kind of a row.
 #[derive(Debug, Drop)]
 pub enum RowKind {
-    /// All that has this label after the path of the row above.
+    /// A row for everything with this label below the path of the parent row.
     Label(Bytes),
-    /// So many labels that the limit left over, taken together.
+    /// One row for this many labels that the limit leaves out.
     Others(u64),
 }
 
-/// A row with both its sizes, in bytes, whether they are shown or not.
+/// A row with both of its sizes in bytes, whether they are shown or not.
 #[derive(Debug, Drop)]
 pub struct Row {
-    /// How many rows it stands under; 0 in the first level.
+    /// The row's level. The first level is 0.
     pub level: u32,
     pub kind: RowKind,
-    /// Mapped addresses.
+    /// The VM size: the number of mapped addresses.
     pub vm: u64,
-    /// File bytes.
+    /// The file size.
     pub file: u64,
 }
 
-/// The rows of all levels in the order of a report: the children of a row follow it, one level deeper.
+/// The rows of all levels in the order of a report. The children of a row follow it, one level deeper.
 pub type Rows = List<Row>;
 
-/// A report's rows, and the sizes of all that was counted.
+/// A report's rows, and its totals in bytes.
 #[derive(Debug, Drop)]
 pub struct RowTree {
-    /// How many levels there are: one for each data source.
+    /// The number of levels: one for each data source.
     pub depth: u32,
-    /// Mapped addresses.
+    /// The total VM size.
     pub vm: u64,
-    /// File bytes.
+    /// The total file size.
     pub file: u64,
     pub rows: Rows,
 }

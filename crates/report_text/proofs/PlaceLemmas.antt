@@ -8,13 +8,13 @@ use Rattle.place_explain.specs.declared.named.NamedClaim.{NamedClaim}
 use Rattle.report_text.specs.Places.{beaten_line, claim_line, claim_lines}
 use Rattle.report_text.proofs.RecordLemmas.{rows-from}
 
--- the lines so far, and those of what is left
+-- The lines so far, and those of what is left.
 pub left-more : {X : Type 0} (f : X → List ℕ) (p q whole : List ℕ) (xs : List X) (k : ℕ) (x : X) → slice_get xs k ≡ Some x → q ≡ p ++ f x → p ++ flat_map f (drop k xs) ≡ whole
     → q ++ flat_map f (drop (k + 1) xs) ≡ whole
 left-more f p q whole xs k x at e is =
     ap (λ y. y ++ flat_map f (drop (k + 1) xs)) e ∙ (append_assoc p (f x) (flat_map f (drop (k + 1) xs)) ∙ (sym (ap (λ ys. p ++ flat_map f ys) (rows-from xs k x at)) ∙ is))
 
--- the line of the first, and those of all others
+-- The line of the first claim, and those of all others.
 pub claims-end : (wide : Bool) (old first out : List ℕ) (cs : List NamedClaim) (k : ℕ) (c : NamedClaim) → slice_get cs 0 ≡ Some c → first ≡ old ++ claim_line wide (codes "  first #") c → length cs ≤ k
     → out ++ flat_map (beaten_line wide) (drop k cs) ≡ first ++ flat_map (beaten_line wide) (drop 1 cs) → out ≡ old ++ claim_lines wide cs
 unfolding claim_lines
@@ -24,7 +24,7 @@ claims-end wide old first out (x ∷ cs) k c at line le e =
     sym (ap (λ ys. out ++ flat_map (beaten_line wide) ys) (drop_all k (x ∷ cs) le) ∙ append-nil out)
     ∙ (e ∙ (ap (λ y. y ++ rest) line ∙ (append_assoc old (claim_line wide (codes "  first #") c) rest ∙ ap (λ d. old ++ (claim_line wide (codes "  first #") d ++ rest)) (sym (same_Some x c at)))))
 
--- the line where there is none
+-- The line where there is no claim.
 pub no-claims : (wide : Bool) (cs : List NamedClaim) → length cs ≡ 0 → claim_lines wide cs ≡ codes "  first none\n"
 unfolding claim_lines
 no-claims wide [] e = refl

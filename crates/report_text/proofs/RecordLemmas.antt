@@ -17,24 +17,24 @@ use Rattle.report_text.specs.Between.{IsReady, IsPath, HasCome, entered}
 use Rattle.report_text.specs.Labels.{kind_text}
 use Rattle.report_text.specs.Records.{Fields, delimited, labels_above, header_fields, path_fields, row_fields, leaf_record, leaf_records, table_text}
 
--- the rows from one on
+-- The rows from one on.
 pub rows-from : {X : Type 0} (xs : List X) (i : ℕ) (x : X) → slice_get xs i ≡ Some x → drop i xs ≡ x ∷ drop (i + 1) xs
 rows-from xs i x e =
     drop_more xs i x (slice_get_within xs i x e) ∙ ap (λ y. y ∷ drop (i + 1) xs) (get_or_from_slice_get xs i x x e)
 
--- whether the next row has a greater level
+-- Whether the next row has a greater level.
 pub children-next : {X : Type 0} (as_row : X → Row) (xs : List X) (i : ℕ) (x row next : X) → slice_get xs i ≡ Some x → slice_get xs (i + 1) ≡ Some next → slice_get xs i ≡ Some row
     → nat_lt (as_row x).level (as_row next).level ≡ has_children (as_row row) (map as_row (drop (i + 1) xs))
 children-next as_row xs i x row next at after is =
     let same : x ≡ row = cc in
     rw (rows-from xs (i + 1) next after, same) refl
 
--- the fields of a row's record
+-- The fields of a row's record.
 pub row-fields : (depth : ℕ) (above : Fields) (r : Row) (sizes p q : Fields) → p ≡ path_fields depth above r → q ≡ p ++ sizes → q ≡ row_fields depth above r sizes
 unfolding row_fields
 row-fields depth above r sizes p q path fields = fields ∙ rw path refl
 
--- the record of a row without children
+-- The record of a row without children.
 pub leaf-written : {X : Type 0} (f : Fields → List ℕ) (as_row : X → Row) (sizes : X → Fields) (depth : ℕ) (above : Fields) (xs : List X) (i : ℕ) (x row : X) (text : List ℕ) (has : Bool)
     → slice_get xs i ≡ Some x → slice_get xs i ≡ Some row → has ≡ has_children (as_row row) (map as_row (drop (i + 1) xs)) → has ≡ false
     → text ++ f (row_fields depth above (as_row x) (sizes x)) ≡ text ++ flat_map f (leaf_record depth above (as_row row) (sizes row) (map as_row (drop (i + 1) xs)))
@@ -43,7 +43,7 @@ leaf-written f as_row sizes depth above xs i x row text has at is test childless
     let same : x ≡ row = cc in
     ap (λ y. text ++ y) (ap (λ y. f (row_fields depth above (as_row y) (sizes y))) same ∙ rw none (sym (append-nil (f (row_fields depth above (as_row row) (sizes row))))))
 
--- each level is below the depth
+-- Each level is below the depth.
 pub level-below : {X : Type 0} (as_row : X → Row) (depth highest : ℕ) (xs : List X) (i : ℕ) (x : X) → AreLevels depth highest (map as_row xs) → slice_get xs i ≡ Some x → (as_row x).level < depth
 level-below as_row depth highest [] i x all e = cc e
 level-below as_row depth highest (n ∷ xs) zero x all e =
@@ -51,19 +51,19 @@ level-below as_row depth highest (n ∷ xs) zero x all e =
     subst (λ y. (as_row y).level < depth) same all.1
 level-below as_row depth highest (n ∷ xs) (suc i) x all e = level-below as_row depth ((as_row n).level + 1) xs i x all.3 e
 
--- a tree of rows that are taken as they are
+-- A tree of rows that are used unchanged.
 pub plain_tree : (depth : ℕ) (rows : List Row) → IsTree depth rows → IsTree depth (map (λ (r : Row). r) rows)
 plain_tree depth rows is = subst (IsTree depth) (sym (map-id rows)) is
 
 pub from_plain : (depth : ℕ) (rows : List Row) → IsTree depth (map (λ (r : Row). r) rows) → IsTree depth rows
 from_plain depth rows is = subst (IsTree depth) (map-id rows) is
 
--- no row follows one without children on a greater level
+-- No row follows one without children on a greater level.
 lower : (depth : ℕ) (r : Row) (rows : List Row) → has_children r rows ≡ false → AreLevels depth (r.level + 1) rows → AreLevels depth r.level rows
 lower depth r [] e all = all
 lower depth r (n ∷ rows) e all = (ltb-false r.level n.level e, all.1, all.2, all.3)
 
--- the path on entering a row with a label
+-- The path after a row with a label.
 path-label : (h : ℕ) (path : Fields) (before : List Row) (r : Row) (label : List ℕ) → IsPath h path before → r.level ≤ h → r.kind ≡ Label label → IsPath (r.level + 1) (take r.level path ++ (label ∷ [])) (r ∷ before)
 unfolding labels_above
 path-label h path before r label is le kind =
@@ -84,7 +84,7 @@ path-label h path before r label is le kind =
         take-append-le level (take r.level path) (label ∷ []) (omega (arith, ltb-false r.level level e))
         ∙ (take-take level r.level path (ltb-false r.level level e) ∙ is.labels level (omega (arith, ltb-false r.level level e)))
 
--- and past a row that none stands under
+-- The path after a row that has no rows under it.
 path-others : (h : ℕ) (path : Fields) (before : List Row) (r : Row) → IsPath h path before → r.level ≤ h → IsPath r.level (take r.level path) (r ∷ before)
 unfolding labels_above
 path-others h path before r is le = record {
@@ -94,7 +94,7 @@ path-others h path before r is le = record {
       rw e (take-take level r.level path at ∙ is.labels level (omega arith));
 }
 
--- the records from a row on
+-- The records from a row on.
 rest-one : {X : Type 0} (f : Fields → List ℕ) (as_row : X → Row) (sizes : X → Fields) (depth : ℕ) (before : List Row) (x : X) (xs : List X) (text whole : List ℕ) (above : Fields)
     → above ≡ labels_above (as_row x).level before → text ++ flat_map f (leaf_records as_row sizes depth before (x ∷ xs)) ≡ whole
     → (text ++ flat_map f (leaf_record depth above (as_row x) (sizes x) (map as_row xs))) ++ flat_map f (leaf_records as_row sizes depth (as_row x ∷ before) xs) ≡ whole
@@ -106,7 +106,7 @@ rest-one f as_row sizes depth before x xs text whole above same e =
     ∙ (ap (λ y. text ++ y) (sym (flat_map-append f one others))
     ∙ (ap (λ a. text ++ flat_map f (leaf_record depth a (as_row x) (sizes x) (map as_row xs) ++ others)) same ∙ e))
 
--- one row more
+-- One more row.
 pub come-one : {W : Type 0} {X : Type 0} (contents : W → Option (List ℕ)) (delimiter : ℕ) (as_row : X → Row) (sizes : X → Fields) (depth : ℕ) (xs : List X) (whole : List ℕ) (i : ℕ) (path : Fields) (w w' : Writer W) (x : X)
     → slice_get xs i ≡ Some x → HasCome contents delimiter as_row sizes depth xs whole i path w
     → ((text : List ℕ) → IsReady contents delimiter w text
@@ -170,7 +170,7 @@ come-none contents delimiter as_row sizes depth domain sources xs path w levels 
     nothing zero at = refl
     nothing (suc level) at = absurd (omega arith)
 
--- all rows are behind
+-- All rows have been processed.
 pub come-all : {W : Type 0} {X : Type 0} (contents : W → Option (List ℕ)) (delimiter : ℕ) (as_row : X → Row) (sizes : X → Fields) (depth : ℕ) (xs : List X) (whole : List ℕ) (i : ℕ) (path : Fields) (w : Writer W)
     → length xs ≤ i → HasCome contents delimiter as_row sizes depth xs whole i path w → text_written contents w ≡ Some whole
 unfolding leaf_records

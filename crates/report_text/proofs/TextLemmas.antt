@@ -6,11 +6,11 @@ use Rattle.std.proofs.lemmas.Option.{slice_get_within, get_or_from_slice_get}
 use Rattle.report_text.specs.Labels.{escaped, escaped_byte}
 use Rattle.report_text.specs.Numbers.{spaces}
 
--- two pieces, one after the other
+-- Two pieces, one after the other.
 pub join2 : (o p q a b : List ℕ) → p ≡ o ++ a → q ≡ p ++ b → q ≡ o ++ (a ++ b)
 join2 o p q a b e f = f ∙ (ap (λ x. x ++ b) e ∙ append_assoc o a b)
 
--- a count that has come to its end
+-- A count that has come to its end.
 pub until : {X : Type 0} (f : ℕ → List X) (p : List X) (i n : ℕ) → p ≡ f i → i ≡ n → p ≡ f n
 until f p i n e at = e ∙ ap f at
 
@@ -20,12 +20,12 @@ fields-none o = sym (append-nil o)
 pub fields-more : (o p q : List (List ℕ)) (n : ℕ) → p ≡ o ++ replicate n [] → q ≡ p ++ [] ∷ [] → q ≡ o ++ replicate (n + 1) []
 fields-more o p q n e f = f ∙ (ap (λ x. x ++ [] ∷ []) e ∙ (append_assoc o (replicate n []) ([] ∷ []) ∙ ap (λ x. o ++ x) (replicate_more n [])))
 
--- the names up to one more
+-- The names up to one more.
 pub names-more : (p q all : List (List ℕ)) (i : ℕ) (x : List ℕ) → p ≡ take i all → slice_get all i ≡ Some x → q ≡ p ++ x ∷ [] → q ≡ take (i + 1) all
 names-more p q all i x e is f =
     f ∙ (ap (λ y. y ++ x ∷ []) e ∙ (ap (λ y. take i all ++ y ∷ []) (sym (get_or_from_slice_get all i x x is)) ∙ sym (take_more all i x (slice_get_within all i x is))))
 
--- the rows up to one more
+-- The rows up to one more.
 pub rows-more : {X : Type 0} (f : X → List ℕ) (o p q : List ℕ) (xs : List X) (i : ℕ) (x : X) → p ≡ o ++ flat_map f (take i xs) → slice_get xs i ≡ Some x → q ≡ p ++ f x → q ≡ o ++ flat_map f (take (i + 1) xs)
 rows-more f o p q xs i x e is g =
     g ∙ (ap (λ y. y ++ f x) e ∙ (flat_map_more f o (take i xs) x
@@ -54,7 +54,7 @@ escaped-more o p q text i b d lt is e f =
     join2 o p q (escaped (take i text)) (escaped_byte b) e f
     ∙ ap (λ x. o ++ x) (flat_map_more escaped_byte [] (take i text) b ∙ ap escaped (ap (λ x. take i text ++ x ∷ []) is ∙ sym (take_more text i d lt)))
 
--- three pieces of a text
+-- Three pieces of a text.
 pub escaped3 : (o p q r a b c : List ℕ) → p ≡ o ++ escaped a → q ≡ p ++ escaped b → r ≡ q ++ escaped c → r ≡ o ++ escaped (a ++ (b ++ c))
 escaped3 o p q r a b c e f g =
     let ab : q ≡ o ++ escaped (a ++ b) = join2 o p q (escaped a) (escaped b) e f ∙ ap (λ x. o ++ x) (sym (escaped-append a b)) in

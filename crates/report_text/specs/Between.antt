@@ -1,4 +1,4 @@
--- What holds between two records of a table that is being written.
+-- The state between two records while a table is written.
 use Rattle.std.specs.Prelude.{◌≡◌, ◌≤◌, ⊤, ℕ, List, [], ◌∷◌, ◌++◌, Some, false, length, map, take, drop}
 use Rattle.std.specs.List.{flat_map}
 use Rattle.std.specs.declared.option.Option.{Option}
@@ -11,19 +11,19 @@ use Rattle.report_rows.specs.Trees.{AreLevels}
 use Rattle.report_text.specs.Labels.{others_text}
 use Rattle.report_text.specs.Records.{Fields, delimited, labels_above, leaf_records}
 
--- a writer puts this byte between fields, stands between two records, and has written this text
+-- A writer puts this byte between fields, is between two records, and has written this text.
 pub record IsReady {W : Type 0} (contents : W → Option (List ℕ)) (delimiter : ℕ) (w : Writer W) (text : List ℕ) : Type 0 where
   pub set : writer_setup w ≡ delimited delimiter
   pub none : fields_written w ≡ 0
   pub clean : has_written w ≡ false
   pub is : text_written contents w ≡ Some text
 
--- a path has the labels that a next row stands under, whatever its level up to a highest one
+-- A path has the labels of the rows that the next row is under, for each level up to a highest one.
 pub record IsPath (highest : ℕ) (path : Fields) (before : List Row) : Type 0 where
   pub long : highest ≤ length path
   pub labels : (level : ℕ) → level ≤ highest → take level path ≡ labels_above level before
 
--- so many rows are behind; what is written, with the records of the others, is the whole
+-- This many rows have been processed. What is written, with the records of the other rows, is the whole text.
 pub record HasCome {W : Type 0} {X : Type 0} (contents : W → Option (List ℕ)) (delimiter : ℕ) (as_row : X → Row)
     (sizes : X → Fields) (depth : ℕ) (rows : List X) (whole : List ℕ) (i : ℕ) (path : Fields) (w : Writer W) : Type 0 where
   pub before : List Row
@@ -34,12 +34,12 @@ pub record HasCome {W : Type 0} {X : Type 0} (contents : W → Option (List ℕ)
   pub ready : IsReady contents delimiter w text
   pub rest : text ++ flat_map (row_text (delimited delimiter)) (leaf_records as_row sizes depth before (drop i rows)) ≡ whole
 
--- this is the text of a row that is an Others row
+-- The text of a row, where it is an Others row.
 abbrev pub HasText : RowKind → List ℕ → Type 0
 HasText (Label label) text = ⊤
 HasText (Others count) text = text ≡ others_text count
 
--- a path with a row's label, where it has one
+-- A path with a row's label, where it has one.
 abbrev pub entered : Fields → RowKind → Fields
 entered path (Label label) = path ++ (label ∷ [])
 entered path (Others count) = path

@@ -1,4 +1,4 @@
--- Worked texts of growths.
+-- Example texts of growths.
 use Rattle.std.specs.Prelude.{◌≡◌, ◌-◌, ◌^◌, ℕ, false, [], ◌∷◌, ◌++◌, codes}
 use Rattle.size_core.specs.declared.choices.Domain.TheVariants.{File, Both}
 use Rattle.size_growth.specs.declared.growth.GrowthSizes.{GrowthSizes}
@@ -7,22 +7,27 @@ use Rattle.size_growth.specs.declared.row.GrowthRow.{GrowthRow}
 use Rattle.size_growth.specs.declared.row.GrowthTree.{GrowthTree}
 use Rattle.report_text.specs.Growth.{growth_text, change_text, growth_fields, growth_report_text}
 
--- new VM and file sizes, and base VM and file sizes
+-- New VM and file sizes, and base VM and file sizes.
 abbrev pub sizes : ℕ → ℕ → ℕ → ℕ → GrowthSizes
 sizes new_vm new_file base_vm base_file = record { new_vm = new_vm; new_file = new_file; base_vm = base_vm; base_file = base_file }
 
+-- A row whose file size grows.
 abbrev pub headers : GrowthRow
 headers = record { level = 0; kind = Label (codes "[ELF Section Headers]"); sizes = sizes 0 256 0 192 }
 
+-- A row whose file size shrinks.
 abbrev pub unmapped : GrowthRow
 unmapped = record { level = 0; kind = Label (codes "[Unmapped]"); sizes = sizes 120 2 120 7 }
 
+-- An Others row whose growths are 0.
 abbrev pub others : GrowthRow
 others = record { level = 0; kind = Others 2; sizes = sizes 120 24 120 24 }
 
+-- An example tree of growth.
 abbrev pub enlarged : GrowthTree
 enlarged = record { depth = 1; sizes = sizes 1099511627912 416 136 352; rows = headers ∷ others ∷ [] }
 
+-- The lines and the records of the example growths.
 pub record WorkedGrowths : Type 0 where
   pub same : change_text 17 17 ≡ codes "[ = ]"
   pub none : change_text 0 0 ≡ codes "[ = ]"

@@ -10,7 +10,7 @@ use crate::rows::{Name, ReportRow};
 use size_core::{Domain, Names, NoMemory};
 use std::alloc::Global;
 
-/// Adds a field.
+/// Appends a field.
 pub fn push<'a>(fields: &mut Vec<&'a [u8]>, field: &'a [u8]) -> Result<(), NoMemory>
     ensures { OnOk result (map (λ f. f.now) fields.new.items ≡ map (λ f. f.now) fields.old.items ++ field.now ∷ []) }
 {
@@ -18,7 +18,7 @@ pub fn push<'a>(fields: &mut Vec<&'a [u8]>, field: &'a [u8]) -> Result<(), NoMem
     Ok(())
 }
 
-/// Adds a field for each shown size.
+/// Appends a field for each shown size.
 pub fn push_shown<'a>(
     fields: &mut Vec<&'a [u8]>,
     domain: Domain,
@@ -38,7 +38,7 @@ pub fn push_shown<'a>(
     }
 }
 
-// The names of data sources.
+// The names of data sources, as fields.
 fn names<'a>(alloc: Global, sources: &'a Names) -> Result<Vec<&'a [u8]>, NoMemory>
     ensures { IfOk result (λ v. map (λ f. f.now) v.items ≡ sources.now) }
 {
@@ -49,7 +49,7 @@ fn names<'a>(alloc: Global, sources: &'a Names) -> Result<Vec<&'a [u8]>, NoMemor
     Ok(fields)
 }
 
-/// The fields of the first record.
+/// The fields of the header record.
 #[tactic(auto, unfolding(crate::specs::Records::header_fields))]
 pub fn header<'a>(
     alloc: Global,
@@ -63,7 +63,7 @@ pub fn header<'a>(
     Ok(fields)
 }
 
-/// The text of an Others row, and nothing for a label.
+/// The text of an Others row. Empty for a label.
 pub fn others_text(alloc: Global, name: Name) -> Result<Vec<u8>, NoMemory>
     ensures { IfOk result (λ v. HasText (kind_of name.entry) v.items) }
 {
@@ -74,7 +74,7 @@ pub fn others_text(alloc: Global, name: Name) -> Result<Vec<u8>, NoMemory>
     Ok(text)
 }
 
-// The text of a row, where `others` is that of an Others row.
+// The text of a row. `others` is the text of an Others row.
 fn kind_text<'a>(name: Name<'a>, others: &'a [u8]) -> &'a [u8]
     requires { HasText (kind_of name) others.now }
     ensures { result.now ≡ kind_text (kind_of name.entry) }
@@ -85,7 +85,7 @@ fn kind_text<'a>(name: Name<'a>, others: &'a [u8]) -> &'a [u8]
     }
 }
 
-// Adds so many empty fields.
+// Appends `count` empty fields.
 fn push_empty<'a>(fields: &mut Vec<&'a [u8]>, count: usize) -> Result<(), NoMemory>
     ensures { OnOk result (map (λ f. f.now) fields.new.items
         ≡ map (λ f. f.now) fields.old.items ++ replicate count []) }
@@ -96,7 +96,7 @@ fn push_empty<'a>(fields: &mut Vec<&'a [u8]>, count: usize) -> Result<(), NoMemo
     Ok(())
 }
 
-// The labels of a path.
+// The labels of a path, as fields.
 fn labels<'a, 'p: 'a>(alloc: Global, path: &[&'p [u8]]) -> Result<Vec<&'a [u8]>, NoMemory>
     ensures { IfOk result (λ v. map (λ f. f.now) v.items ≡ map (λ f. f.now) path.now) }
 {
@@ -107,8 +107,8 @@ fn labels<'a, 'p: 'a>(alloc: Global, path: &[&'p [u8]]) -> Result<Vec<&'a [u8]>,
     Ok(fields)
 }
 
-/// The fields of a row's path, where `above` has the labels that it stands under and `others` is its text if it is an
-/// Others row.
+/// The fields of a row's path. `above` has the labels of the rows above it, and `others` the row's text where
+/// it is an Others row.
 #[tactic(auto, unfolding(crate::specs::Records::path_fields))]
 pub fn path_fields<'a, 'p: 'a, R: ReportRow>(
     alloc: Global,

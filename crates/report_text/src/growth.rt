@@ -47,14 +47,14 @@ impl ReportRow for GrowthRow {
     }
 }
 
-// A new size less a base size.
+// The new size minus the base size.
 fn growth(new: u64, base: u64) -> i128
     ensures { result ≡ growth new base }
 {
     new as i128 - base as i128
 }
 
-// Adds the sign of a growth that is not 0.
+// Appends the sign of a growth that isn't 0.
 fn push_sign(out: &mut Vec<u8>, new: u64, base: u64) -> Result<(), NoMemory>
     ensures { OnOk result (out.new.items ≡ out.old.items ++ sign new base) }
 {
@@ -64,7 +64,7 @@ fn push_sign(out: &mut Vec<u8>, new: u64, base: u64) -> Result<(), NoMemory>
     push(out, b"+")
 }
 
-// Adds how much a new size differs from a base size, with the sign of the growth.
+// Appends the absolute difference of a new size and a base size, with the sign of the growth.
 #[tactic(auto, unfolding(crate::specs::Growth::growth_text))]
 fn push_growth(out: &mut Vec<u8>, new: u64, base: u64) -> Result<(), NoMemory>
     ensures { OnOk result (out.new.items ≡ out.old.items ++ growth_text new base) }
@@ -76,7 +76,7 @@ fn push_growth(out: &mut Vec<u8>, new: u64, base: u64) -> Result<(), NoMemory>
     push_size(out, new.abs_diff(base))
 }
 
-// Adds how a new size came from a base size.
+// Appends the change from a base size to a new size.
 #[tactic(auto, unfolding(crate::specs::Growth::change_text))]
 fn push_change(out: &mut Vec<u8>, new: u64, base: u64) -> Result<(), NoMemory>
     ensures { OnOk result (out.new.items ≡ out.old.items ++ change_text new base) }
@@ -94,7 +94,7 @@ fn push_change(out: &mut Vec<u8>, new: u64, base: u64) -> Result<(), NoMemory>
     push_percent(out, new.abs_diff(base), base)
 }
 
-// Adds the column of a new size and a base size.
+// Appends the column of a new size and a base size.
 #[tactic(auto, unfolding(crate::specs::Growth::growth_column))]
 fn push_growth_column(alloc: Global, out: &mut Vec<u8>, new: u64, base: u64) -> Result<(), NoMemory>
     ensures { OnOk result (out.new.items ≡ out.old.items ++ growth_column new base) }
@@ -106,7 +106,7 @@ fn push_growth_column(alloc: Global, out: &mut Vec<u8>, new: u64, base: u64) -> 
     push_column(out, 9, change.as_slice(), 9, amount.as_slice())
 }
 
-// Adds the columns of the shown sizes.
+// Appends the columns of the shown sizes.
 #[tactic(auto, unfolding(crate::specs::Growth::growth_columns))]
 fn push_columns(
     alloc: Global,
@@ -164,10 +164,10 @@ impl ReportTree for GrowthTree {
     }
 }
 
-/// Adds the lines of a tree: the titles, a line for each row, and the total. Each size of `domain` has a column with
-/// the change in percent of the base size, `[NEW]` or `[DEL]` where only the new size or only the base size is there,
-/// or `[ = ]` where they are equal; and with the growth. A label of more than 60 bytes is shortened unless `wide`.
-/// After want of memory `out` holds what it held.
+/// Appends the text report of a growth tree: a title line, a line for each row, and a line for the total. Each
+/// size of `domain` has a column with the change and the growth. The change is in percent of the base size. It
+/// is `[NEW]` or `[DEL]` where only the new size or only the base size exists, and `[ = ]` where they are
+/// equal. A label of more than 60 bytes is shortened unless `wide`. Where memory runs out `out` is unchanged.
 #[tactic(auto, unfolding(crate::specs::Growth::growth_report_text))]
 pub fn growth_text(
     alloc: Global,
@@ -184,9 +184,9 @@ pub fn growth_text(
     Ok(())
 }
 
-/// Adds the records of a tree with commas between their fields: a header with the names of the data sources and of the
-/// shown sizes, and a record for each row without children, of the labels of its path and its shown growths in bytes.
-/// After want of memory `out` holds what it held.
+/// Appends the CSV records of a growth tree. A header has the names of the data sources and of the shown sizes.
+/// Each row without children has a record with the labels of its path and its shown growths in bytes. Where
+/// memory runs out `out` is unchanged.
 #[tactic(auto, unfolding(crate::specs::Growth::growth_csv_text))]
 pub fn growth_csv(
     alloc: Global,
@@ -205,7 +205,7 @@ pub fn growth_csv(
     Ok(())
 }
 
-/// Adds the records of a tree with tabs between their fields, as `growth_csv` does with commas.
+/// Appends the same records as `growth_csv`, separated by tabs instead of commas.
 #[tactic(auto, unfolding(crate::specs::Growth::growth_tsv_text))]
 pub fn growth_tsv(
     alloc: Global,

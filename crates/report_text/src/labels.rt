@@ -1,4 +1,4 @@
-//! How rows are named.
+//! The labels of rows in reports.
 
 ghost use Rattle.std.specs.Prelude.{◌≡◌, ◌++◌, ◌<◌, length, OnOk};
 ghost use Rattle.report_text.specs.Labels.{others_text, ends, shortened, escaped, escaped_byte, kind_of, label_text, hex_digit};
@@ -9,7 +9,7 @@ use itoa::Buffer;
 use size_core::NoMemory;
 use std::alloc::Global;
 
-// A digit of base 16.
+// A hexadecimal digit.
 fn hex_digit(digit: u8) -> u8
     requires { digit < 16 }
     ensures { result ≡ hex_digit digit }
@@ -21,7 +21,7 @@ fn hex_digit(digit: u8) -> u8
     }
 }
 
-// Adds a byte, a control byte by its number.
+// Appends a byte. A control byte is escaped.
 fn push_byte(out: &mut Vec<u8>, byte: u8) -> Result<(), NoMemory>
     ensures { OnOk result (out.new.items ≡ out.old.items ++ escaped_byte byte) }
 {
@@ -32,7 +32,7 @@ fn push_byte(out: &mut Vec<u8>, byte: u8) -> Result<(), NoMemory>
     push(out, &[byte])
 }
 
-// Adds a text with its control bytes by their numbers.
+// Appends a text. Its control bytes are escaped.
 fn push_escaped(out: &mut Vec<u8>, text: &[u8]) -> Result<(), NoMemory>
     ensures { OnOk result (out.new.items ≡ out.old.items ++ escaped text.now) }
 {
@@ -42,7 +42,7 @@ fn push_escaped(out: &mut Vec<u8>, text: &[u8]) -> Result<(), NoMemory>
     Ok(())
 }
 
-// Adds the first 28 bytes of a text, what stands for the middle, and the last 27.
+// Appends the first 28 bytes of a text, `[...]`, and its last 27 bytes.
 fn push_ends(out: &mut Vec<u8>, text: &[u8]) -> Result<(), NoMemory>
     requires { 60 < length text.now }
     ensures { OnOk result (out.new.items ≡ out.old.items ++ escaped (ends text.now)) }
@@ -53,7 +53,7 @@ fn push_ends(out: &mut Vec<u8>, text: &[u8]) -> Result<(), NoMemory>
     Ok(())
 }
 
-/// Adds a text, shortened unless it is wanted whole.
+/// Appends a text. It is shortened unless `wide`.
 pub fn push_shortened(out: &mut Vec<u8>, text: &[u8], wide: bool) -> Result<(), NoMemory>
     ensures { OnOk result (out.new.items ≡ out.old.items ++ escaped (shortened wide text.now)) }
 {
@@ -63,7 +63,7 @@ pub fn push_shortened(out: &mut Vec<u8>, text: &[u8], wide: bool) -> Result<(), 
     push_ends(out, text)
 }
 
-/// Adds the text of labels that a limit left over.
+/// Appends the text for labels that a limit leaves out.
 #[tactic(auto, unfolding(crate::specs::Labels::others_text))]
 pub fn push_others(out: &mut Vec<u8>, count: u64) -> Result<(), NoMemory>
     ensures { OnOk result (out.new.items ≡ out.old.items ++ others_text count) }
@@ -74,7 +74,7 @@ pub fn push_others(out: &mut Vec<u8>, count: u64) -> Result<(), NoMemory>
     push(out, b" Others]")
 }
 
-/// Adds what a line shows of a row's text.
+/// Appends the label of a row, as a line shows it.
 pub fn push_label(alloc: Global, out: &mut Vec<u8>, name: Name, wide: bool) -> Result<(), NoMemory>
     ensures { OnOk result (out.new.items ≡ out.old.items ++ label_text wide (kind_of name.entry)) }
 {

@@ -1,5 +1,5 @@
-//! A report's bytes, of sizes or of growth: columns for a reader, or records of comma- or tab-separated values; and
-//! those of the explanation of a place.
+//! The text of reports about sizes and growth, in columns or as comma- or tab-separated records, and of
+//! explanations of a location.
 #![tactic(auto)]
 
 mod fields;
@@ -16,10 +16,3 @@ mod sizes;
 pub use growth::{growth_csv, growth_text, growth_tsv};
 pub use places::place_text;
 pub use sizes::{csv, text, tsv};
-
-#[cfg(test)]
-mod growth_tests;
-#[cfg(test)]
-mod place_tests;
-#[cfg(test)]
-mod tests;

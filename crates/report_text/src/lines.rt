@@ -9,7 +9,7 @@ use crate::rows::{ReportRow, ReportTree};
 use size_core::{Domain, NoMemory};
 use std::alloc::Global;
 
-/// Adds a column of a part and an amount, each at the right of its places.
+/// Appends a column: a percentage and a size, each right-aligned.
 #[tactic(auto, unfolding(crate::specs::Lines::column))]
 pub fn push_column(
     out: &mut Vec<u8>,
@@ -26,7 +26,7 @@ pub fn push_column(
     push(out, b"  ")
 }
 
-// Adds a column's title.
+// Appends a column's title.
 #[tactic(auto, unfolding(crate::specs::Lines::title))]
 fn push_title(out: &mut Vec<u8>, places: usize, name: &[u8]) -> Result<(), NoMemory>
     ensures { OnOk result (out.new.items ≡ out.old.items ++ title places name.now) }
@@ -35,7 +35,7 @@ fn push_title(out: &mut Vec<u8>, places: usize, name: &[u8]) -> Result<(), NoMem
     push(out, b"  ")
 }
 
-// Adds the titles of the shown sizes.
+// Appends the titles of the shown sizes.
 fn push_titles(out: &mut Vec<u8>, places: usize, domain: Domain) -> Result<(), NoMemory>
     ensures { OnOk result (out.new.items ≡ out.old.items ++ titles places domain) }
 {
@@ -49,7 +49,7 @@ fn push_titles(out: &mut Vec<u8>, places: usize, domain: Domain) -> Result<(), N
     }
 }
 
-// Adds the first line.
+// Appends the title line.
 #[tactic(auto, unfolding(crate::specs::Lines::title_line))]
 fn push_title_line(out: &mut Vec<u8>, places: usize, domain: Domain) -> Result<(), NoMemory>
     ensures { OnOk result (out.new.items ≡ out.old.items ++ title_line places domain) }
@@ -58,7 +58,7 @@ fn push_title_line(out: &mut Vec<u8>, places: usize, domain: Domain) -> Result<(
     push(out, b"LABEL\n")
 }
 
-// Adds a row's line.
+// Appends a row's line.
 #[tactic(auto, unfolding(crate::specs::Lines::row_line))]
 fn push_row<T: ReportTree>(
     alloc: Global,
@@ -77,7 +77,7 @@ fn push_row<T: ReportTree>(
     push(out, b"\n")
 }
 
-// Adds the last line.
+// Appends the line for the total.
 #[tactic(auto, unfolding(crate::specs::Lines::total_line))]
 fn push_total<T: ReportTree>(
     alloc: Global,

@@ -7,7 +7,7 @@ use crate::pieces::push;
 use itoa::Buffer;
 use size_core::NoMemory;
 
-/// Adds a number in decimal.
+/// Appends a decimal number.
 pub fn push_decimal(out: &mut Vec<u8>, n: u128) -> Result<(), NoMemory>
     ensures { OnOk result (out.new.items ≡ out.old.items ++ decimal n) }
 {
@@ -15,7 +15,7 @@ pub fn push_decimal(out: &mut Vec<u8>, n: u128) -> Result<(), NoMemory>
     push(out, buffer.format(n).as_bytes())
 }
 
-// Adds a number of tenths.
+// Appends a number of tenths, with a decimal point.
 #[tactic(auto, unfolding(crate::specs::Numbers::tenths))]
 fn push_tenths(out: &mut Vec<u8>, count: u128) -> Result<(), NoMemory>
     ensures { OnOk result (out.new.items ≡ out.old.items ++ tenths count) }
@@ -24,7 +24,7 @@ fn push_tenths(out: &mut Vec<u8>, count: u128) -> Result<(), NoMemory>
     push(out, &[b'.', b'0' + (count % 10) as u8])
 }
 
-// Adds a size in a unit.
+// Appends a size in a unit.
 #[tactic(auto, unfolding(crate::specs::Numbers::in_unit))]
 fn push_in_unit(out: &mut Vec<u8>, size: u64, unit: u64, letters: &[u8]) -> Result<(), NoMemory>
     requires { 0 < unit }
@@ -34,7 +34,8 @@ fn push_in_unit(out: &mut Vec<u8>, size: u64, unit: u64, letters: &[u8]) -> Resu
     push(out, letters)
 }
 
-/// Adds a size: in decimal below 1024, else in the greatest unit that is no larger, rounded down to a tenth.
+/// Appends a size in bytes. It is exact below 1024. Above, it is in the greatest unit that isn't larger than
+/// it, rounded down to a tenth.
 #[tactic(auto, unfolding(crate::specs::Numbers::size_text))]
 pub fn push_size(out: &mut Vec<u8>, size: u64) -> Result<(), NoMemory>
     ensures { OnOk result (out.new.items ≡ out.old.items ++ size_text size) }
@@ -56,7 +57,7 @@ pub fn push_size(out: &mut Vec<u8>, size: u64) -> Result<(), NoMemory>
     }
 }
 
-// How many thousandths of a total a part of it is.
+// How many thousandths of the total a size is.
 fn thousandths(size: u64, total: u64) -> u128
     ensures { result ≡ thousandths size total }
 {
@@ -66,7 +67,7 @@ fn thousandths(size: u64, total: u64) -> u128
     1000 * size as u128 / total as u128
 }
 
-/// Adds a part of a total in percent, rounded down to a tenth.
+/// Appends the percentage of a size in a total, rounded down to a tenth.
 #[tactic(auto, unfolding(crate::specs::Numbers::percent_text))]
 pub fn push_percent(out: &mut Vec<u8>, size: u64, total: u64) -> Result<(), NoMemory>
     ensures { OnOk result (out.new.items ≡ out.old.items ++ percent_text size total) }

@@ -1,11 +1,11 @@
-//! Bytes that are added to a text.
+//! Appending bytes to a text.
 
 ghost use Rattle.std.specs.Prelude.{◌≡◌, ◌++◌, OnOk};
 ghost use Rattle.report_text.specs.Numbers.{right, spaces};
 
 use size_core::NoMemory;
 
-/// Adds bytes.
+/// Appends bytes.
 pub fn push(out: &mut Vec<u8>, bytes: &[u8]) -> Result<(), NoMemory>
     ensures { OnOk result (out.new.items ≡ out.old.items ++ bytes.now) }
 {
@@ -13,7 +13,7 @@ pub fn push(out: &mut Vec<u8>, bytes: &[u8]) -> Result<(), NoMemory>
     Ok(())
 }
 
-/// Adds spaces.
+/// Appends `count` spaces.
 pub fn push_spaces(out: &mut Vec<u8>, count: usize) -> Result<(), NoMemory>
     ensures { OnOk result (out.new.items ≡ out.old.items ++ spaces count) }
 {
@@ -23,7 +23,7 @@ pub fn push_spaces(out: &mut Vec<u8>, count: usize) -> Result<(), NoMemory>
     Ok(())
 }
 
-/// Adds a text at the right of so many places.
+/// Appends a text, right-aligned in a column of this width.
 #[tactic(auto, unfolding(crate::specs::Numbers::right))]
 pub fn push_right(out: &mut Vec<u8>, places: usize, text: &[u8]) -> Result<(), NoMemory>
     ensures { OnOk result (out.new.items ≡ out.old.items ++ right places text.now) }

@@ -1,4 +1,4 @@
-//! The explanation of a place.
+//! The explanation of a location.
 
 ghost use Rattle.std.specs.Prelude.{◌≡◌, ◌++◌, IfOk, OnOk, OnErr, codes};
 ghost use Rattle.report_text.specs.Places.{number_line, name_line, space_text, place_line, side_text, claim_line, beaten_line, claim_lines, more_line, source_lines, place_report_text};
@@ -10,7 +10,7 @@ use place_explain::{NamedClaim, NamedClaims, PlaceSource};
 use size_core::{NoMemory, Place, Side};
 use std::alloc::Global;
 
-// Adds a line that ends in a number.
+// Appends a line that ends in a number.
 #[tactic(auto, unfolding(crate::specs::Places::number_line))]
 fn push_number_line(out: &mut Vec<u8>, before: &[u8], number: u64) -> Result<(), NoMemory>
     ensures { OnOk result (out.new.items ≡ out.old.items ++ number_line before.now number) }
@@ -20,7 +20,7 @@ fn push_number_line(out: &mut Vec<u8>, before: &[u8], number: u64) -> Result<(),
     push(out, b"\n")
 }
 
-// Adds a line that ends in a name or a label.
+// Appends a line that ends in a name or a label.
 #[tactic(auto, unfolding(crate::specs::Places::name_line))]
 fn push_name_line(out: &mut Vec<u8>, before: &[u8], text: &[u8], wide: bool) -> Result<(), NoMemory>
     ensures { OnOk result (out.new.items ≡ out.old.items ++ name_line wide before.now text.now) }
@@ -30,7 +30,7 @@ fn push_name_line(out: &mut Vec<u8>, before: &[u8], text: &[u8], wide: bool) -> 
     push(out, b"\n")
 }
 
-// Adds the space before an address.
+// Appends the address space before an address.
 #[tactic(auto, unfolding(crate::specs::Places::space_text))]
 fn push_space(out: &mut Vec<u8>, space: u32) -> Result<(), NoMemory>
     ensures { OnOk result (out.new.items ≡ out.old.items ++ space_text space) }
@@ -42,7 +42,7 @@ fn push_space(out: &mut Vec<u8>, space: u32) -> Result<(), NoMemory>
     push(out, b":")
 }
 
-// Adds the line of an address.
+// Appends the line of an address.
 #[tactic(auto, unfolding(crate::specs::Places::number_line))]
 fn push_address(out: &mut Vec<u8>, space: u32, address: u64) -> Result<(), NoMemory>
     ensures { OnOk result (out.new.items
@@ -53,7 +53,7 @@ fn push_address(out: &mut Vec<u8>, space: u32, address: u64) -> Result<(), NoMem
     push_number_line(out, b"", address)
 }
 
-// Adds the line of a place.
+// Appends the line of a location.
 #[tactic(auto, unfolding(crate::specs::Places::place_line))]
 fn push_place(out: &mut Vec<u8>, place: &Place) -> Result<(), NoMemory>
     ensures { OnOk result (out.new.items ≡ out.old.items ++ place_line place.now) }
@@ -64,7 +64,7 @@ fn push_place(out: &mut Vec<u8>, place: &Place) -> Result<(), NoMemory>
     }
 }
 
-// A claim's side.
+// The text for a claim's side.
 fn side_text(side: Side) -> &'static [u8]
     ensures { result.now ≡ side_text side }
 {
@@ -75,7 +75,7 @@ fn side_text(side: Side) -> &'static [u8]
     }
 }
 
-// Adds a claim's line.
+// Appends a claim's line.
 #[tactic(auto, unfolding(crate::specs::Places::claim_line))]
 fn push_claim(
     out: &mut Vec<u8>,
@@ -90,7 +90,7 @@ fn push_claim(
     push_name_line(out, side_text(claim.side), claim.label.as_slice(), wide)
 }
 
-// Adds the line of a claim that the first one beats.
+// Appends the line of a claim that isn't the first one.
 #[tactic(auto, unfolding(crate::specs::Places::beaten_line))]
 fn push_beaten(out: &mut Vec<u8>, claim: &NamedClaim, wide: bool) -> Result<(), NoMemory>
     ensures { OnOk result (out.new.items ≡ out.old.items ++ beaten_line wide claim.now) }
@@ -98,7 +98,7 @@ fn push_beaten(out: &mut Vec<u8>, claim: &NamedClaim, wide: bool) -> Result<(), 
     push_claim(out, b"  beaten #", claim, wide)
 }
 
-// Adds the lines of the claims that cover a place.
+// Appends the lines of the claims that cover a location.
 fn push_claims(out: &mut Vec<u8>, claims: &NamedClaims, wide: bool) -> Result<(), NoMemory>
     ensures { OnOk result (out.new.items ≡ out.old.items ++ claim_lines wide claims.now) }
 {
@@ -112,7 +112,7 @@ fn push_claims(out: &mut Vec<u8>, claims: &NamedClaims, wide: bool) -> Result<()
     Ok(())
 }
 
-// Adds the line of the claims that a limit left over.
+// Appends the line for the claims that a limit leaves out.
 #[tactic(auto, unfolding(crate::specs::Places::more_line))]
 fn push_more(out: &mut Vec<u8>, more: u64) -> Result<(), NoMemory>
     ensures { OnOk result (out.new.items ≡ out.old.items ++ more_line more) }
@@ -123,7 +123,7 @@ fn push_more(out: &mut Vec<u8>, more: u64) -> Result<(), NoMemory>
     push_number_line(out, b"  more ", more)
 }
 
-// Adds the lines of a data source.
+// Appends the lines of a data source.
 #[tactic(auto, unfolding(crate::specs::Places::source_lines))]
 fn push_source(out: &mut Vec<u8>, source: &PlaceSource, wide: bool) -> Result<(), NoMemory>
     ensures { OnOk result (out.new.items ≡ out.old.items ++ source_lines wide source.now) }
@@ -134,7 +134,7 @@ fn push_source(out: &mut Vec<u8>, source: &PlaceSource, wide: bool) -> Result<()
     push_more(out, source.more)
 }
 
-// The lines of a place.
+// The lines of a location.
 #[tactic(auto, unfolding(crate::specs::Places::place_report_text))]
 fn lines(
     alloc: Global,
@@ -152,9 +152,10 @@ fn lines(
     Ok(text)
 }
 
-/// Adds the lines of a place and of what data sources say of it: of each its name, the place's label, the claims that
-/// cover the place, each by its number, its side and its label, the first of them first, and how many more there are.
-/// A name or a label of more than 60 bytes is shortened unless `wide`. After want of memory `out` holds what it held.
+/// Appends the explanation of a location: a line for the location, and then for each data source its name, the
+/// location's label, the claims that cover the location, and the number of further claims. The claims are in
+/// order, each with its number, its side and its label. A name or a label of more than 60 bytes is shortened
+/// unless `wide`. Where memory runs out `out` is unchanged.
 pub fn place_text(
     alloc: Global,
     place: &Place,

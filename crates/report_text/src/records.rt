@@ -1,4 +1,4 @@
-//! The records of a report (RFC 4180), with a line feed after each.
+//! The records of a report (RFC 4180). Each ends in a line feed.
 
 ghost use Rattle.std.specs.Prelude.{◌≡◌, ◌<◌, ◌+◌, ◌++◌, ℕ, List, Some, length, map, drop, slice_get, IfOk, OnOk};
 ghost use Rattle.std.specs.List.{flat_map};
@@ -16,7 +16,7 @@ use size_core::{Domain, List, Names, NoMemory};
 use std::alloc::Global;
 use std::io::Write;
 
-// Writes one record.
+// Writes a record.
 fn put<W: Write + Drop>(
     writer: &mut Writer<W>,
     delimiter: u8,
@@ -32,7 +32,7 @@ fn put<W: Write + Drop>(
     }
 }
 
-// Writes the record of a row, where `above` has the labels that it stands under.
+// Writes the record of a row. `above` has the labels of the rows above it.
 fn put_row<'a, W: Write + Drop, R: ReportRow>(
     alloc: Global,
     writer: &mut Writer<W>,
@@ -57,7 +57,7 @@ fn put_row<'a, W: Write + Drop, R: ReportRow>(
     Ok(())
 }
 
-/// Whether the row after a row has a greater level.
+/// Whether a row has children: the next row has a greater level.
 pub fn has_children<R: ReportRow>(rows: &List<R>, i: usize) -> bool
     requires { i < length rows.now }
     ensures { (row : R) → slice_get rows.now i ≡ Some row
@@ -69,7 +69,7 @@ pub fn has_children<R: ReportRow>(rows: &List<R>, i: usize) -> bool
     rows.get(i).level() < rows.get(i + 1).level()
 }
 
-// Writes the record of a row that has no children.
+// Writes the record of a row, where it has no children.
 fn put_leaf<'a, W: Write + Drop, T: ReportTree>(
     alloc: Global,
     writer: &mut Writer<W>,
@@ -98,7 +98,7 @@ fn put_leaf<'a, W: Write + Drop, T: ReportTree>(
     Ok(())
 }
 
-// Adds the label of a row. An Others row has none, and no row stands under it.
+// Appends the label of a row to a path. An Others row has no label, and no rows are under it.
 fn enter<'a>(path: &mut Vec<&'a [u8]>, name: Name<'a>) -> Result<(), NoMemory>
     ensures { OnOk result (map (λ f. f.now) path.new.items
         ≡ entered (map (λ f. f.now) path.old.items) (kind_of name.entry)) }
@@ -109,7 +109,7 @@ fn enter<'a>(path: &mut Vec<&'a [u8]>, name: Name<'a>) -> Result<(), NoMemory>
     }
 }
 
-// Goes on by one row, from a path that has the labels that it can stand under.
+// Processes one row. `path` has the labels of the rows that it can be under.
 fn step<'a, W: Write + Drop, T: ReportTree>(
     alloc: Global,
     writer: &mut Writer<W>,
@@ -135,7 +135,7 @@ fn step<'a, W: Write + Drop, T: ReportTree>(
     Ok(())
 }
 
-/// The records of a tree.
+/// The records of a tree, as text.
 pub fn table<T: ReportTree>(
     alloc: Global,
     delimiter: u8,

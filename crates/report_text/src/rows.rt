@@ -1,4 +1,4 @@
-//! Trees and rows, whatever a report says of their sizes.
+//! Trees and rows, independent of which sizes a report shows.
 
 ghost use Rattle.std.specs.Prelude.{◌≡◌, ◌++◌, ℕ, List, OnOk, map};
 ghost use Rattle.size_core.specs.declared.choices.Domain.{Domain};
@@ -10,32 +10,32 @@ use itoa::Buffer;
 use size_core::{Domain, List, NoMemory};
 use std::alloc::Global;
 
-/// What a row stands for.
+/// The name of a row.
 #[derive(Clone, Copy)]
 pub enum Name<'a> {
     /// A label.
     Label(&'a [u8]),
-    /// So many labels that a limit left over.
+    /// This many labels that a limit leaves out.
     Others(u64),
 }
 
 /// A row of a report.
 pub trait ReportRow: Drop {
-    /// The row in a tree of sizes that has its level and its name.
+    /// The row of a tree of sizes with the same level and name.
     ghost as_row: { Self → Row };
 
-    /// The fields of its shown sizes in a record.
+    /// The fields of the row's shown sizes in a record.
     ghost sizes: { Domain → Self → Fields };
 
-    /// How many rows it stands under.
+    /// The row's level. The first level is 0.
     fn level(&self) -> u32
         ensures { result ≡ (as_row self.now).level };
 
-    /// What it stands for.
+    /// The row's name.
     fn name(&self) -> Name<'_>
         ensures { kind_of result ≡ (as_row self.now).kind };
 
-    /// Adds the fields of its shown sizes, which are written into the buffers.
+    /// Appends the fields of the row's shown sizes. Their digits are written into the buffers.
     fn push_sizes<'b>(
         &self,
         fields: &mut Vec<&'b [u8]>,
@@ -47,12 +47,12 @@ pub trait ReportRow: Drop {
             ≡ map (λ f. f.now) fields.old.items ++ sizes domain self.now) };
 }
 
-/// A tree of rows that reports print.
+/// A tree of rows to print.
 pub trait ReportTree {
-    /// What its rows are.
+    /// The type of the rows.
     type Entry: ReportRow;
 
-    /// How many places a column takes, without the two spaces after it.
+    /// The width of a column, without the two spaces after it.
     const PLACES: usize;
 
     ghost PLACES: { ℕ };
@@ -64,10 +64,10 @@ pub trait ReportTree {
     /// The columns of a row's shown sizes.
     ghost columns: { Domain → Self → Self.Entry → List ℕ };
 
-    /// The columns of all that was counted.
+    /// The columns of the totals.
     ghost total: { Domain → Self → List ℕ };
 
-    /// How many levels there are.
+    /// The number of levels.
     fn depth(&self) -> u32
         ensures { result ≡ depth self.now };
 
@@ -75,7 +75,7 @@ pub trait ReportTree {
     fn rows(&self) -> &List<Self::Entry>
         ensures { result.now ≡ rows self.now };
 
-    /// Adds the columns of a row's shown sizes.
+    /// Appends the columns of a row's shown sizes.
     fn push_columns(
         &self,
         alloc: Global,
@@ -85,7 +85,7 @@ pub trait ReportTree {
     ) -> Result<(), NoMemory>
         ensures { OnOk result (out.new.items ≡ out.old.items ++ columns domain self.now row.now) };
 
-    /// Adds the columns of all that was counted.
+    /// Appends the columns of the totals.
     fn push_total(&self, alloc: Global, out: &mut Vec<u8>, domain: Domain) -> Result<(), NoMemory>
         ensures { OnOk result (out.new.items ≡ out.old.items ++ total domain self.now) };
 }

@@ -44,7 +44,7 @@ impl ReportRow for Row {
     }
 }
 
-// Adds the column of a size.
+// Appends the column of a size.
 #[tactic(auto, unfolding(crate::specs::Lines::size_column))]
 fn push_size_column(alloc: Global, out: &mut Vec<u8>, size: u64, total: u64) -> Result<(), NoMemory>
     ensures { OnOk result (out.new.items ≡ out.old.items ++ size_column size total) }
@@ -56,7 +56,7 @@ fn push_size_column(alloc: Global, out: &mut Vec<u8>, size: u64, total: u64) -> 
     push_column(out, 6, percent.as_slice(), 8, amount.as_slice())
 }
 
-// Adds the shown columns of a file size and a VM size.
+// Appends the shown columns of a file size and a VM size.
 #[tactic(auto, unfolding(crate::specs::Lines::columns))]
 fn push_columns(
     alloc: Global,
@@ -116,8 +116,9 @@ impl ReportTree for RowTree {
     }
 }
 
-/// Adds the lines of a tree: the titles, a line for each row, and the total. Each size of `domain` has a column; a
-/// label of more than 60 bytes is shortened unless `wide`. After want of memory `out` holds what it held.
+/// Appends the text report of a tree: a title line, a line for each row, and a line for the total. Each size of
+/// `domain` has a column. A label of more than 60 bytes is shortened unless `wide`. Where memory runs out `out`
+/// is unchanged.
 #[tactic(auto, unfolding(crate::specs::Lines::report_text))]
 pub fn text(
     alloc: Global,
@@ -134,9 +135,9 @@ pub fn text(
     Ok(())
 }
 
-/// Adds the records of a tree with commas between their fields: a header with the names of the data sources and of the
-/// shown sizes, and a record for each row without children, of the labels of its path and its shown sizes. After want
-/// of memory `out` holds what it held.
+/// Appends the CSV records of a tree. A header has the names of the data sources and of the shown sizes. Each
+/// row without children has a record with the labels of its path and its shown sizes in bytes. Where memory
+/// runs out `out` is unchanged.
 #[tactic(auto, using(crate::proofs::RecordLemmas::plain_tree), unfolding(crate::specs::Records::csv_text))]
 pub fn csv(
     alloc: Global,
@@ -155,7 +156,7 @@ pub fn csv(
     Ok(())
 }
 
-/// Adds the records of a tree with tabs between their fields, as `csv` does with commas.
+/// Appends the same records as `csv`, separated by tabs instead of commas.
 #[tactic(auto, using(crate::proofs::RecordLemmas::plain_tree), unfolding(crate::specs::Records::tsv_text))]
 pub fn tsv(
     alloc: Global,

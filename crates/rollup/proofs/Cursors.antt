@@ -1,4 +1,4 @@
--- A cursor in one map: which label it has at hand, and how it moves on.
+-- A cursor in one map: its current label, and how it moves on.
 use Rattle.std.proofs.Common.{◌≡◌, ◌+◌, ◌-◌, ◌^◌, ◌<◌, ◌≤◌, ℕ, zero, suc, true, false, cond, leb, ltb, List, [], ◌∷◌, Option, None, Some, length, drop, get_or, slice_get, refl, sym, ap, subst, ◌∙◌, inl, inr, arith}
 use Rattle.std.proofs.lemmas.Bool.{cases_lt}
 use Rattle.std.proofs.lemmas.Bool.Decides.{nat_tests}
@@ -29,7 +29,7 @@ none_within [] k e = omega arith
 none_within (p ∷ ps) zero e = cc
 none_within (p ∷ ps) (suc k) e = let later : length ps ≤ k = none_within ps k e in omega arith
 
--- the label at hand, from the list that is left
+-- the current label, from the pieces that are left
 none_left : (ps : List Piece) (at x start label : ℕ) → ps ≡ [] → at < start → label_in ps x ≡ cond (leb start at) (Some label) None
 none_left ps at x start label e lt =
     let late : leb start at ≡ false = grind (arith, nat_tests) in
@@ -51,7 +51,7 @@ piece_left ps qs p at x e t low high =
           label_at_head p qs x (omega arith) (omega arith) ∙ sym (ap (λ b. cond b (Some p.label) None) late)
     ]
 
--- up to where the label at hand changes, each position has it
+-- each position before the next change has the current label
 pub at_hand : (ps : List Piece) (at x : ℕ) (c : Cursor) → IsAt ps at c → at ≤ x → x < stop_of at c → label_in ps x ≡ cond (leb c.start at) (Some c.label) None
 at_hand ps at x c h low high = h.reached.rest x low ∙ by_piece (slice_get ps c.passed) refl
   where
@@ -103,7 +103,7 @@ first_at ps t = make_at ps 0 0 t (omega arith) (λ x low. refl) (from ps) (omega
     from [] = tt
     from (p ∷ ps) = omega arith
 
--- where the piece at hand ends, the next one is read
+-- the next piece is read where the current one ends
 pub passed_within : (ps : List Piece) (to : ℕ) (c : Cursor) → IsReached ps to c → c.end ≤ to → to ≤ 2 ^ 97 → c.passed < length ps
 passed_within ps to c h ends fits = by_piece (slice_get ps c.passed) refl
   where
@@ -132,7 +132,7 @@ next_at ps to c h ends fits = by_piece (slice_get ps c.passed) refl
         (λ x low. h.rest x low ∙ (ap (λ qs. label_in qs x) split ∙ (label_past_head p (drop (suc c.passed) ps) x (omega arith) ∙ ap (λ j. label_in (drop j ps) x) one)))
         (subst (λ j. StartsFrom to (drop j ps)) one starts) (omega arith)
 
--- the label at hand is that of a piece
+-- the current label is that of a piece
 pub label-below : (ps : List Piece) (at n : ℕ) (c : Cursor) → IsAt ps at c → leb c.start at ≡ true → All (λ (p : Piece). p.label < n) ps → c.label < n
 label-below ps at n c h started all = by_piece (slice_get ps c.passed) refl
   where

@@ -26,11 +26,11 @@ same e = cc
 abbrev seen : {V : Type 0} → (V → List ℕ) → V × Sizes → Entry
 seen f e = entry_of (f e.0) e.1
 
-grown-entry : (part : Part) (size : ℕ) (n : List ℕ) (s : Sizes) → entry_of n (grown_sizes part size s) ≡ grown part size (entry_of n s)
+pub grown-entry : (part : Part) (size : ℕ) (n : List ℕ) (s : Sizes) → entry_of n (grown_sizes part size s) ≡ grown part size (entry_of n s)
 grown-entry File size n s = refl
 grown-entry Vm size n s = refl
 
-size-of : (part : Part) (n : List ℕ) (s : Sizes) → size_in part (entry_of n s) ≡ part_of part s
+pub size-of : (part : Part) (n : List ℕ) (s : Sizes) → size_in part (entry_of n s) ≡ part_of part s
 size-of File n s = refl
 size-of Vm n s = refl
 
@@ -40,7 +40,7 @@ module _ {V : Type 0} (f : V → List ℕ) where
   set-seen (e ∷ es) zero v s t at = ap (λ (w : V). entry_of (f w) t ∷ map (seen f) es) (ap (λ (p : V × Sizes). p.0) (same at))
   set-seen (e ∷ es) (suc i) v s t at = ap (λ ds. seen f e ∷ ds) (set-seen es i v s t at)
 
-  -- what stands at a place is an entry, and its sizes are among the values
+  -- the item at an index is an entry, and its sizes are among the values
   entry-seen : (es : List (V × Sizes)) (i : ℕ) (v : V) (s t : Sizes) → slice_get es i ≡ Some (v, s) → slice_get (map (λ (e : V × Sizes). e.1) es) i ≡ Some t → get_or (map (seen f) es) i no_entry ≡ entry_of (f v) t
   entry-seen es i v s t at value =
       let one : s ≡ t = same (sym (slice_get-map (λ (e : V × Sizes). e.1) es i ∙ ap (option_map (λ (e : V × Sizes). e.1)) at) ∙ value) in
@@ -69,7 +69,7 @@ module _ {V : Type 0} (f : V → List ℕ) where
         },
       )
 
-  -- numbers that are new stand last
+  -- new numbers come last
   pub added-last : (part : Part) (numbers : List ℕ) (size : ℕ) (es new : List (V × Sizes)) (v : V) (s : Sizes) → f v ≡ numbers → s ≡ sizes_of part size → new ≡ es ++ (v, s) ∷ []
       → IsGrown part numbers size (map (seen f) es) (map (seen f) new)
   added-last part numbers size es new v s is sized made =

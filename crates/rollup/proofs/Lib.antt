@@ -1,10 +1,13 @@
 pub mod Cursors
 pub mod Empty
 pub mod Gathered
+pub mod Labels
 pub mod Merging
 pub mod OneFile
 pub mod Paths
 pub mod Ranks
 pub mod Refilled
 pub mod Totalling
+pub mod Trees
 pub mod Walking
+pub mod Words

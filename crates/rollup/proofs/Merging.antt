@@ -1,4 +1,4 @@
--- Rows that are put among others, in order.
+-- Rows that are inserted into others, in order.
 use Rattle.std.proofs.Common.{◌≡◌, ◌+◌, ◌-◌, ◌<◌, ◌≤◌, ℕ, zero, suc, Bool, true, false, cond, List, [], ◌∷◌, ◌++◌, length, get_or, set, take, drop, reverse, slice_get, None, Some, refl, sym, ap, subst, ◌∙◌, arith, is_lt, inl, inr, ◌⊎◌, append_assoc, length-append}
 use Rattle.std.specs.Prelude.{All}
 use Rattle.std.specs.List.{sum_by, AllByRecursion}
@@ -19,15 +19,15 @@ use Rattle.rollup.specs.Adding.{is_path}
 use Rattle.rollup.specs.Rows.{AreMerged, Climbs, EndsUpto, EndsUptoFirst, FitTogether, falling, joins_last, larger, enlarged, pushed, with_row, with_row_by, with_rows}
 use Rattle.rollup.proofs.Paths.{path_total, same_path}
 
-abbrev Strict : List RollupRow → Type 0
+abbrev pub Strict : List RollupRow → Type 0
 Strict rows = IsStrictlySortedBy row_cmp rows
 
 -- the order of two rows the other way round
-turned : (q r : RollupRow) (o : Ordering) → row_cmp q r ≡ o → row_cmp r q ≡ ordering_reverse o
+pub turned : (q r : RollupRow) (o : Ordering) → row_cmp q r ≡ o → row_cmp r q ≡ ordering_reverse o
 turned q r o e = path_total.antisymm r.path q.path ∙ ap ordering_reverse e
 
 -- a row below one that is not above a third
-below_then : (q s r : RollupRow) → row_cmp q s ≡ Less → is_le (row_cmp s r) ≡ true → row_cmp q r ≡ Less
+pub below_then : (q s r : RollupRow) → row_cmp q s ≡ Less → is_le (row_cmp s r) ≡ true → row_cmp q r ≡ Less
 below_then q s r first second = by_order (row_cmp s r) refl second
   where
     by_order : (o : Ordering) → row_cmp s r ≡ o → is_le o ≡ true → row_cmp q r ≡ Less
@@ -35,7 +35,7 @@ below_then q s r first second = by_order (row_cmp s r) refl second
     by_order Equal e h = sym (ap (path_cmp q.path) (same_path s.path r.path (ap is_eq e))) ∙ first
     by_order Greater e h = cc
 
--- not above, in the words of two tests
+-- not above, by two tests
 not_above : (q r : RollupRow) → is_lt (row_cmp r q) ≡ false → is_le (row_cmp q r) ≡ true
 not_above q r h = by_order (row_cmp q r) refl
   where
@@ -132,12 +132,12 @@ module _ (test : List (List ℕ) → Bool) (f : RollupRow → ℕ) (adds : (q r 
   sum_merged rows others merged m = ap (sum_by size_at) m.is ∙ omega (arith, sum_rows m.order rows, sum_by-IsPermutation size_at others m.order m.same)
 
 -- the first row is above a row
-abbrev BeginsAbove : List RollupRow → RollupRow → Type 0
+abbrev pub BeginsAbove : List RollupRow → RollupRow → Type 0
 BeginsAbove [] r = Unit {0}
 BeginsAbove (y ∷ ys) r = row_cmp y r ≡ Greater
 
 -- a row that comes first
-with_first : (ys : List RollupRow) (r : RollupRow) → BeginsAbove ys r → with_row ys r ≡ r ∷ ys
+pub with_first : (ys : List RollupRow) (r : RollupRow) → BeginsAbove ys r → with_row ys r ≡ r ∷ ys
 with_first [] r h = refl
 with_first (y ∷ ys) r h = ap (λ o. with_row_by o y r ys (with_row ys r)) h
 
@@ -217,11 +217,11 @@ set_larger (q ∷ s ∷ qs) r d zero e = absurd (omega arith)
 set_larger (q ∷ s ∷ qs) r d (suc n) e = ap (λ l. q ∷ l) (set_larger (s ∷ qs) r d n (omega arith))
 
 -- the first rows of ordered ones
-front_all : (P : RollupRow → Type 0) (xs ys : List RollupRow) → AllByRecursion P (xs ++ ys) → AllByRecursion P xs
+pub front_all : (P : RollupRow → Type 0) (xs ys : List RollupRow) → AllByRecursion P (xs ++ ys) → AllByRecursion P xs
 front_all P [] ys h = tt
 front_all P (x ∷ xs) ys h = (h.0, front_all P xs ys h.1)
 
-strict_front : (xs ys : List RollupRow) → Strict (xs ++ ys) → Strict xs
+pub strict_front : (xs ys : List RollupRow) → Strict (xs ++ ys) → Strict xs
 unfolding IsStrictlySortedBy
 strict_front [] ys t = tt
 strict_front (x ∷ xs) ys t = (front_all (λ y. row_cmp x y ≡ Less) xs ys t.0, strict_front xs ys t.1)
@@ -263,7 +263,7 @@ falling_parts rows above r t i j d le lt h = by_place (cases_eq i j)
         let far = turned (get_or above j d) r Greater (greater_is (row_cmp (get_or above j d) r) h) in
         ap is_gt (turned r (get_or above i d) Less (path_total.trans r.path (get_or above j d).path (get_or above i d).path far (above_falls rows above i j d t (omega arith) lt)))
 
--- rows taken from the end and put behind others, and back
+-- rows taken from the end and put after others, and back
 pub moved_same : {X : Type 0} (rows above : List X) (kept : ℕ) → (rows ++ reverse (drop kept above)) ++ reverse (take kept above) ≡ rows ++ reverse above
 moved_same rows above kept =
     append_assoc rows (reverse (drop kept above)) (reverse (take kept above))
@@ -272,8 +272,8 @@ moved_same rows above kept =
 pub parted_same : {X : Type 0} (rows above : List X) (kept : ℕ) → above ≡ [] ++ reverse (drop kept rows) → take kept rows ++ reverse above ≡ rows
 parted_same rows above kept e = ap (λ l. take kept rows ++ reverse l) e ∙ (ap (λ l. take kept rows ++ l) (reverse-reverse (drop kept rows)) ∙ take-append-drop kept rows)
 
--- Rows of before, and those above, the greatest first: what is not above a row has come back, and the row stands
--- behind it.
+-- Old rows, and the upper ones of them, the greatest first: those that are not above a new row were moved back, and
+-- the new row comes after them.
 module _ (rows above : List RollupRow) (r : RollupRow) (kept : ℕ) (t : Strict (rows ++ reverse above)) (ends : EndsUpto rows r) (within : kept ≤ length above)
     (split : IsPartitionPoint (λ (q : RollupRow). is_gt (path_cmp q.path r.path) ≡ true) (λ (q : RollupRow). is_gt (path_cmp q.path r.path) ≡ false) above kept) where
   ends_back : EndsUpto (rows ++ reverse (drop kept above)) r
@@ -300,7 +300,7 @@ module _ (rows above : List RollupRow) (r : RollupRow) (kept : ℕ) (t : Strict 
       let front = strict_front (rows ++ reverse (drop kept above)) (reverse (take kept above)) (subst Strict (sym (moved_same rows above kept)) t) in
       sym (with_middle (rows ++ reverse (drop kept above)) (reverse (take kept above)) r front ends_back begins_kept) ∙ ap (λ l. with_row l r) (moved_same rows above kept)
 
--- rows that are put in one after the other
+-- rows that are inserted one after the other
 climbs_from : (rows : List RollupRow) → ((k : ℕ) (d : RollupRow) → k + 1 < length rows → is_lt (row_cmp (get_or rows (k + 1) d) (get_or rows k d)) ≡ false) → Climbs rows
 climbs_from [] h = tt
 climbs_from (r ∷ []) h = tt
@@ -369,7 +369,7 @@ front_fits xs ys all others e h = record {
   file = omega (arith, sum_by-append (λ (q : RollupRow). q.file) xs ys, ap (sum_by (λ (q : RollupRow). q.file)) e, h.file);
 }
 
--- the least new row stands last
+-- the least new row is the last one
 pub last_first : (rows new : List RollupRow) (r : RollupRow) → slice_get new (length new - 1) ≡ Some r → EndsUpto rows r → EndsUptoFirst rows (reverse new)
 last_first rows new r at h = by_list (reverse new) refl
   where
@@ -395,9 +395,5 @@ moved_fits rows others moved p h = record {
 pub alone_fits : (rows others : List RollupRow) → FitTogether rows others → FitTogether [] others
 alone_fits rows others h = record { vm = omega (arith, h.vm); file = omega (arith, h.file) }
 
-pub merged_from : (rows others moved merged : List RollupRow) → IsPermutation others moved → merged ≡ with_rows rows (reverse moved) → AreMerged rows others merged
-merged_from rows others moved merged p e = record {
-  order = reverse moved;
-  same = IsPermutation-trans others moved (reverse moved) p (IsPermutation-reverse moved);
-  is = e;
-}
+pub merged_moved : (rows others moved merged : List RollupRow) → IsPermutation others moved → AreMerged rows moved merged → AreMerged rows others merged
+merged_moved rows others moved merged p m = record { order = m.order; same = IsPermutation-trans others moved m.order p m.same; is = m.is }

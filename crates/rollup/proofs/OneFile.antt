@@ -30,7 +30,7 @@ offsets-counted layout maps test marks over =
     ap (λ b. b && (passes marks (numbers_at (layers File maps) o) && test (numbers_at (layers File maps) o)))
     (covered File maps o (λ k d lt. (over k d lt).offsets o ∙ (let below : nat_lt o layout.len ≡ true = grind (arith, nat_tests) in below))))
 
--- whether positions are mapped is what the maps tell
+-- the maps show whether a position is mapped
 told : (layout : Layout) (m : Maps) (ms : List Maps) (p : ℕ) → All (IsOver layout) (m ∷ ms) → (b : Bool) → is_mapped layout.loads p ≡ b → is_covered (layers Vm (m ∷ ms)) p ≡ b
 told layout m ms p over true e = covered Vm (m ∷ ms) p (λ k d lt. (over k d lt).positions p ∙ e)
 told layout m ms p over false e = bare Vm m ms p ((over 0 m (omega arith)).positions p ∙ e)

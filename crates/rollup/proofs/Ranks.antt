@@ -20,8 +20,9 @@ use Rattle.std.proofs.lemmas.Map.Text.{is_eq-slice_cmp}
 use Rattle.std.proofs.lemmas.Option.{get_or_from_slice_get, slice_get-get_or}
 use Rattle.size_model.specs.Numbered.{text_of}
 use Rattle.rollup.specs.declared.fresh.Ranked.{Ranked}
+use Rattle.rollup.specs.declared.fresh.RankedLabel.{RankedLabel}
 use Rattle.rollup.specs.declared.table.RollupRow.{RollupRow}
-use Rattle.rollup.specs.Order.{ArePlaces, IsRanked, RankLabels, falling_ranks, label_cmp, rank_in, ranked_row}
+use Rattle.rollup.specs.Order.{ArePlaces, IsRanked, IsRankedLabel, RankLabels, falling_labels, falling_ranks, label_cmp, label_row, rank_in, ranked_row}
 use Rattle.rollup.specs.Rows.{falling}
 use Rattle.rollup.specs.Sizes.{Entry, no_entry, row_of}
 use Rattle.rollup.specs.Totals.{path_cmp}
@@ -80,7 +81,12 @@ module _ (n : ℕ) (numbers : List ℕ) (all : IsPermutation (range_with_len 0 n
       by_place : ((k : ℕ) × (k < length numbers) × (get_or numbers k a ≡ a)) → (k : ℕ) × (k < length numbers) × (get_or numbers k 0 ≡ a)
       by_place (k, within, is) = (k, within, get_or_from_slice_get numbers k (get_or numbers k a) 0 (slice_get-get_or numbers k a within) ∙ is)
 
--- one more of the numbers has its place
+pub single : (xs : List ℕ) (d : ℕ) → length xs ≡ 1 → xs ≡ get_or xs 0 d ∷ []
+single [] d e = absurd (omega (arith, e))
+single (x ∷ []) d e = refl
+single (x ∷ y ∷ ys) d e = absurd (omega (arith, e))
+
+-- one more of the numbers has its index
 pub place_more : (numbers places : List ℕ) (i : ℕ) → IsPermutation (range_with_len 0 (length numbers)) numbers → length places ≡ length numbers → i < length numbers
     → ((k : ℕ) → k < i → rank_in places (get_or numbers k 0) ≡ k) → (k : ℕ) → k < i + 1 → rank_in (set places (get_or numbers i 0) i) (get_or numbers k 0) ≡ k
 place_more numbers places i all count lt so_far k within = by_place (cases_eq k i)
@@ -165,31 +171,58 @@ module _ (pool : List (List ℕ)) (ranks : List ℕ) (h : RankLabels pool ranks)
       ap (λ o. ordering_then o (path_cmp (map (text_of pool) xs) (map (text_of pool) ys))) (sym (h.same x y (hx 0 x (omega arith)) (hy 0 y (omega arith))))
       ∙ ap (ordering_then (nat_cmp (rank_in ranks x) (rank_in ranks y))) (path_by_ranks xs ys (λ k d lt. hx (suc k) d (omega arith)) (λ k d lt. hy (suc k) d (omega arith)))
 
-  rows_by_ranks : (es : List Entry) (x y : Ranked) → All (λ (e : Entry). All (λ n. n < length pool) e.numbers) es → IsRanked ranks es x → IsRanked ranks es y → falling (ranked_row pool es y) (ranked_row pool es x) ≡ falling_ranks y x
-  rows_by_ranks es x y below hx hy =
-      path_by_ranks (get_or es x.entry no_entry).numbers (get_or es y.entry no_entry).numbers (below x.entry no_entry hx.within) (below y.entry no_entry hy.within)
-      ∙ (ap (λ l. slice_cmp nat_cmp l (map (rank_in ranks) (get_or es y.entry no_entry).numbers)) (sym hx.along) ∙ ap (slice_cmp nat_cmp x.ranks.items) (sym hy.along))
+  module _ {R : Type 0} (entry : R → ℕ) (key : R → List ℕ) (es : List Entry) (below : All (λ (e : Entry). All (λ n. n < length pool) e.numbers) es) where
+    abbrev pub row : R → RollupRow
+    row r = row_of pool (get_or es (entry r) no_entry)
+
+    rows_by_ranks : (x y : R) → entry x < length es → entry y < length es → key x ≡ map (rank_in ranks) (get_or es (entry x) no_entry).numbers
+        → key y ≡ map (rank_in ranks) (get_or es (entry y) no_entry).numbers → falling (row y) (row x) ≡ slice_cmp nat_cmp (key x) (key y)
+    rows_by_ranks x y wx wy kx ky =
+        path_by_ranks (get_or es (entry x) no_entry).numbers (get_or es (entry y) no_entry).numbers (below (entry x) no_entry wx) (below (entry y) no_entry wy)
+        ∙ (ap (λ l. slice_cmp nat_cmp l (map (rank_in ranks) (get_or es (entry y) no_entry).numbers)) (sym kx) ∙ ap (slice_cmp nat_cmp (key x)) (sym ky))
+
+    pub keys_fall : (rs : List R) → All (λ r. entry r < length es) rs → All (λ r. key r ≡ map (rank_in ranks) (get_or es (entry r) no_entry).numbers) rs
+        → IsSorted (λ a b. slice_cmp nat_cmp (key b) (key a)) rs → IsSorted falling (map row rs)
+    keys_fall [] within keyed sorted = λ k d low lt. absurd (omega arith)
+    keys_fall (r ∷ rs) within keyed sorted = λ k d low lt.
+        let count = length-map (r ∷ rs) row in
+        let x = get_or (r ∷ rs) k r in
+        let y = get_or (r ∷ rs) (k + 1) r in
+        ap (λ q. is_lt (falling q (get_or (map row (r ∷ rs)) k d))) (get_or-map row (r ∷ rs) (k + 1) r d (omega arith))
+        ∙ (ap (λ q. is_lt (falling (row y) q)) (get_or-map row (r ∷ rs) k r d (omega arith))
+        ∙ (ap is_lt (rows_by_ranks x y (within k r (omega arith)) (within (k + 1) r (omega arith)) (keyed k r (omega arith)) (keyed (k + 1) r (omega arith))) ∙ sorted k r low (omega arith)))
 
   pub rows_fall : (es : List Entry) (ranked : List Ranked) → All (λ (e : Entry). All (λ n. n < length pool) e.numbers) es → All (IsRanked ranks es) ranked → IsSorted falling_ranks ranked → IsSorted falling (map (ranked_row pool es) ranked)
-  rows_fall es [] below each sorted = λ k d low lt. absurd (omega arith)
-  rows_fall es (r ∷ rs) below each sorted = λ k d low lt.
-      let f = ranked_row pool es in
-      let count = length-map (r ∷ rs) f in
-      let x = get_or (r ∷ rs) k r in
-      let y = get_or (r ∷ rs) (k + 1) r in
-      ap (λ q. is_lt (falling q (get_or (map f (r ∷ rs)) k d))) (get_or-map f (r ∷ rs) (k + 1) r d (omega arith))
-      ∙ (ap (λ q. is_lt (falling (f y) q)) (get_or-map f (r ∷ rs) k r d (omega arith))
-      ∙ (ap is_lt (rows_by_ranks es x y below (each k r (omega arith)) (each (k + 1) r (omega arith))) ∙ sorted k r low (omega arith)))
+  rows_fall es rs below each sorted = keys_fall (λ (r : Ranked). r.entry) (λ (r : Ranked). r.ranks.items) es below rs (λ k d lt. (each k d lt).within) (λ k d lt. (each k d lt).along) sorted
+
+  pub labels_fall : (es : List Entry) (ranked : List RankedLabel) → All (λ (e : Entry). All (λ n. n < length pool) e.numbers) es → All (IsRankedLabel ranks es) ranked → IsSorted falling_labels ranked → IsSorted falling (map (label_row pool es) ranked)
+  labels_fall es rs below each sorted =
+      keys_fall (λ (r : RankedLabel). r.entry) (λ (r : RankedLabel). r.rank ∷ []) es below rs (λ k d lt. (each k d lt).within) (λ k d lt. (each k d lt).along)
+      (λ k d low lt. ap is_lt (then_same (nat_cmp (get_or rs k d).rank (get_or rs (k + 1) d).rank)) ∙ sorted k d low lt)
+    where
+      then_same : (o : Ordering) → ordering_then o Equal ≡ o
+      then_same Less = refl
+      then_same Equal = refl
+      then_same Greater = refl
 
 map_map : {X Y Z : Type 0} (f : X → Y) (g : Y → Z) (xs : List X) → map (λ x. g (f x)) xs ≡ map g (map f xs)
 map_map f g [] = refl
 map_map f g (x ∷ xs) = ap (λ l. g (f x) ∷ l) (map_map f g xs)
 
 -- the rows of all entries, in another order
-pub same_rows : (pool : List (List ℕ)) (es : List Entry) (ranked sorted : List Ranked) → map (λ (r : Ranked). r.entry) ranked ≡ range_with_len 0 (length es) → IsPermutation ranked sorted
-    → IsPermutation (map (row_of pool) es) (map (ranked_row pool es) sorted)
-same_rows pool es ranked sorted numbered moved =
+entry_rows : {R : Type 0} (entry : R → ℕ) (pool : List (List ℕ)) (es : List Entry) (ranked sorted : List R) → map entry ranked ≡ range_with_len 0 (length es) → IsPermutation ranked sorted
+    → IsPermutation (map (row_of pool) es) (map (λ r. row_of pool (get_or es (entry r) no_entry)) sorted)
+entry_rows {R} entry pool es ranked sorted numbered moved =
     let row_at : ℕ → RollupRow = λ k. row_of pool (get_or es k no_entry) in
+    let made : R → RollupRow = λ r. row_at (entry r) in
     let in_order : map (row_of pool) es ≡ map row_at (range_with_len 0 (length es)) =
     fill_by_all row_at (map (row_of pool) es) (length es) (row_of pool no_entry) (length-map es (row_of pool)) (λ k lt. get_or-map (row_of pool) es k no_entry (row_of pool no_entry) lt) in
-    subst (λ l. IsPermutation l (map (ranked_row pool es) sorted)) (map_map (λ (r : Ranked). r.entry) row_at ranked ∙ (ap (map row_at) numbered ∙ sym in_order)) (IsPermutation-map (ranked_row pool es) ranked sorted moved)
+    subst (λ l. IsPermutation l (map made sorted)) (map_map entry row_at ranked ∙ (ap (map row_at) numbered ∙ sym in_order)) (IsPermutation-map made ranked sorted moved)
+
+pub same_rows : (pool : List (List ℕ)) (es : List Entry) (ranked sorted : List Ranked) → map (λ (r : Ranked). r.entry) ranked ≡ range_with_len 0 (length es) → IsPermutation ranked sorted
+    → IsPermutation (map (row_of pool) es) (map (ranked_row pool es) sorted)
+same_rows pool es ranked sorted = entry_rows (λ (r : Ranked). r.entry) pool es ranked sorted
+
+pub same_label_rows : (pool : List (List ℕ)) (es : List Entry) (ranked sorted : List RankedLabel) → map (λ (r : RankedLabel). r.entry) ranked ≡ range_with_len 0 (length es) → IsPermutation ranked sorted
+    → IsPermutation (map (row_of pool) es) (map (label_row pool es) sorted)
+same_label_rows pool es ranked sorted = entry_rows (λ (r : RankedLabel). r.entry) pool es ranked sorted

@@ -1,4 +1,4 @@
--- Cursors in all maps: the reads, the labels at hand, and what a step counts.
+-- Cursors in all maps: the reads, the current labels, and what a step counts.
 use Rattle.std.proofs.Common.{◌≡◌, ◌+◌, ◌-◌, ◌<◌, ◌≤◌, ℕ, zero, suc, Bool, true, false, cond, leb, ◌&&◌, is_some, List, [], ◌∷◌, ◌++◌, Option, None, Some, length, get_or, set, refl, sym, ap, subst, ◌∙◌, arith}
 use Rattle.std.specs.Prelude.{unwrap_or, All}
 use Rattle.std.proofs.Common.{inl, inr}
@@ -109,7 +109,7 @@ counted-step test marks pss cs at to h stops le =
     counts_one test marks (is_covered pss x) (all_started at cs) (numbers_at pss x) (labels_of cs) s.covered s.numbers) in
     ap (count_from f 0) whole ∙ (count-append f 0 at (to - at) ∙ (ap (λ a. count_from f 0 at + count_from f a (to - at)) zero_first ∙ ap (λ k. count_from f 0 at + k) part))
 
--- the first cursors have come to a place, and the others' pieces reach up to it
+-- the first cursors have reached a position, and the others' pieces reach up to it
 pub record IsMoving (pss : List (List Piece)) (to i : ℕ) (cs : List Cursor) : Type 0 where
   pub len : length cs ≡ length pss
   pub done : (j : ℕ) → j < i → j < length pss → IsAt (get_or pss j []) to (get_or cs j no_cursor)
@@ -170,7 +170,7 @@ pieces-below : (part : Part) (n : ℕ) (m : Maps) → LabelsBelow n m → All (�
 pieces-below File n m h = h.file
 pieces-below Vm n m h = h.vm
 
--- the labels at hand are those of pieces
+-- the current labels are those of pieces
 pub labels-below : (part : Part) (maps : List Maps) (cs : List Cursor) (at n : ℕ) → Each (λ ps c. IsAt ps at c) (layers part maps) cs → all_started at cs ≡ true → All (LabelsBelow n) maps → All (λ m. m < n) (labels_of cs)
 labels-below part maps cs at n h started below k d lt =
     let within : k < length cs = omega (arith, length-map cs (λ (c : Cursor). c.label)) in

@@ -38,6 +38,7 @@ vm_count test pool marks maps loads = count_from (λ p. is_mapped loads p && cou
 abbrev pub file_where : (List (List ℕ) → Bool) → List RollupRow → ℕ
 file_where test rows = sum_by (λ (r : RollupRow). if test r.path then r.file else 0) rows
 
+-- The VM sizes of the rows whose path passes a test, added up.
 abbrev pub vm_where : (List (List ℕ) → Bool) → List RollupRow → ℕ
 vm_where test rows = sum_by (λ (r : RollupRow). if test r.path then r.vm else 0) rows
 

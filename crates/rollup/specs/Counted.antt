@@ -25,6 +25,7 @@ counted test marks pss limit = count_from (is_counted_at test marks pss) 0 limit
 abbrev pub file_counted : (List ℕ → Bool) → Option (List Bool) → List Maps → ℕ → ℕ
 file_counted test marks maps len = count_from (λ o. passes marks (numbers_at (map (λ (m : Maps). m.file) maps) o) && test (numbers_at (map (λ (m : Maps). m.file) maps) o)) 0 len
 
+-- The number of mapped addresses that the filter passes and whose labels, by their numbers, pass a test.
 abbrev pub vm_counted : (List ℕ → Bool) → Option (List Bool) → List Maps → List Load → ℕ
 vm_counted test marks maps loads =
     count_from (λ p. is_mapped loads p && (passes marks (numbers_at (map (λ (m : Maps). m.vm) maps) p) && test (numbers_at (map (λ (m : Maps). m.vm) maps) p))) 0 (2 ^ 96)

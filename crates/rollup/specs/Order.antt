@@ -1,21 +1,37 @@
 -- Labels and paths by their ranks.
-use Rattle.std.specs.Prelude.{◌≡◌, ◌<◌, ℕ, List, map, length, slice_index_or}
+use Rattle.std.specs.Prelude.{◌≡◌, ◌<◌, ℕ, List, [], ◌∷◌, map, length, slice_index_or}
 use Rattle.std.specs.Cmp.Lexicographic.{slice_cmp}
 use Rattle.std.specs.Ordering.{nat_cmp}
 use Rattle.std.specs.declared.cmp.Ordering.{Ordering}
 use Rattle.size_model.specs.Numbered.{text_of}
 use Rattle.rollup.specs.declared.fresh.Ranked.{Ranked}
+use Rattle.rollup.specs.declared.fresh.RankedLabel.{RankedLabel}
+use Rattle.rollup.specs.declared.order.WordedLabel.{WordedLabel}
 use Rattle.rollup.specs.declared.table.RollupRow.{RollupRow}
+use Rattle.rollup.specs.Words.{word_after}
 use Rattle.rollup.specs.Sizes.{Entry, no_entry, row_of}
 
 -- the labels of two numbers, byte by byte
 abbrev pub label_cmp : List (List ℕ) → ℕ → ℕ → Ordering
 label_cmp pool a b = slice_cmp nat_cmp (text_of pool a) (text_of pool b)
 
+-- the label of a number after its first bytes as one number
+abbrev pub worded_key : List (List ℕ) → WordedLabel → List ℕ
+worded_key pool w = w.word ∷ text_of pool w.number
+
+-- labels compare by their first bytes, and then by all of them
+abbrev pub worded_cmp : List (List ℕ) → WordedLabel → WordedLabel → Ordering
+worded_cmp pool a b = slice_cmp nat_cmp (worded_key pool a) (worded_key pool b)
+
+-- the word has the first eight bytes of the label
+pub record IsWorded (pool : List (List ℕ)) (w : WordedLabel) : Type 0 where
+  pub word : w.word ≡ word_after 0 8 (text_of pool w.number)
+
+-- The rank of a label, by its number.
 abbrev pub rank_in : List ℕ → ℕ → ℕ
 rank_in ranks n = slice_index_or ranks n 0
 
--- at each number stands its place in a list
+-- at each number is its index in a list
 pub record ArePlaces (numbers places : List ℕ) : Type 0 where
   pub count : length places ≡ length numbers
   pub place : (k : ℕ) → k < length numbers → rank_in places (slice_index_or numbers k 0) ≡ k
@@ -29,8 +45,23 @@ pub record IsRanked (ranks : List ℕ) (es : List Entry) (r : Ranked) : Type 0 w
   pub within : r.entry < length es
   pub along : r.ranks.items ≡ map (rank_in ranks) (slice_index_or es r.entry no_entry).numbers
 
+-- The order by ranks, the greatest first.
 abbrev pub falling_ranks : Ranked → Ranked → Ordering
 falling_ranks a b = slice_cmp nat_cmp b.ranks.items a.ranks.items
 
+-- The row of a ranked entry.
 abbrev pub ranked_row : List (List ℕ) → List Entry → Ranked → RollupRow
 ranked_row pool es r = row_of pool (slice_index_or es r.entry no_entry)
+
+-- an entry of one number with its rank
+pub record IsRankedLabel (ranks : List ℕ) (es : List Entry) (r : RankedLabel) : Type 0 where
+  pub within : r.entry < length es
+  pub along : r.rank ∷ [] ≡ map (rank_in ranks) (slice_index_or es r.entry no_entry).numbers
+
+-- the greater rank comes first
+abbrev pub falling_labels : RankedLabel → RankedLabel → Ordering
+falling_labels a b = nat_cmp b.rank a.rank
+
+-- the row of an entry with its rank
+abbrev pub label_row : List (List ℕ) → List Entry → RankedLabel → RollupRow
+label_row pool es r = row_of pool (slice_index_or es r.entry no_entry)

@@ -1,4 +1,4 @@
--- Rows in order, and rows that are put among them.
+-- Rows in order, and rows that are inserted into them.
 use Rattle.std.specs.Prelude.{◌≡◌, ◌+◌, ◌≤◌, ◌^◌, ◌-◌, ℕ, Bool, true, false, if◌then◌else◌, List, [], ◌∷◌, ◌++◌}
 use Rattle.std.specs.List.{sum_by}
 use Rattle.std.specs.List.Sorted.{IsPartitionPoint, IsPermutation}
@@ -17,6 +17,7 @@ falling a b = row_cmp b a
 abbrev pub is_above : List (List ℕ) → RollupRow → Bool
 is_above p r = is_gt (path_cmp r.path p)
 
+-- Whether the path of a row is at most this path.
 abbrev pub is_upto : List (List ℕ) → RollupRow → Bool
 is_upto p r = is_le (path_cmp r.path p)
 
@@ -28,13 +29,14 @@ Splits test rows n = IsPartitionPoint (λ r. test r ≡ true) (λ r. test r ≡ 
 abbrev pub larger : RollupRow → RollupRow → RollupRow
 larger q r = record { path = q.path; vm = q.vm + r.vm; file = q.file + r.file }
 
--- A row among rows that ascend by path: where one has its path the sizes are added to it, and else it stands before
--- the first that is above it.
+-- A row is inserted into rows that ascend by path. If one of them has its path, the sizes are added to that one;
+-- otherwise it comes before the first row that is above it.
 abbrev pub with_row_by : Ordering → RollupRow → RollupRow → List RollupRow → List RollupRow → List RollupRow
 with_row_by Less q r qs rest = q ∷ rest
 with_row_by Equal q r qs rest = larger q r ∷ qs
 with_row_by Greater q r qs rest = r ∷ q ∷ qs
 
+-- Rows in order with one row more. If its path is there, the sizes are added to the row of that path.
 abbrev pub with_row : List RollupRow → RollupRow → List RollupRow
 with_row [] r = r ∷ []
 with_row (q ∷ qs) r = with_row_by (row_cmp q r) q r qs (with_row qs r)
@@ -44,7 +46,7 @@ abbrev pub with_rows : List RollupRow → List RollupRow → List RollupRow
 with_rows rows [] = rows
 with_rows rows (r ∷ rs) = with_rows (with_row rows r) rs
 
--- the rows with others among them, in whichever order these came
+-- the rows with others inserted, in any order
 pub record AreMerged (rows others merged : List RollupRow) : Type 0 where
   pub order : List RollupRow
   pub same : IsPermutation others order
@@ -62,7 +64,7 @@ enlarged [] r = []
 enlarged (q ∷ []) r = larger q r ∷ []
 enlarged (q ∷ s ∷ qs) r = q ∷ enlarged (s ∷ qs) r
 
--- a row behind the last one, or joined to it
+-- a row after the last one, or joined to it
 abbrev pub pushed : List RollupRow → RollupRow → List RollupRow
 pushed out r = if joins_last out r.path then enlarged out r else out ++ r ∷ []
 
@@ -83,7 +85,7 @@ Climbs [] = Unit {0}
 Climbs (r ∷ []) = Unit {0}
 Climbs (r ∷ s ∷ rs) = (is_lt (row_cmp s r) ≡ false) × Climbs (s ∷ rs)
 
--- the sizes of these rows and of those add up to a number that fits
+-- the sizes of both lists add up to a number that fits
 pub record FitTogether (rows others : List RollupRow) : Type 0 where
   pub vm : sum_by (λ (r : RollupRow). r.vm) rows + sum_by (λ (r : RollupRow). r.vm) others ≤ 2 ^ 63 - 1
   pub file : sum_by (λ (r : RollupRow). r.file) rows + sum_by (λ (r : RollupRow). r.file) others ≤ 2 ^ 63 - 1

@@ -5,6 +5,7 @@ use Rattle.size_model.specs.Numbered.{text_of}
 use Rattle.rollup.specs.declared.cursor.Cursor.{Cursor}
 use Rattle.rollup.specs.declared.cursor.Part.{Part}
 use Rattle.rollup.specs.declared.cursor.Part.TheVariants.{File, Vm}
+use Rattle.rollup.specs.declared.sizes.LabelSize.{LabelSize}
 use Rattle.rollup.specs.declared.sizes.Sizes.{Sizes}
 use Rattle.rollup.specs.declared.table.RollupRow.{RollupRow}
 use Rattle.rollup.specs.Adding.{passes}
@@ -15,33 +16,49 @@ pub record Entry : Type 0 where
   pub vm : ℕ
   pub file : ℕ
 
+-- An entry without labels and sizes.
 abbrev pub no_entry : Entry
 no_entry = record { numbers = []; vm = 0; file = 0 }
 
+-- The entry of these labels, by number, with these sizes.
 abbrev pub entry_of : List ℕ → Sizes → Entry
 entry_of numbers s = record { numbers = numbers; vm = s.vm; file = s.file }
+
+-- the entry of a list of one number
+abbrev pub entry_of_label : LabelSize → Entry
+entry_of_label s = entry_of (s.label ∷ []) s.sizes
+
+-- the sizes of a number are at this index
+pub record IsIndexOf (label : ℕ) (es : List Entry) (i : ℕ) : Type 0 where
+  pub within : i < length es
+  pub there : (slice_index_or es i no_entry).numbers ≡ label ∷ []
 
 -- one of the two sizes
 abbrev pub size_in : Part → Entry → ℕ
 size_in File e = e.file
 size_in Vm e = e.vm
 
+-- One of the two sizes, without the labels.
 abbrev pub part_of : Part → Sizes → ℕ
 part_of File s = s.file
 part_of Vm s = s.vm
 
+-- The other one of the two sizes.
 abbrev pub other : Part → Part
 other File = Vm
 other Vm = File
 
+-- One of the two sizes, and 0 for the other.
 abbrev pub sizes_of : Part → ℕ → Sizes
 sizes_of File size = record { vm = 0; file = size }
 sizes_of Vm size = record { vm = size; file = 0 }
 
+-- Sizes of which one has grown.
 abbrev pub grown_sizes : Part → ℕ → Sizes → Sizes
 grown_sizes File size s = record { vm = s.vm; file = s.file + size }
 grown_sizes Vm size s = record { vm = s.vm + size; file = s.file }
 
+-- An entry of which one size has grown.
 abbrev pub grown : Part → ℕ → Entry → Entry
 grown File size e = record { numbers = e.numbers; vm = e.vm; file = e.file + size }
 grown Vm size e = record { numbers = e.numbers; vm = e.vm + size; file = e.file }
@@ -56,21 +73,24 @@ pub record IsGrownAt (part : Part) (numbers : List ℕ) (size : ℕ) (old new : 
   pub there : (slice_index_or old i no_entry).numbers ≡ numbers
   pub set : new ≡ slice_set old i (grown part size (slice_index_or old i no_entry))
 
+-- The entry of these labels grew, or it was appended, since there was none.
 abbrev pub IsGrown : Part → List ℕ → ℕ → List Entry → List Entry → Type 0
 IsGrown part numbers size old new = ((i : ℕ) × IsGrownAt part numbers size old new i) ⊎ (new ≡ old ++ entry_of numbers (sizes_of part size) ∷ [])
 
+-- The entry grew if a test holds; otherwise nothing changed.
 abbrev pub IsGrownIf : Bool → Part → List ℕ → ℕ → List Entry → List Entry → Type 0
 IsGrownIf true part numbers size old new = IsGrown part numbers size old new
 IsGrownIf false part numbers size old new = new ≡ old
 
--- each map has a label at hand
+-- each map has a label at a position
 abbrev pub all_started : ℕ → List Cursor → Bool
 all_started at cs = list_all (λ (c : Cursor). nat_le c.start at) cs
 
+-- The labels of the pieces that the cursors are at.
 abbrev pub labels_of : List Cursor → List ℕ
 labels_of cs = map (λ (c : Cursor). c.label) cs
 
--- whether what lies at a position counts
+-- whether a position counts
 abbrev pub is_counted : Option (List Bool) → ℕ → List Cursor → Bool
 is_counted marks at cs = all_started at cs && passes marks (labels_of cs)
 

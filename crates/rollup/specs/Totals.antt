@@ -18,6 +18,7 @@ pub record Totals : Type 0 where
 abbrev pub path_cmp : List (List ℕ) → List (List ℕ) → Ordering
 path_cmp p q = slice_cmp (slice_cmp nat_cmp) p q
 
+-- The order of rows by their paths.
 abbrev pub row_cmp : RollupRow → RollupRow → Ordering
 row_cmp a b = path_cmp a.path b.path
 

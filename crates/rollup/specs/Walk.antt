@@ -1,4 +1,4 @@
--- How a walk stands in maps that it goes through side by side.
+-- The state of a walk that goes through maps side by side.
 use Rattle.std.specs.Prelude.{◌≡◌, ◌+◌, ◌-◌, ◌^◌, ◌<◌, ◌≤◌, ℕ, min, nat_lt, if◌then◌else◌, List, [], ◌∷◌, map, drop, length, slice_index_or, slice_get, Option, None, Some}
 use Rattle.std.specs.List.{sum_by}
 use Rattle.size_model.specs.declared.piece.Piece.{Piece}
@@ -17,21 +17,24 @@ pieces_of Vm m = m.vm
 abbrev pub layers : Part → List Maps → List (List Piece)
 layers part maps = map (pieces_of part) maps
 
+-- Maps without a piece.
 abbrev pub no_maps : Maps
 no_maps = record { file = []; vm = [] }
 
+-- A cursor at the beginning of no map.
 abbrev pub no_cursor : Cursor
 no_cursor = record { passed = 0; start = 0; end = 0; label = 0 }
 
--- behind so many pieces stands this one, or none, as if one stood at the greatest number
+-- the cursor after so many pieces; where no piece is left, it is at the greatest number
 abbrev pub cursor_at : ℕ → Option Piece → Cursor
 cursor_at passed None = record { passed = passed; start = 2 ^ 128 - 1; end = 2 ^ 128 - 1; label = 0 }
 cursor_at passed (Some p) = record { passed = passed; start = p.start; end = end_of p; label = p.label }
 
+-- The cursor of a map after so many pieces.
 abbrev pub cursor_of : List Piece → ℕ → Cursor
 cursor_of ps passed = cursor_at passed (slice_get ps passed)
 
--- where the label at hand changes next
+-- the next position at which the label changes
 abbrev pub stop_of : ℕ → Cursor → ℕ
 stop_of at c = if nat_lt at c.start then c.start else c.end
 
@@ -39,7 +42,7 @@ stop_of at c = if nat_lt at c.start then c.start else c.end
 abbrev pub reads_of : List Piece → Cursor → ℕ
 reads_of ps c = min (length ps) (c.passed + 1)
 
--- what lies before a position is passed
+-- all that is before a position is passed
 pub record IsReached (ps : List Piece) (at : ℕ) (c : Cursor) : Type 0 where
   pub tidy : IsTidy ps
   pub is : c ≡ cursor_of ps c.passed
@@ -47,7 +50,7 @@ pub record IsReached (ps : List Piece) (at : ℕ) (c : Cursor) : Type 0 where
   pub reach : at ≤ c.end
   pub rest : (x : ℕ) → at ≤ x → label_in ps x ≡ label_in (drop c.passed ps) x
 
--- and the piece at hand ends behind it
+-- and the current piece ends after it
 pub record IsAt (ps : List Piece) (at : ℕ) (c : Cursor) : Type 0 where
   pub reached : IsReached ps at c
   pub ahead : at < c.end

@@ -9,10 +9,10 @@ use thiserror::Error;
 /// Why a file's sizes were not added.
 #[derive(Clone, Copy, Debug, PartialEq, Eq, Error)]
 pub enum RollupAnswer {
-    /// The lengths of the files pass 2^63 - 1.
+    /// The lengths of the files exceed 2^63 - 1.
     #[error("too many bytes")]
     TooManyBytes,
-    /// The mapped sizes of the files pass 2^63 - 1.
+    /// The mapped sizes of the files exceed 2^63 - 1.
     #[error("mapped size too large")]
     MappedTooLarge,
     /// There was not enough memory.

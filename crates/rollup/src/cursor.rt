@@ -1,4 +1,4 @@
-//! Where a walk stands in one map.
+//! The position of a walk in one map.
 
 ghost use Rattle.std.specs.Prelude.{◌≡◌, ◌+◌, ◌^◌, ◌<◌, ◌≤◌, min, length};
 ghost use Rattle.size_model.specs.Cut.{IsTidy};
@@ -29,8 +29,8 @@ impl Part {
     }
 }
 
-/// How many pieces of a map a walk has passed, and the next one. Where there is none, the greatest number stands
-/// for its start and end.
+/// How many pieces of a map a walk has passed, and the next piece. If there is none, its start and end are the
+/// greatest number.
 #[derive(Clone, Copy, Debug)]
 pub struct Cursor {
     pub passed: usize,
@@ -40,7 +40,7 @@ pub struct Cursor {
 }
 
 impl Cursor {
-    /// Reads the piece behind so many.
+    /// Reads the piece after the first `passed` ones.
     pub fn read<L: Ledger>(map: &RangeMap, passed: usize, steps: &mut Steps<L>) -> Cursor
         requires { passed ≤ length map.now }
         ensures value { result ≡ cursor_of map.now passed }
@@ -63,7 +63,7 @@ impl Cursor {
         }
     }
 
-    /// The cursor at a place that it has come to: where the piece at hand ends there, the next one is read.
+    /// The cursor at a position that it has reached. If the current piece ends there, the next one is read.
     pub fn after<L: Ledger>(self, map: &RangeMap, to: u128, steps: &mut Steps<L>) -> Cursor
         requires reached { IsReached map.now to self }
         requires fits { to ≤ 2 ^ 97 }
@@ -79,7 +79,7 @@ impl Cursor {
         Cursor::read(map, self.passed + 1, steps)
     }
 
-    /// Where the label at hand changes next.
+    /// The next position at which the label changes.
     pub fn stop(&self, at: u128) -> u128
         ensures { result ≡ stop_of at self.now }
     {

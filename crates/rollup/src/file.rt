@@ -16,8 +16,8 @@ use size_core::{NoMemory, Steps};
 use std::alloc::Global;
 use std::sync::ledger::Ledger;
 
-// Up to where positions are walked. Without maps nothing tells mapped positions from others, and their number is
-// what counts.
+// The end of the positions that are walked. Without maps there is no way to distinguish mapped positions from others,
+// so only their number counts.
 fn last_position(base: &Base, maps: &[DualMap]) -> u128
     ensures { result ≡ vm_limit base.now.loads maps.now }
 {
@@ -28,7 +28,7 @@ fn last_position(base: &Base, maps: &[DualMap]) -> u128
     }
 }
 
-/// How many offsets and how many mapped positions have the same labels, where the filter passes them.
+/// How many offsets and how many mapped positions have the same labels, if the filter passes them.
 pub fn sizes_of_file<L: Ledger>(
     alloc: Global,
     base: &Base,

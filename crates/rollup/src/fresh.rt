@@ -2,9 +2,10 @@
 
 ghost use Rattle.std.specs.Prelude.{◌≡◌, ◌^◌, ◌<◌, [], IfOk, OnOk, All, length, map, slice_index_or};
 ghost use Rattle.std.specs.List.{range_with_len};
+ghost use Rattle.std.specs.Option.{ForSome};
 ghost use Rattle.std.specs.List.Sorted.{IsPermutation, IsSorted};
 ghost use Rattle.size_model.specs.Numbered.{text_of};
-ghost use Rattle.rollup.specs.Order.{IsRanked, falling_ranks, rank_in, ranked_row};
+ghost use Rattle.rollup.specs.Order.{IsRanked, IsRankedLabel, RankLabels, falling_labels, falling_ranks, label_row, rank_in, ranked_row};
 ghost use Rattle.rollup.specs.Rows.{FitTogether, falling};
 ghost use Rattle.rollup.specs.Sizes.{Entry, no_entry, row_of};
 
@@ -18,6 +19,13 @@ use std::alloc::{AllocError, Global};
 #[derive(Drop)]
 pub struct Ranked {
     pub ranks: Vec<usize>,
+    pub entry: usize,
+}
+
+/// An entry of one label, and the rank of the label.
+#[derive(Clone, Copy)]
+pub struct RankedLabel {
+    pub rank: usize,
     pub entry: usize,
 }
 
@@ -51,7 +59,7 @@ fn ranked_entries(
     Ok(ranked)
 }
 
-// Puts the greatest path first. Paths come mostly in runs that ascend, which a stable sort merges.
+// Sorts the greatest path first. Most paths come in ascending runs, which a stable sort merges.
 fn sort_falling(ranked: &mut Vec<Ranked>) -> Result<(), AllocError>
     ensures same { IsPermutation ranked.old.items ranked.new.items }
     ensures sorted { OnOk result (IsSorted falling_ranks ranked.new.items) }
@@ -59,12 +67,12 @@ fn sort_falling(ranked: &mut Vec<Ranked>) -> Result<(), AllocError>
     ranked.sort_by(|a, b| b.ranks.as_slice().cmp(&a.ranks.as_slice()))
 }
 
-// The path that the labels of these numbers spell.
+// The path of the labels with these numbers.
 fn spell(alloc: Global, pool: &LabelPool, numbers: &[usize]) -> Result<Path, NoMemory>
     requires { All (λ n. n < length pool.now) numbers.now }
     ensures { IfOk result (λ p. p ≡ map (text_of pool.now) numbers.now) }
 {
-    let mut path = Path::new(alloc);
+    let mut path = Path::with_capacity(alloc, numbers.len())?;
     for number in numbers {
         path.push(Bytes::of(alloc, pool.get(*number))?)?;
     }
@@ -111,6 +119,76 @@ fn rows_of(
     Ok(rows)
 }
 
+// The entries with their ranks, if each has exactly one label.
+fn ranked_labels(
+    alloc: Global,
+    ranks: &[usize],
+    sizes: &PathSizes,
+) -> Result<Option<Vec<RankedLabel>>, AllocError>
+    ensures entries { IfOk result (λ o. ForSome o (λ v. map (λ (r : RankedLabel). r.entry) v.items ≡ range_with_len 0 (length sizes.now))) }
+    ensures ranks { IfOk result (λ o. ForSome o (λ v. All (IsRankedLabel ranks.now sizes.now) v.items)) }
+{
+    let mut ranked = Vec::with_capacity(alloc, sizes.len())?;
+    for entry in 0..sizes.len() {
+        let (numbers, _) = sizes.get(entry);
+        if numbers.len() != 1 {
+            return Ok(None);
+        }
+        let rank = rank_at(ranks, numbers[0]);
+        ranked.push(RankedLabel { rank, entry })?;
+    }
+    Ok(Some(ranked))
+}
+
+// Sorts the greatest label first.
+fn sort_labels(ranked: &mut Vec<RankedLabel>)
+    ensures same { IsPermutation ranked.old.items ranked.new.items }
+    ensures sorted { IsSorted falling_labels ranked.new.items }
+{
+    ranked.sort_unstable_by(|a, b| b.rank.cmp(&a.rank));
+}
+
+// The rows of entries of one label each, in the order of the ranked entries.
+fn rows_of_labels(
+    alloc: Global,
+    pool: &LabelPool,
+    sizes: &PathSizes,
+    ranked: &[RankedLabel],
+) -> Result<Vec<RollupRow>, NoMemory>
+    requires within { All (λ (r : RankedLabel). r.entry < length sizes.now) ranked.now }
+    requires below { All (λ (e : Entry). All (λ n. n < length pool.now) e.numbers) sizes.now }
+    requires vm { All (λ (e : Entry). e.vm < 2 ^ 64) sizes.now }
+    requires file { All (λ (e : Entry). e.file < 2 ^ 64) sizes.now }
+    ensures { IfOk result (λ v. v.items ≡ map (label_row pool.now sizes.now) ranked.now) }
+{
+    let mut rows = Vec::with_capacity(alloc, ranked.len())?;
+    for entry in ranked {
+        rows.push(row_at(alloc, pool, sizes, entry.entry)?)?;
+    }
+    Ok(rows)
+}
+
+// The rows of entries of one label each, the greatest label first. Ranks are compared as plain numbers here, and no
+// entry needs a vector for its ranks.
+fn label_rows(
+    alloc: Global,
+    pool: &LabelPool,
+    sizes: &PathSizes,
+    ranks: &[usize],
+    mut ranked: Vec<RankedLabel>,
+) -> Result<Vec<RollupRow>, NoMemory>
+    requires below { All (λ (e : Entry). All (λ n. n < length pool.now) e.numbers) sizes.now }
+    requires fits { FitTogether [] (map (row_of pool.now) sizes.now) }
+    requires labels { RankLabels pool.now ranks.now }
+    requires entries { map (λ (r : RankedLabel). r.entry) ranked.items ≡ range_with_len 0 (length sizes.now) }
+    requires ranks { All (IsRankedLabel ranks.now sizes.now) ranked.items }
+    ensures same { IfOk result (λ v. IsPermutation (map (row_of pool.now) sizes.now) v.items) }
+    ensures falls { IfOk result (λ v. IsSorted falling v.items) }
+{
+    sort_labels(&mut ranked);
+    rows_of_labels(alloc, pool, sizes, ranked.as_slice())
+}
+
 /// The rows of a file, the greatest path first.
 pub fn new_rows(
     alloc: Global,
@@ -123,6 +201,9 @@ pub fn new_rows(
     ensures falls { IfOk result (λ v. IsSorted falling v.items) }
 {
     let ranks = ranks_of(alloc, pool)?;
+    if let Some(labels) = ranked_labels(alloc, ranks.as_slice(), sizes)? {
+        return label_rows(alloc, pool, sizes, ranks.as_slice(), labels);
+    }
     let mut ranked = ranked_entries(alloc, ranks.as_slice(), sizes)?;
     sort_falling(&mut ranked)?;
     rows_of(alloc, pool, sizes, ranked.as_slice())

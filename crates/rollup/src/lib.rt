@@ -7,13 +7,13 @@ mod file;
 mod fresh;
 mod merge;
 mod order;
+mod ordered;
+mod prefix;
 mod sizes;
 mod table;
+mod tree;
 mod walk;
 
 pub use answer::RollupAnswer;
 pub use order::compare_paths;
 pub use table::{Rollup, RollupRow};
-
-#[cfg(test)]
-mod tests;

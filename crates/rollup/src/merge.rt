@@ -1,4 +1,4 @@
-//! The rows of before and those of a file, in order, each path once.
+//! Merges the rows of a file into a sorted list of rows, in which each path is once.
 
 ghost use Rattle.std.specs.Prelude.{false, ◌≡◌, ◌+◌, ◌-◌, ◌<◌, ◌≤◌, [], ◌∷◌, ◌++◌, OnOk, OnErr, length, reverse, drop, take, vec_len, vec_capacity};
 ghost use Rattle.std.specs.List.Sorted.{IsSorted, IsStrictlySortedBy, IsPartitionedBy};
@@ -13,7 +13,7 @@ use size_core::{NoMemory, Path};
 use std::alloc::Global;
 use std::cmp::Ordering;
 
-// Moves what stands behind so many rows to the end of others, the last one first.
+// Keeps the first `kept` rows and moves the others to the end of another list, the last row first.
 fn move_behind(rows: &mut Vec<RollupRow>, kept: usize, to: &mut Vec<RollupRow>)
     requires kept { kept ≤ vec_len rows.old }
     requires room { vec_len to.old + (vec_len rows.old - kept) ≤ vec_capacity to.old }
@@ -32,7 +32,7 @@ fn move_behind(rows: &mut Vec<RollupRow>, kept: usize, to: &mut Vec<RollupRow>)
     }
 }
 
-// How many of these rows, the greatest path first, are above a path.
+// How many of these rows are above a path. The greatest path is first.
 fn count_above(rows: &[RollupRow], path: &Path) -> usize
     requires { IsPartitionedBy (is_above path.now) rows.now }
     ensures bound { result ≤ length rows.now }
@@ -41,7 +41,7 @@ fn count_above(rows: &[RollupRow], path: &Path) -> usize
     rows.partition_point(|row| compare_paths(&row.path, path).is_gt())
 }
 
-// How many of these rows, the least path first, are not above a path.
+// How many of these rows are not above a path. The least path is first.
 fn count_upto(rows: &[RollupRow], path: &Path) -> usize
     requires { IsPartitionedBy (is_upto path.now) rows.now }
     ensures bound { result ≤ length rows.now }
@@ -72,7 +72,7 @@ fn enlarge(rows: &mut Vec<RollupRow>, row: &RollupRow)
     }
 }
 
-// Puts a row behind the last one, joined to it where they have one path.
+// Adds a row at the end. If the last row has the same path, the sizes are added to it.
 fn push(rows: &mut Vec<RollupRow>, row: RollupRow)
     requires room { vec_len rows.old < vec_capacity rows.old }
     requires fits { FitTogether rows.old.items (row ∷ []) }
@@ -87,8 +87,8 @@ fn push(rows: &mut Vec<RollupRow>, row: RollupRow)
     }
 }
 
-// Puts a row in its place among the rows of before, of which those above, the greatest first, stand apart. Those
-// that are not above it come back first.
+// Inserts a row into sorted rows, of which the upper ones are in a list of their own, the greatest first. Those of
+// them that are not above the new row are moved back first.
 fn insert(rows: &mut Vec<RollupRow>, above: &mut Vec<RollupRow>, row: RollupRow)
     requires room { vec_len rows.old + vec_len above.old < vec_capacity rows.old }
     requires ordered { IsStrictlySortedBy row_cmp (rows.old.items ++ reverse above.old.items) }
@@ -105,7 +105,7 @@ fn insert(rows: &mut Vec<RollupRow>, above: &mut Vec<RollupRow>, row: RollupRow)
     push(rows, row);
 }
 
-// Puts rows, of which the last one is the least, in their places.
+// Inserts all rows. The last one is the least.
 fn insert_all(rows: &mut Vec<RollupRow>, mut above: Vec<RollupRow>, mut new: Vec<RollupRow>)
     requires room { vec_len rows.old + vec_len above + vec_len new ≤ vec_capacity rows.old }
     requires ordered { IsStrictlySortedBy row_cmp (rows.old.items ++ reverse above.items) }
@@ -120,7 +120,7 @@ fn insert_all(rows: &mut Vec<RollupRow>, mut above: Vec<RollupRow>, mut new: Vec
     move_behind(&mut above, 0, rows);
 }
 
-// How many rows of before are not above the least new one, which stands last.
+// How many of the old rows are not above the least new row, which is the last one.
 fn count_below(rows: &[RollupRow], new: &[RollupRow]) -> usize
     requires { IsStrictlySortedBy row_cmp rows.now }
     ensures bound { result ≤ length rows.now }
@@ -132,8 +132,8 @@ fn count_below(rows: &[RollupRow], new: &[RollupRow]) -> usize
     }
 }
 
-/// Puts new rows, the greatest path first, in their places among those of before, which ascend by path. The sizes
-/// of a path that is there already are added to its row. After a refusal the rows are as they were.
+/// Merges new rows, the greatest path first, into rows that ascend by path. The sizes of a path that is there already
+/// are added to its row. After an error the rows are unchanged.
 pub fn merge(alloc: Global, rows: &mut Vec<RollupRow>, new: Vec<RollupRow>) -> Result<(), NoMemory>
     requires ordered { IsStrictlySortedBy row_cmp rows.old.items }
     requires falls { IsSorted falling new.items }

@@ -1,14 +1,16 @@
 //! Labels and paths in order.
 
-ghost use Rattle.std.specs.Prelude.{◌≡◌, ◌<◌, IfOk, length};
+ghost use Rattle.std.specs.Prelude.{◌≡◌, ◌<◌, IfOk, OnOk, All, length, map};
 ghost use Rattle.std.specs.Cmp.Lexicographic.{slice_cmp};
-ghost use Rattle.std.specs.List.{range_with_len};
-ghost use Rattle.std.specs.List.Sorted.{IsPermutation, IsStrictlySortedBy};
+ghost use Rattle.std.specs.List.{IsDistinct, range_with_len};
+ghost use Rattle.std.specs.Str.{bytes_eq};
+ghost use Rattle.std.specs.List.Sorted.{IsPermutation, IsSorted, IsStrictlySortedBy};
 ghost use Rattle.std.specs.Ordering.{nat_cmp};
 ghost use Rattle.size_model.specs.Numbered.{text_of};
 ghost use Rattle.rollup.specs.Totals.{path_cmp};
-ghost use Rattle.rollup.specs.Order.{ArePlaces, RankLabels, label_cmp, rank_in};
+ghost use Rattle.rollup.specs.Order.{ArePlaces, IsWorded, RankLabels, label_cmp, rank_in, worded_cmp};
 
+use crate::prefix::word_of_label;
 use size_core::{Bytes, LabelPool, NoMemory, Path};
 use std::alloc::Global;
 use std::cmp::Ordering;
@@ -33,7 +35,7 @@ pub fn compare_paths(a: &Path, b: &Path) -> Ordering
     a.len().cmp(&b.len())
 }
 
-// The label of a number, and no bytes where there is none.
+// The label of a number, and no bytes if there is none.
 fn label_of(pool: &LabelPool, number: usize) -> &[u8]
     ensures { result.now ≡ text_of pool.now number }
 {
@@ -50,21 +52,67 @@ fn compare_numbers(pool: &LabelPool, a: usize, b: usize) -> Ordering
     label_of(pool, a).cmp(&label_of(pool, b))
 }
 
+/// The number of a label, and its first bytes.
+#[derive(Clone, Copy)]
+pub struct WordedLabel {
+    pub word: u64,
+    pub number: usize,
+}
+
+// Compares two labels, by their first bytes if these differ.
+fn compare_worded(pool: &LabelPool, a: WordedLabel, b: WordedLabel) -> Ordering
+    ensures { result ≡ worded_cmp pool.now a b }
+{
+    match a.word.cmp(&b.word) {
+        Ordering::Equal => compare_numbers(pool, a.number, b.number),
+        order => order,
+    }
+}
+
+// All labels in the order of their numbers.
+fn worded_labels(alloc: Global, pool: &LabelPool) -> Result<Vec<WordedLabel>, NoMemory>
+    ensures numbers { IfOk result (λ v. map (λ (w : WordedLabel). w.number) v.items ≡ range_with_len 0 (length pool.now)) }
+    ensures words { IfOk result (λ v. All (IsWorded pool.now) v.items) }
+    ensures distinct { IfOk result (λ v. IsDistinct bytes_eq pool.now) }
+{
+    let mut labels = Vec::with_capacity(alloc, pool.len())?;
+    for number in 0..pool.len() {
+        let word = word_of_label(pool.get(number));
+        labels.push(WordedLabel { word, number })?;
+    }
+    Ok(labels)
+}
+
+// Sorts the least label first. Most labels come in ascending runs, which a stable sort merges.
+fn sort_worded(pool: &LabelPool, labels: &mut Vec<WordedLabel>) -> Result<(), NoMemory>
+    ensures same { IsPermutation labels.old.items labels.new.items }
+    ensures sorted { OnOk result (IsSorted (worded_cmp pool.now) labels.new.items) }
+{
+    labels.sort_by(|a, b| compare_worded(pool, *a, *b))?;
+    Ok(())
+}
+
+fn numbers_of(alloc: Global, labels: &[WordedLabel]) -> Result<Vec<usize>, NoMemory>
+    ensures { IfOk result (λ v. v.items ≡ map (λ (w : WordedLabel). w.number) labels.now) }
+{
+    let mut numbers = Vec::with_capacity(alloc, labels.len())?;
+    for label in labels {
+        numbers.push(label.number)?;
+    }
+    Ok(numbers)
+}
+
 // The numbers of the labels, the least label first.
 fn numbers_in_order(alloc: Global, pool: &LabelPool) -> Result<Vec<usize>, NoMemory>
     ensures all { IfOk result (λ v. IsPermutation (range_with_len 0 (length pool.now)) v.items) }
     ensures ascend { IfOk result (λ v. IsStrictlySortedBy (label_cmp pool.now) v.items) }
 {
-    let mut numbers = Vec::with_capacity(alloc, pool.len())?;
-    for number in 0..pool.len() {
-        numbers.push(number)?;
-    }
-    // Labels come mostly in runs that ascend, which a stable sort merges.
-    numbers.sort_by(|a, b| compare_numbers(pool, *a, *b))?;
-    Ok(numbers)
+    let mut labels = worded_labels(alloc, pool)?;
+    sort_worded(pool, &mut labels)?;
+    numbers_of(alloc, labels.as_slice())
 }
 
-// Where each number stands among these.
+// The index of each number in this list.
 fn places_of(alloc: Global, numbers: &[usize]) -> Result<Vec<usize>, NoMemory>
     requires { IsPermutation (range_with_len 0 (length numbers.now)) numbers.now }
     ensures { IfOk result (λ v. ArePlaces numbers.now v.items) }
@@ -76,7 +124,7 @@ fn places_of(alloc: Global, numbers: &[usize]) -> Result<Vec<usize>, NoMemory>
     Ok(places)
 }
 
-/// The rank of each label of a pool among them all, by its bytes.
+/// The rank of each label in a pool, in the order of their bytes.
 pub fn ranks_of(alloc: Global, pool: &LabelPool) -> Result<Vec<usize>, NoMemory>
     ensures { IfOk result (λ v. RankLabels pool.now v.items) }
 {
@@ -84,7 +132,7 @@ pub fn ranks_of(alloc: Global, pool: &LabelPool) -> Result<Vec<usize>, NoMemory>
     places_of(alloc, numbers.as_slice())
 }
 
-/// The rank at a number.
+/// The rank of the label with a number.
 pub fn rank_at(ranks: &[usize], number: usize) -> usize
     ensures { result ≡ rank_in ranks.now number }
 {

@@ -1,13 +1,15 @@
 //! Sizes by the numbers of labels.
 
-ghost use Rattle.std.specs.Prelude.{◌≡◌, ◌+◌, ◌^◌, ◌<◌, ℕ, [], Some, OnOk, length, slice_get, slice_index_or};
-ghost use Rattle.rollup.specs.Sizes.{IsGrown, entry_of, no_entry, part_of, sizes_of, grown_sizes, size_in};
+ghost use Rattle.std.specs.Prelude.{◌≡◌, ◌+◌, ◌^◌, ◌<◌, ℕ, [], ◌∷◌, ◌++◌, Some, OnOk, length, slice_get, slice_index_or, slice_set};
+ghost use Rattle.std.specs.Option.{ForSome};
+ghost use Rattle.rollup.specs.Sizes.{IsGrown, IsIndexOf, entry_of, no_entry, part_of, sizes_of, grown, grown_sizes, size_in};
 
 use crate::cursor::Part;
 use indexmap::IndexMap;
 use size_core::NoMemory;
 use std::alloc::Global;
 use std::marker::Model;
+use std::slice::from_ref;
 
 /// How many mapped positions, and how many offsets.
 #[derive(Clone, Copy, Debug)]
@@ -38,15 +40,111 @@ impl Sizes {
     }
 }
 
-/// The sizes of lists of label numbers, in the order in which the lists came. Contracts see each list with its
-/// sizes.
+// The sizes of a list of one number.
+#[derive(Clone, Copy)]
+struct LabelSize {
+    label: usize,
+    sizes: Sizes,
+}
+
+// The sizes of lists of one number, in the order in which the numbers came. `indices` has, for each number, the index
+// at which its sizes may be found: they are those of the number only if the item at that index has it.
 #[derive(Drop)]
-pub struct PathSizes {
+struct LabelSizes {
+    items: Vec<LabelSize>,
+    indices: Vec<usize>,
+}
+
+impl Model for LabelSizes {
+    ghost use Rattle.std.specs.Prelude.{List, map};
+    ghost use Rattle.rollup.specs.Sizes.{Entry};
+
+    ghost Value = { List Entry };
+
+    ghost use Rattle.rollup.specs.Sizes.{entry_of_label};
+
+    ghost view = { λ p. map entry_of_label p.items.items };
+}
+
+impl LabelSizes {
+    fn new(alloc: Global) -> LabelSizes
+        ensures { result ≡ [] }
+    {
+        LabelSizes {
+            items: Vec::new(alloc),
+            indices: Vec::new(alloc),
+        }
+    }
+
+    fn len(&self) -> usize
+        ensures len { result ≡ length self.now }
+        ensures small { result < 2 ^ 63 }
+    {
+        self.items.len()
+    }
+
+    // The list at an index, and its sizes.
+    fn get(&self, i: usize) -> (&[usize], Sizes)
+        requires { i < length self.now }
+        ensures { slice_get self.now i ≡ Some (entry_of result.0.now result.1) }
+    {
+        let item = &self.items[i];
+        (from_ref(&item.label), item.sizes)
+    }
+
+    // The index of the sizes of a number, if they are there.
+    fn find(&self, label: usize) -> Option<usize>
+        ensures { ForSome result (IsIndexOf label self.now) }
+    {
+        let index = *self.indices.get(label)?;
+        let item = self.items.get(index)?;
+        if item.label == label {
+            Some(index)
+        } else {
+            None
+        }
+    }
+
+    fn grow(&mut self, i: usize, part: Part, size: u128)
+        requires within { i < length self.old }
+        requires fits { size_in part (slice_index_or self.old i no_entry) + size < 2 ^ 128 }
+        ensures { self.new ≡ slice_set self.old i (grown part size (slice_index_or self.old i no_entry)) }
+    {
+        self.items[i].sizes.grow(part, size);
+    }
+
+    fn push(&mut self, label: usize, sizes: Sizes) -> Result<(), NoMemory>
+        ensures { OnOk result (self.new ≡ self.old ++ entry_of (label ∷ []) sizes ∷ []) }
+    {
+        self.note(label)?;
+        self.items.push(LabelSize { label, sizes })?;
+        Ok(())
+    }
+
+    // Notes that the sizes of a number will be the next item.
+    fn note(&mut self, label: usize) -> Result<(), NoMemory>
+        ensures { self.new ≡ self.old }
+    {
+        let next = self.items.len();
+        if label >= self.indices.len() {
+            let double = self.indices.len().saturating_mul(2);
+            self.indices.resize(label.saturating_add(1).max(double), 0)?;
+        }
+        if let Some(index) = self.indices.get_mut(label) {
+            *index = next;
+        }
+        Ok(())
+    }
+}
+
+// The sizes of lists of label numbers, found by a hash of the list.
+#[derive(Drop)]
+struct ListSizes {
     sizes: IndexMap<Vec<usize>, Sizes>,
     alloc: Global,
 }
 
-impl Model for PathSizes {
+impl Model for ListSizes {
     ghost use Rattle.std.specs.Prelude.{List, map};
     ghost use Rattle.rollup.specs.Sizes.{Entry, entry_of};
 
@@ -55,26 +153,27 @@ impl Model for PathSizes {
     ghost view = { λ p. map (λ e. entry_of e.0.items e.1) p.sizes.entries };
 }
 
-impl PathSizes {
-    /// No sizes.
-    pub fn new(alloc: Global) -> PathSizes
+impl ListSizes {
+    // No sizes.
+    fn new(alloc: Global) -> ListSizes
         ensures { result ≡ [] }
     {
-        PathSizes {
+        ListSizes {
             sizes: IndexMap::new(alloc),
             alloc,
         }
     }
 
-    /// How many lists there are.
-    pub fn len(&self) -> usize
-        ensures { result ≡ length self.now }
+    // How many lists there are.
+    fn len(&self) -> usize
+        ensures len { result ≡ length self.now }
+        ensures small { result < 2 ^ 63 }
     {
         self.sizes.len()
     }
 
-    /// The list of a place, and its sizes.
-    pub fn get(&self, i: usize) -> (&[usize], Sizes)
+    // The list at an index, and its sizes.
+    fn get(&self, i: usize) -> (&[usize], Sizes)
         requires { i < length self.now }
         ensures { slice_get self.now i ≡ Some (entry_of result.0.now result.1) }
     {
@@ -82,9 +181,9 @@ impl PathSizes {
         (numbers.as_slice(), *sizes)
     }
 
-    /// Makes one of the sizes of the numbers larger. A list that is there already is not copied, and a new one goes
-    /// last.
-    pub fn add(&mut self, part: Part, numbers: &[usize], size: u128) -> Result<(), NoMemory>
+    // Adds to one of the sizes of a list of numbers. A new list becomes the last one; a list that is there already is
+    // not copied.
+    fn add(&mut self, part: Part, numbers: &[usize], size: u128) -> Result<(), NoMemory>
         requires { (i : ℕ) → size_in part (slice_index_or self.old i no_entry) + size < 2 ^ 128 }
         ensures { OnOk result (IsGrown part numbers.now size self.old self.new) }
     {
@@ -95,5 +194,80 @@ impl PathSizes {
         let owned = numbers.to_vec(self.alloc)?;
         self.sizes.insert(owned, Sizes::of(part, size))?;
         Ok(())
+    }
+}
+
+/// The sizes of lists of label numbers, in the order in which the lists came. Contracts see each list with its
+/// sizes.
+#[derive(Drop)]
+pub struct PathSizes {
+    labels: LabelSizes,
+    lists: ListSizes,
+}
+
+impl Model for PathSizes {
+    ghost use Rattle.std.specs.Prelude.{List, ◌++◌};
+    ghost use Rattle.rollup.specs.Sizes.{Entry};
+
+    ghost Value = { List Entry };
+
+    ghost view = { λ p. p.labels ++ p.lists };
+}
+
+impl PathSizes {
+    /// No sizes.
+    pub fn new(alloc: Global) -> PathSizes
+        ensures { result ≡ [] }
+    {
+        PathSizes {
+            labels: LabelSizes::new(alloc),
+            lists: ListSizes::new(alloc),
+        }
+    }
+
+    /// How many lists there are.
+    pub fn len(&self) -> usize
+        ensures { result ≡ length self.now }
+    {
+        self.labels.len() + self.lists.len()
+    }
+
+    /// The list at an index, and its sizes.
+    pub fn get(&self, i: usize) -> (&[usize], Sizes)
+        requires { i < length self.now }
+        ensures { slice_get self.now i ≡ Some (entry_of result.0.now result.1) }
+    {
+        let count = self.labels.len();
+        if i < count {
+            return self.labels.get(i);
+        }
+        self.lists.get(i - count)
+    }
+
+    /// Adds to one of the sizes of a list of numbers. A new list becomes the last one; a list that is there already is
+    /// not copied.
+    pub fn add(&mut self, part: Part, numbers: &[usize], size: u128) -> Result<(), NoMemory>
+        requires { (i : ℕ) → size_in part (slice_index_or self.old i no_entry) + size < 2 ^ 128 }
+        ensures { OnOk result (IsGrown part numbers.now size self.old self.new) }
+    {
+        if numbers.len() == 1 {
+            return self.add_label(part, numbers[0], size);
+        }
+        self.lists.add(part, numbers, size)
+    }
+
+    // The same for a list of one number.
+    fn add_label(&mut self, part: Part, label: usize, size: u128) -> Result<(), NoMemory>
+        requires { (i : ℕ) → size_in part (slice_index_or self.old i no_entry) + size < 2 ^ 128 }
+        ensures { OnOk result (IsGrown part (label ∷ []) size self.old self.new) }
+    {
+        if let Some(i) = self.labels.find(label) {
+            self.labels.grow(i, part, size);
+            return Ok(());
+        }
+        if self.lists.len() == 0 {
+            return self.labels.push(label, Sizes::of(part, size));
+        }
+        self.lists.add(part, from_ref(&label), size)
     }
 }

@@ -11,7 +11,7 @@ ghost use Rattle.rollup.specs.Adding.{file_count, vm_count, file_where, vm_where
 use crate::answer::RollupAnswer;
 use crate::file::sizes_of_file;
 use crate::fresh::new_rows;
-use crate::merge::merge;
+use crate::ordered::OrderedRows;
 use dual_map::{Base, DualMap};
 use size_core::{LabelPool, Path, Steps};
 use std::alloc::Global;
@@ -26,14 +26,13 @@ pub struct RollupRow {
     pub file: u64,
 }
 
-/// The sizes of the paths of the files that were added so far. Contracts see the rows, ascending by path, each
-/// path once, and beside them the lengths and the mapped sizes of the files, whether a filter passed them or
-/// not.
+/// The sizes of the paths of all files added so far. Contracts see the rows, ascending by path, each path once, and
+/// the total length and mapped size of the files, whether a filter passed them or not.
 #[derive(Debug, Drop)]
 pub struct Rollup {
     alloc: Global,
     depth: u32,
-    rows: Vec<RollupRow>,
+    rows: OrderedRows,
     lengths: u64,
     mapped: u64,
 }
@@ -43,9 +42,9 @@ impl Model for Rollup {
 
     ghost Value = { Totals };
 
-    ghost view = { λ r. record { depth = r.depth; rows = r.rows.items; lengths = r.lengths; mapped = r.mapped } };
+    ghost view = { λ r. record { depth = r.depth; rows = r.rows; lengths = r.lengths; mapped = r.mapped } };
 
-    ghost invariant = { λ r. IsTotals r.depth r.rows.items r.lengths r.mapped };
+    ghost invariant = { λ r. IsTotals r.depth r.rows r.lengths r.mapped };
 }
 
 // The most that the lengths of all files, or their mapped sizes, add up to.
@@ -59,7 +58,7 @@ impl Rollup {
         Rollup {
             alloc,
             depth,
-            rows: Vec::new(alloc),
+            rows: OrderedRows::new(alloc),
             lengths: 0,
             mapped: 0,
         }
@@ -85,18 +84,18 @@ impl Rollup {
         requires { i < length self.now.rows }
         ensures { slice_get self.now.rows i ≡ Some result.now }
     {
-        &self.rows[i]
+        self.rows.row(i)
     }
 
     /// Adds the sizes of a file of `file_len` bytes: to each path the number of offsets, and of mapped addresses,
     /// at which the labels of `maps`, one pair of maps for each data source, spell it. The numbers of the labels
-    /// are those of `pool`. With `passes`, which has a truth for each label, a byte counts where one of its labels
-    /// is marked true.
+    /// are those of `pool`. With `passes`, which has a truth value for each label, a byte counts only if one of its
+    /// labels is marked true.
     ///
     /// # Errors
     ///
-    /// `TooManyBytes` where the lengths of all files added pass 2^63 - 1, and `MappedTooLarge` where they don't
-    /// and the mapped sizes do. After a refusal the rollup is as it was.
+    /// `TooManyBytes` if the lengths of all files added exceed 2^63 - 1, and `MappedTooLarge` if they don't and the
+    /// mapped sizes do. After an error the rollup is unchanged.
     pub fn add_file<L: Ledger>(
         &mut self,
         base: &Base,
@@ -112,8 +111,8 @@ impl Rollup {
         requires labels { All (LabelsBelow (length pool.now)) maps.now }
         requires passes { ForSome (option_copied passes) (λ marks. length marks ≡ length pool.now) }
 
-        // To the rows of whose path a test holds, as that it is one path or begins with one, the positions are
-        // added at which the labels count and spell such a path.
+        // For any test of a path (for example, that it is a given path or begins with one): the sizes of the rows
+        // that pass it grow by the number of positions whose labels count and form a path that passes it.
         ensures file { OnOk result ((test : List (List ℕ) → Bool)
             → file_where test self.new.rows
             ≡ file_where test self.old.rows
@@ -148,7 +147,7 @@ impl Rollup {
         }
         let sizes = sizes_of_file(self.alloc, base, maps, passes, steps)?;
         let new = new_rows(self.alloc, pool, &sizes)?;
-        merge(self.alloc, &mut self.rows, new)?;
+        self.rows.add(self.alloc, new)?;
         self.lengths = lengths as u64;
         self.mapped = mapped as u64;
         Ok(())

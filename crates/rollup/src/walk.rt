@@ -35,7 +35,7 @@ fn first_pieces<L: Ledger>(
     Ok(cursors)
 }
 
-// The least place at which a label changes, or the limit.
+// The least position at which a label changes, or the limit.
 fn next_stop(cursors: &[Cursor], at: u128, limit: u128) -> u128
     requires limit { at < limit }
     requires ahead { (i : ℕ) → i < length cursors.now → at < (slice_index_or cursors.now i no_cursor).end }
@@ -50,7 +50,7 @@ fn next_stop(cursors: &[Cursor], at: u128, limit: u128) -> u128
     to
 }
 
-// The numbers of the labels at hand, unless a map has none there.
+// The numbers of the labels at a position. False if a map has none there.
 fn labels_at(cursors: &[Cursor], at: u128, numbers: &mut Vec<usize>) -> Result<bool, AllocError>
     ensures all { IfOk result (λ all. all ≡ all_started at cursors.now) }
     ensures numbers { IfOk result (λ all. IsTrue all → numbers.new.items ≡ labels_of cursors.now) }
@@ -88,7 +88,7 @@ fn pass(marks: Option<&[bool]>, numbers: &[usize]) -> bool
     }
 }
 
-// Counts the positions from one place to another, which have the labels at hand.
+// Counts the positions from `at` up to `to`, which all have the current labels.
 fn count(
     sizes: &mut PathSizes,
     cursors: &[Cursor],
@@ -112,7 +112,7 @@ fn count(
     sizes.add(part, numbers.as_slice(), to - at)
 }
 
-// Goes on to a place: reads the next piece of each map whose piece at hand ends there.
+// Moves on to a position: reads the next piece of each map whose current piece ends there.
 fn advance<L: Ledger>(
     cursors: &mut [Cursor],
     maps: &[DualMap],

@@ -10,6 +10,7 @@ use Rattle.run_outcome.specs.declared.outcome.Outcome.{Outcome}
 use Rattle.run_outcome.specs.declared.outcome.Outcome.TheVariants.{Done, Usage, ReadFailed, TooLong, Config, UnknownSource, PatternSyntax, PatternTooBig, Bad, TooManyClaims, MappedTooLarge, NoMatch, PlaceOutside, WriteFailed, NoMemory}
 use Rattle.run_outcome.specs.Names.{file_name, source_name}
 
+-- The text of a usage error.
 abbrev pub usage_text : UsageKind → List ℕ
 usage_text Words = codes "unreadable words"
 usage_text BadNumber = codes "bad number"
@@ -42,10 +43,11 @@ config_number TooMany = 10
 abbrev pub file_line : Result Options UsageKind → ℕ → List ℕ → List ℕ
 file_line asked i text = codes "bloaty: " ++ file_name asked i ++ codes ": " ++ text ++ codes "\n"
 
+-- The line of a pattern that is refused.
 abbrev pub pattern_line : ℕ → List ℕ → List ℕ
 pattern_line i text = codes "bloaty: pattern " ++ decimal i ++ codes ": " ++ text ++ codes "\n"
 
--- the line for an outcome, where the words come to this
+-- the line for an outcome, where the arguments come to this
 abbrev pub line_of : Result Options UsageKind → Outcome → List ℕ
 line_of asked Done = []
 line_of asked (Usage kind) = codes "bloaty: usage: " ++ usage_text kind ++ codes "\n"

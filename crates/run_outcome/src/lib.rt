@@ -1,4 +1,4 @@
-//! How a run ends: its outcome, the exit status, and the line that tells it.
+//! How a run ends: its outcome, the exit status, and the line that reports it.
 #![tactic(auto)]
 
 mod line;

@@ -1,4 +1,4 @@
-//! The line that tells how a run ended.
+//! The line that reports how a run ended.
 
 ghost use Rattle.std.specs.Prelude.{◌≡◌, ◌≤◌, ◌<◌, ◌++◌, [], List, ℕ, Ok, Err, codes, decimal, slice_get, unwrap_or, OnOk, OnErr};
 ghost use Rattle.outside.specs.Causes.{Rose};
@@ -52,7 +52,7 @@ fn config_number(kind: ConfigKind) -> u64
     }
 }
 
-// The name of a base file by its place among them.
+// The name of a base file by its index among them.
 fn base_name(options: &Options, place: usize) -> &[u8]
     ensures { result.now ≡ unwrap_or (slice_get options.now.bases place) [] }
 {
@@ -62,7 +62,7 @@ fn base_name(options: &Options, place: usize) -> &[u8]
     &[]
 }
 
-// The name of a debug file, or of a base file, by its place behind the files.
+// The name of a debug file, or of a base file, by its index after the files.
 fn other_name(options: &Options, place: usize) -> &[u8]
     ensures { result.now ≡ unwrap_or (slice_get (other_names options.now) place) [] }
 {
@@ -189,7 +189,7 @@ fn tell_pattern<E: Sink>(err: &mut E, number: usize, text: &[u8]) -> Result<(), 
     write_pattern(err, number, text)
 }
 
-/// Writes the line for words that are misused.
+/// Writes the line for arguments that are misused.
 pub fn tell_usage<E: Sink>(err: &mut E, kind: UsageKind) -> Result<(), Failed>
     ensures whole { OnOk result (Grew (E.written err.old) (E.written err.new)
         (codes "bloaty: usage: " ++ usage_text kind ++ codes "\n")) }
@@ -202,7 +202,7 @@ pub fn tell_usage<E: Sink>(err: &mut E, kind: UsageKind) -> Result<(), Failed>
     )
 }
 
-/// Writes the line for want of memory.
+/// Writes the line for running out of memory.
 pub fn tell_no_memory<E: Sink>(err: &mut E) -> Result<(), Failed>
     ensures whole { OnOk result (Grew (E.written err.old) (E.written err.new) (codes "bloaty: out of memory\n")) }
     ensures later { E.faults err.old ≤ E.faults err.new }

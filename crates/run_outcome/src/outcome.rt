@@ -6,12 +6,12 @@ use config_text::ConfigKind;
 use size_core::{Fault, NoMemory};
 use size_options::UsageKind;
 
-/// How a run ends. File 0 is the configuration, and the files have the numbers from 1 on, in the order of the words.
+/// How a run ends. File 0 is the configuration, and the files have the numbers from 1 on, in the order of the command line.
 #[derive(Clone, Copy, Debug, PartialEq, Eq, Hash)]
 pub enum Outcome {
     /// The report was written whole.
     Done,
-    /// The words ask for nothing that is done.
+    /// The arguments are misused.
     Usage(UsageKind),
     /// The file couldn't be read.
     ReadFailed(usize),
@@ -31,13 +31,13 @@ pub enum Outcome {
         fault: Fault,
         offset: u64,
     },
-    /// The data sources asked make more claims on the file than the limit.
+    /// The data sources in `-d` make more claims on the file than the limit.
     TooManyClaims(usize),
     /// The mapped sizes of the files pass 2^63 - 1.
     MappedTooLarge,
     /// The identifiers of the file and its debug file differ, or one has none.
     NoMatch,
-    /// The place isn't below the file's end, or isn't mapped.
+    /// The location isn't below the file's end, or isn't mapped.
     PlaceOutside,
     /// The output didn't take the whole report.
     WriteFailed,

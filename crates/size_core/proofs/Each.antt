@@ -29,7 +29,7 @@ both : (r s : Check) → (r >> s) ≡ Ok tt → (r ≡ Ok tt) × (s ≡ Ok tt)
 both (Ok x) s h = (refl, h)
 both (Err e) s h = cc
 
--- where all of the checks hold, each does
+-- Where all of the checks hold, each of them does.
 pub each_at : (check : ℕ → Check) (count i k : ℕ) → each check i count ≡ Ok tt → i ≤ k → k < i + count → check k ≡ Ok tt
 unfolding each
 each_at check zero i k h low high = absurd (omega arith)
@@ -37,7 +37,7 @@ each_at check (suc count) i k h low high =
     let parts = both (check i) (each check (i + 1) count) h in
     elim (cases_eq k i) [ inl same ↦ rw same parts.0 | inr other ↦ each_at check count (i + 1) k parts.1 (omega arith) (omega arith) ]
 
--- the same three, for a loop whose invariant is the equation
+-- The same three laws, for a loop whose invariant is the equation.
 pub each_next : (check : ℕ → Check) (n i : ℕ) → i < n → check i ≡ Ok tt → each check i (n - i) ≡ each check (i + 1) (n - (i + 1))
 each_next check n i lt fine = sym (goes_on check n i (each check i (n - i)) lt fine refl)
 

@@ -1,4 +1,4 @@
--- What the first of a list of checks means.
+-- What the first failing check of a list means.
 use Rattle.std.proofs.Common.{◌≡◌, ℕ, zero, suc, ◌+◌, ◌<◌, List, [], ◌∷◌, ◌++◌, get_or, Ok, Err, refl, sym, ap, arith}
 use Rattle.std.specs.Prelude.{MatchResult}
 use Rattle.size_core.specs.declared.fault.BadFile.{BadFile}
@@ -31,7 +31,7 @@ all_hold (Ok x ∷ cs) h zero lt = refl
 all_hold (Ok x ∷ cs) h (suc j) lt = all_hold cs h j (omega arith)
 all_hold (Err e ∷ cs) h j lt = cc
 
--- what a function answers that returns the first of these
+-- What a function returns that returns the first of these checks that fails.
 pub means : (r : Check) (cs : List Check) → r ≡ first_of cs → MatchResult r (λ _. AllHold cs) (IsFirstFault cs)
 means (Ok x) cs h = all_hold cs (sym h)
 means (Err e) cs h = is_first cs e (sym h)

@@ -1,4 +1,4 @@
--- How a look-up and an addition of indexmap act on the list of labels.
+-- What a look-up and an insertion of indexmap do to the list of labels.
 use Rattle.std.proofs.Common.{◌≡◌, ◌∙◌, ℕ, Bool, true, false, ◌||◌, List, [], ◌∷◌, ◌++◌, map, Option, Some, option_map, slice_get, refl, sym, ap, if◌then◌else◌}
 use Rattle.std.specs.Prelude.{find}
 use Rattle.std.specs.List.{list_any, IsDistinct, AllByRecursion}
@@ -16,7 +16,7 @@ find_step : {V : Type 0} (p : V → Bool) (x k : V) (found : Option V) (b : Bool
 find_step p x k found true is later e = ap p (sym (same e)) ∙ is
 find_step p x k found false is later e = later e
 
--- what `find` finds passes
+-- What `find` finds passes the test.
 find_passes : {V : Type 0} (p : V → Bool) (keys : List V) (k : V) → find p keys ≡ Some k → p k ≡ true
 find_passes p [] k e = cc
 find_passes p (x ∷ xs) k e = find_step p x k (find p xs) (p x) refl (find_passes p xs k) e
@@ -26,7 +26,7 @@ module _ {V : Type 0} (f : V → List ℕ) (label : List ℕ) where
   any_map [] = refl
   any_map (k ∷ ks) = ap (λ b. bytes_eq label (f k) || b) (any_map ks)
 
-  -- a label that the look-up finds
+  -- The look-up finds this label.
   pub had : (keys : List V) (i : ℕ) (k : V) → true ≡ list_any (λ k. bytes_eq label (f k)) keys → find (λ k. bytes_eq label (f k)) keys ≡ Some k
       → slice_get keys i ≡ Some k → (map f keys ≡ with_label (map f keys) label) × (slice_get (map f keys) i ≡ Some label)
   had keys i k there found at = (
@@ -34,7 +34,7 @@ module _ {V : Type 0} (f : V → List ℕ) (label : List ℕ) where
     slice_get-map f keys i ∙ ap (option_map f) at ∙ ap Some (sym ((bytes_eq-Decides label (f k)).0 (find_passes _ keys k found))),
   )
 
-  -- a label that it doesn't find goes last
+  -- The look-up doesn't find this label, so it is appended.
   pub added : (keys new : List V) (i : ℕ) (v k : V) → f v ≡ label → false ≡ list_any (λ k. bytes_eq label (f k)) keys
       → new ≡ (if list_any (λ k. bytes_eq (f v) (f k)) keys then keys else keys ++ v ∷ [])
       → slice_get new i ≡ Some k → bytes_eq (f v) (f k) ≡ true
@@ -46,7 +46,7 @@ module _ {V : Type 0} (f : V → List ℕ) (label : List ℕ) where
     slice_get-map f new i ∙ ap (option_map f) at ∙ ap Some (sym ((bytes_eq-Decides (f v) (f k)).0 equal) ∙ is),
   )
 
--- labels are distinct where their vectors are told apart by them
+-- Labels are distinct where their vectors are distinguished by them.
 each-distinct : {V : Type 0} (f : V → List ℕ) (v : V) (keys : List V) → AllByRecursion (λ w. bytes_eq (f v) (f w) ≡ false) keys → AllByRecursion (λ l. bytes_eq (f v) l ≡ false) (map f keys)
 each-distinct f v [] h = tt
 each-distinct f v (w ∷ keys) h = (h.0, each-distinct f v keys h.1)

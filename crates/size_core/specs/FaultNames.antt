@@ -3,6 +3,7 @@ use Rattle.std.specs.Prelude.{ℕ, List, codes}
 use Rattle.size_core.specs.declared.fault.Fault.{Fault}
 use Rattle.size_core.specs.declared.fault.Fault.TheVariants.{UnknownFormat, Archive, Universal, Truncated, BadHeader, TablePastEnd, BadIndex, NameOutside, SectionPastEnd, RangeOverflow, BadCommand, BadLeb, BadWasm, SourceNotForFile, CompressedDebugInfo, BadUnit, BadAbbrev, UnknownForm, OffsetOutside, BadRangeList, BadLine, BadString, NewerDwarf, Relocatable}
 
+-- The name of a fault, as error lines on standard error print it.
 abbrev pub fault_name : Fault → List ℕ
 fault_name UnknownFormat = codes "UnknownFormat"
 fault_name Archive = codes "Archive"

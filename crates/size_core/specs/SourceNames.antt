@@ -4,7 +4,7 @@ use Rattle.std.specs.Str.{bytes_eq}
 use Rattle.size_core.specs.declared.source.Source.{Source}
 use Rattle.size_core.specs.declared.source.Source.TheVariants.{Segments, Sections, Symbols, RawSymbols, CompileUnits, Inlines, InputFiles}
 
--- the data source of a name
+-- The data source with this name.
 abbrev pub source_named : List ℕ → Option Source
 source_named name =
     if bytes_eq name (codes "segments") then Some Segments

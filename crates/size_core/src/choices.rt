@@ -1,6 +1,6 @@
-//! What the words of a run choose among.
+//! The choices that the command line offers: how to sort, which sizes to show, and the format of the report.
 
-/// Which size orders the rows.
+/// Which size a report sorts its rows by.
 #[derive(Clone, Copy, Debug, PartialEq, Eq, Hash)]
 pub enum Sort {
     /// The VM size.
@@ -19,13 +19,13 @@ pub enum Domain {
     Both,
 }
 
-/// How a report is written.
+/// The format of a report.
 #[derive(Clone, Copy, Debug, PartialEq, Eq, Hash)]
 pub enum Format {
-    /// Columns for a reader.
+    /// Columns for a terminal.
     Text,
-    /// Fields with commas between them.
+    /// Comma-separated fields.
     Csv,
-    /// Fields with tabs between them.
+    /// Tab-separated fields.
     Tsv,
 }

@@ -1,17 +1,18 @@
-//! Claims of a data source on parts of a file and of its address spaces, and the loads that tie the two.
+//! What data sources claim, and how a file is loaded: spans, claims and loads.
 
-/// Where the bytes lie that a claim names.
+/// Which addresses a claim names: file offsets, virtual addresses, or both.
 #[derive(Clone, Copy, Debug, PartialEq, Eq, Hash)]
 pub enum Side {
-    /// File offsets; the addresses that are loaded from them follow.
+    /// File offsets. The virtual addresses that are loaded from them are claimed too.
     File,
-    /// Virtual addresses; the file offsets that are loaded there follow.
+    /// Virtual addresses. The file offsets that are loaded there are claimed too.
     Vm,
-    /// File offsets and virtual addresses, each as they stand.
+    /// File offsets and virtual addresses. Neither is translated.
     Both,
 }
 
-/// `len` bytes from `start` on: virtual addresses of an address space, or file offsets, whose space is 0.
+/// A range of `len` bytes that begins at `start`. `start` is a virtual address in the address space `space`, or
+/// a file offset, and then `space` is 0.
 #[derive(Clone, Copy, Debug, PartialEq, Eq, Hash)]
 pub struct Span {
     pub space: u32,
@@ -19,7 +20,7 @@ pub struct Span {
     pub len: u64,
 }
 
-/// Bytes that a data source gives a label. A span that isn't used is 0, 0, 0.
+/// A claim: the label that a data source gives a range of bytes. A span that the side doesn't use is all zero.
 #[derive(Clone, Copy, Debug, PartialEq, Eq, Hash)]
 pub struct Claim {
     pub side: Side,
@@ -29,8 +30,8 @@ pub struct Claim {
     pub label: usize,
 }
 
-/// A part of the file that stands at virtual addresses: `memsz` bytes from `vaddr` on, of which the first
-/// `filesz` come from the file offset `offset` on.
+/// A part of the file that is loaded: `memsz` bytes at the virtual address `vaddr`. The first `filesz` of them
+/// come from the file, from the offset `offset`.
 #[derive(Clone, Copy, Debug, PartialEq, Eq, Hash)]
 pub struct Load {
     pub space: u32,

@@ -1,29 +1,29 @@
-//! What can be wrong with a file.
+//! The faults of a file.
 
 ghost use Rattle.std.specs.Prelude.{◌≡◌};
 
 /// What is wrong with a file.
 #[derive(Clone, Copy, Debug, PartialEq, Eq, Hash)]
 pub enum Fault {
-    /// The first bytes name no format.
+    /// The file's first bytes are of no known format.
     UnknownFormat,
     /// The file is an archive of objects.
     Archive,
     /// The file is a universal Mach-O file.
     Universal,
-    /// A field doesn't fit what holds it.
+    /// A field or a number reaches past the end of its header, section or file.
     Truncated,
-    /// A header field has a value that isn't read.
+    /// A header field has a value that isn't supported.
     BadHeader,
-    /// A table passes the file's end.
+    /// A table reaches past the end of the file.
     TablePastEnd,
     /// An index names no section or entry.
     BadIndex,
-    /// A name isn't in its string table, or has no end there.
+    /// A name's offset is outside its string table, or the name has no terminating null byte there.
     NameOutside,
-    /// A section's bytes pass the file's end.
+    /// A section's bytes reach past the end of the file.
     SectionPastEnd,
-    /// A virtual address plus a size passes 2^64.
+    /// A virtual address plus a size exceeds 2^64.
     RangeOverflow,
     /// A Mach-O load command has a wrong size.
     BadCommand,
@@ -31,27 +31,27 @@ pub enum Fault {
     BadLeb,
     /// A WebAssembly import or code entry can't be read.
     BadWasm,
-    /// The data source isn't offered for this kind of file.
+    /// The data source isn't available for this kind of file.
     SourceNotForFile,
     /// A debug section is compressed.
     CompressedDebugInfo,
-    /// A DWARF length or unit header is wrong.
+    /// A DWARF unit's length or header is wrong.
     BadUnit,
-    /// The abbreviation of a unit's root isn't declared.
+    /// A unit's root refers to an abbreviation that isn't declared.
     BadAbbrev,
-    /// A DWARF form that isn't known.
+    /// A DWARF form is unknown.
     UnknownForm,
-    /// A DWARF offset or index leaves its section.
+    /// A DWARF offset or index is outside its section.
     OffsetOutside,
     /// A range list can't be read.
     BadRangeList,
     /// A line program can't be read.
     BadLine,
-    /// A debug string has no end.
+    /// A debug string has no terminating null byte.
     BadString,
-    /// Not in use: DWARF 2 to 5 are read, and units of other versions are passed over.
+    /// Not in use. DWARF 2 to 5 are read, and units of other versions are skipped.
     NewerDwarf,
-    /// Not in use: relocatable files are read.
+    /// Not in use. Relocatable files are read.
     Relocatable,
 }
 
@@ -91,7 +91,7 @@ impl Fault {
     }
 }
 
-/// A fault, and the file offset at which it stands.
+/// A fault and the file offset, in bytes, where it was found.
 #[derive(Clone, Copy, Debug, PartialEq, Eq, Hash)]
 pub struct BadFile {
     pub fault: Fault,

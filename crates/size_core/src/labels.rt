@@ -1,4 +1,4 @@
-//! Labels with numbers.
+//! A pool of labels, each with a number.
 
 ghost use Rattle.std.specs.Prelude.{◌≡◌, ◌<◌, [], Some, IfOk, OnErr, length, slice_get};
 ghost use Rattle.std.specs.List.{IsDistinct};
@@ -10,7 +10,7 @@ use indexmap::IndexSet;
 use std::alloc::Global;
 use std::marker::Model;
 
-/// Labels and their numbers, in the order in which they came. No label stands in it twice.
+/// Distinct labels and their numbers, in the order of insertion.
 #[derive(Drop)]
 pub struct LabelPool {
     labels: IndexSet<Vec<u8>>,
@@ -30,7 +30,7 @@ impl Model for LabelPool {
 }
 
 impl LabelPool {
-    /// A pool with no labels.
+    /// An empty pool.
     pub fn new(alloc: Global) -> LabelPool
         ensures { result ≡ [] }
     {
@@ -40,7 +40,7 @@ impl LabelPool {
         }
     }
 
-    /// How many labels there are, of which no two are the same.
+    /// The number of labels. No two labels are equal.
     pub fn len(&self) -> usize
         ensures count { result ≡ length self.now }
         ensures distinct { IsDistinct bytes_eq self.now }
@@ -48,8 +48,8 @@ impl LabelPool {
         self.labels.len()
     }
 
-    /// The label's number. A label that is there already is not copied, and a new one goes last; after a
-    /// refusal the pool is as it was.
+    /// Returns the label's number. A new label is copied and gets the next number. A label that the pool has
+    /// already is not copied. On an error the pool is unchanged.
     pub fn intern(&mut self, label: &[u8]) -> Result<usize, NoMemory>
         ensures pool { IfOk result (λ i. self.new ≡ with_label self.old label.now) }
         ensures number { IfOk result (λ i. slice_get self.new i ≡ Some label.now) }
@@ -63,7 +63,7 @@ impl LabelPool {
         Ok(index)
     }
 
-    /// The label of a number.
+    /// The label with this number.
     pub fn get(&self, id: usize) -> &[u8]
         requires { id < length self.now }
         ensures { slice_get self.now id ≡ Some result.now }

@@ -1,5 +1,5 @@
-//! The types that every room of the profiler speaks of: faults of files, claims and loads, labels with
-//! their numbers, lists, and a counter of steps.
+//! The types that all crates of the profiler share: faults, claims, loads, numbered labels, lists, and a
+//! counter of steps.
 #![tactic(auto)]
 
 mod choices;
@@ -25,6 +25,3 @@ pub use place::Place;
 pub use source::Source;
 pub use steps::Steps;
 pub use text::{Bytes, Text};
-
-#[cfg(test)]
-mod tests;

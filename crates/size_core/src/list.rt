@@ -1,22 +1,22 @@
-//! Lists that contracts see as the list of their items.
+//! A vector that contracts see as the list of its items.
 
-ghost use Rattle.std.specs.Prelude.{◌≡◌, ◌<◌, [], ◌∷◌, ◌++◌, length, slice_get, OnOk, OnErr};
+ghost use Rattle.std.specs.Prelude.{◌≡◌, ◌<◌, [], ◌∷◌, ◌++◌, length, slice_get, IfOk, OnOk, OnErr};
 
 use crate::memory::NoMemory;
 use crate::text::{Bytes, Text};
 use std::alloc::Global;
 use std::marker::Model;
 
-/// A vector whose items contracts see, and not its memory.
+/// A vector. Contracts see its items and not its allocation.
 #[derive(Debug, Drop)]
 pub struct List<T> {
     items: Vec<T>,
 }
 
-/// Names, as the words of a run give them.
+/// Names from the command line.
 pub type Names = List<Text>;
 
-/// The labels of a byte, one for each data source, in their order.
+/// The labels of a byte: one for each data source, in the order in which the sources were asked for.
 pub type Path = List<Bytes>;
 
 impl<T> Model for List<T> {
@@ -28,7 +28,7 @@ impl<T> Model for List<T> {
 }
 
 impl<T: Drop> List<T> {
-    /// A list with no items.
+    /// An empty list.
     pub fn new(alloc: Global) -> Self
         ensures { result ≡ [] }
     {
@@ -37,7 +37,16 @@ impl<T: Drop> List<T> {
         }
     }
 
-    /// Adds an item at the end. After a refusal the list is as it was.
+    /// An empty list with memory for `count` items.
+    pub fn with_capacity(alloc: Global, count: usize) -> Result<Self, NoMemory>
+        ensures { IfOk result (λ list. list ≡ []) }
+    {
+        Ok(List {
+            items: Vec::with_capacity(alloc, count)?,
+        })
+    }
+
+    /// Appends an item. On an error the list is unchanged.
     pub fn push(&mut self, item: T) -> Result<(), NoMemory>
         ensures ok { OnOk result (self.new ≡ self.old ++ item ∷ []) }
         ensures err { OnErr result (self.new ≡ self.old) }
@@ -46,14 +55,14 @@ impl<T: Drop> List<T> {
         Ok(())
     }
 
-    /// How many items there are.
+    /// The number of items.
     pub fn len(&self) -> usize
         ensures { result ≡ length self.now }
     {
         self.items.len()
     }
 
-    /// The item of a number, from 0 on.
+    /// The item at index `i`, counted from 0.
     pub fn get(&self, i: usize) -> &T
         requires { i < length self.now }
         ensures { slice_get self.now i ≡ Some result.now }

@@ -1,9 +1,9 @@
-//! Want of memory.
+//! The error for running out of memory.
 
 use std::alloc::{AllocError, AllocFailed};
 use thiserror::Error;
 
-/// There was not enough memory.
+/// An allocation failed.
 #[derive(Clone, Copy, Debug, PartialEq, Eq, Hash, Error)]
 #[error("out of memory")]
 pub struct NoMemory;

@@ -2,7 +2,7 @@
 
 ghost use Rattle.std.specs.Prelude.{◌≡◌};
 
-/// What gives each byte of a file its label.
+/// A built-in data source: it labels the bytes of a file.
 #[derive(Clone, Copy, Debug, PartialEq, Eq, Hash)]
 pub enum Source {
     Segments,
@@ -17,7 +17,7 @@ pub enum Source {
 impl Source {
     ghost use Rattle.size_core.specs.SourceNames.{source_named};
 
-    /// The data source of a name, as `-d` and a configuration write it.
+    /// The data source with this name, as `-d` and configuration files write it.
     pub fn named(name: &[u8]) -> Option<Source>
         ensures { result ≡ source_named name.now }
     {

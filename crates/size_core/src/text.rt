@@ -1,4 +1,4 @@
-//! Owned bytes and texts.
+//! Owned bytes and owned text.
 
 ghost use Rattle.std.specs.Prelude.{◌≡◌, IfOk};
 
@@ -6,7 +6,7 @@ use crate::memory::NoMemory;
 use std::alloc::Global;
 use std::marker::Model;
 
-/// Bytes of its own.
+/// An owned byte string.
 #[derive(Debug, Drop)]
 pub struct Bytes {
     bytes: Vec<u8>,
@@ -22,7 +22,7 @@ impl Model for Bytes {
 }
 
 impl Bytes {
-    /// These bytes, copied.
+    /// A copy of these bytes.
     pub fn of(alloc: Global, bytes: &[u8]) -> Result<Bytes, NoMemory>
         ensures { IfOk result (λ b. b ≡ bytes.now) }
     {
@@ -37,7 +37,7 @@ impl Bytes {
         self.bytes.as_slice()
     }
 
-    /// The same bytes once more.
+    /// A copy of these bytes.
     pub fn copy(&self) -> Result<Bytes, NoMemory>
         ensures { IfOk result (λ b. b ≡ self.now) }
     {
@@ -45,7 +45,7 @@ impl Bytes {
     }
 }
 
-/// A text of its own: bytes that are UTF-8.
+/// An owned UTF-8 string.
 #[derive(Debug, Drop)]
 pub struct Text {
     text: String,
@@ -61,7 +61,7 @@ impl Model for Text {
 }
 
 impl Text {
-    /// This text, copied.
+    /// A copy of this string.
     pub fn of(alloc: Global, text: &str) -> Result<Text, NoMemory>
         ensures { IfOk result (λ t. t ≡ text.now) }
     {
@@ -69,21 +69,21 @@ impl Text {
         Ok(Text { text, alloc })
     }
 
-    /// The text.
+    /// The string.
     pub fn as_str(&self) -> &str
         ensures { result.now ≡ self.now }
     {
         self.text.as_str()
     }
 
-    /// The text's bytes.
+    /// The string's UTF-8 bytes.
     pub fn as_slice(&self) -> &[u8]
         ensures { result.now ≡ self.now }
     {
         self.text.as_bytes()
     }
 
-    /// The same text once more.
+    /// A copy of this string.
     pub fn copy(&self) -> Result<Text, NoMemory>
         ensures { IfOk result (λ t. t ≡ self.now) }
     {

@@ -1,4 +1,4 @@
--- What the rows of two rollups side by side say of both.
+-- What the merged rows of two rollups say about both.
 use Rattle.std.proofs.Common.{◌≡◌, ℕ, ◌+◌, ◌<◌, ◌≤◌, Bool, true, false, cond, List, ◌++◌, length, drop, refl, sym, ap, ◌∙◌, arith, map, ◌⊎◌, inl, inr}
 use Rattle.std.specs.Prelude.{All}
 use Rattle.std.specs.List.{sum_by}
@@ -15,7 +15,7 @@ use Rattle.size_growth.specs.Paths.{IsGrowth}
 use Rattle.size_growth.specs.Sizes.{HasSize}
 use Rattle.size_growth.proofs.MergeLemmas.{equal_path, each-merged, merged-sorted, sum-merged}
 
--- past the last new row the base rows are left
+-- Past the last new row only base rows are left.
 pub rest-left : (ns bs : List RollupRow) (i j : ℕ) (out new all : List GrowthPath) → length ns ≤ i → out ++ merged (drop i ns) (drop j bs) ≡ all → new ≡ out ++ map base_path (drop j bs) → new ≡ all
 rest-left ns bs i j out new all le so-far is =
     let z : merged (drop i ns) (drop j bs) ≡ map base_path (drop j bs) = rw (drop_all i ns le) refl in
@@ -28,7 +28,7 @@ cond-zero : (b : Bool) → ◌≡◌ {A = ℕ} (cond b 0 0) 0
 cond-zero true = refl
 cond-zero false = refl
 
--- a size of the new rows, and one of the base rows
+-- A size of the new rows, and one of the base rows.
 module _ (w : GrowthPath → ℕ) (u : RollupRow → ℕ) where
   of-new : ((n : RollupRow) → w (new_path n) ≡ u n) → ((b : RollupRow) → w (base_path b) ≡ 0) → ((n b : RollupRow) → row_cmp n b ≡ Equal → w (both_path n b) ≡ u n)
       → (ns bs : List RollupRow) → sum_by w (merged ns bs) ≡ sum_by u ns

@@ -1,4 +1,4 @@
--- The entries of paths within a limit, and their sizes, which are no more than those of all paths.
+-- The entries of paths within a limit, and their sizes, which don't exceed those of all paths.
 use Rattle.std.proofs.Common.{◌≡◌, ℕ, ◌≤◌, List, [], length, drop, map, refl, sym, ap, ◌∙◌, arith}
 use Rattle.std.specs.Prelude.{All, filter}
 use Rattle.std.specs.List.{sum_by}
@@ -40,7 +40,7 @@ item-range o paths g group = record { inside = omega (arith, group.some); within
 same-others : (n m : ℕ) (s t : GrowthSizes) → n ≡ m → s ≡ t → ◌≡◌ {A = Entry} (record { kind = Others n; sizes = s; below = [] }) (record { kind = Others m; sizes = t; below = [] })
 same-others n m s t a b = rw (a, b) refl
 
--- items that are left over stand for their entries taken together
+-- Items that are left out represent one entry for their entries.
 others-are : (o : RowOptions) (level : ℕ) (paths : List GrowthPath) (left : List Item) → item_entry level paths (others_item o left) ≡ others_entry (map (item_entry level paths) left)
 others-are o level paths left =
     let f = item_entry level paths in
@@ -52,7 +52,7 @@ module _ (o : RowOptions) (level : ℕ) (paths : List GrowthPath) (groups : List
   abbrev items : List Item
   items = map item_of groups
 
-  -- labels as items stand for the entries of the children
+  -- The items of labels represent the entries of the children.
   items-are : map (item_entry level paths) items ≡ children o (table_at level paths)
   items-are = map-map (item_entry level paths) item_of groups ∙ entries
 
@@ -70,7 +70,7 @@ module _ (o : RowOptions) (level : ℕ) (paths : List GrowthPath) (groups : List
   left-le : (size : GrowthSizes → ℕ) → IsSize size → (limit : ℕ) → sum_by (λ (i : Item). size i.sizes) (drop limit items) ≤ sum_by (λ (p : GrowthPath). size p.sizes) paths
   left-le size is limit = omega (arith, sum_by-take-drop (λ (i : Item). size i.sizes) items limit, sum-le size is)
 
-  -- what a limit leaves over fits
+  -- The items that a limit leaves out fit.
   pub left-fits : (limit : ℕ) → Fits (sums paths) → Fits (sums_by (λ (i : Item). i.sizes) (drop limit items))
   left-fits limit fits = record {
     new_vm = omega (arith, left-le (λ s. s.new_vm) (record { all = λ t. refl; others = λ es. refl }) limit, fits.new_vm);
@@ -82,7 +82,7 @@ module _ (o : RowOptions) (level : ℕ) (paths : List GrowthPath) (groups : List
   abbrev kept : List Item
   kept = within o.limit (λ (i j : Item). nat_cmp j.key i.key) (others_item o) items
 
-  -- the items within the limit stand for the entries
+  -- The items within the limit represent the entries.
   pub entries-are : map (item_entry level paths) kept ≡ entries_of o (table_at level paths)
   entries-are =
       let x = others_item o (drop o.limit items) in

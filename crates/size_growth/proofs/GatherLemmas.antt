@@ -1,4 +1,4 @@
--- Groups are gathered run by run, and stand in order.
+-- Groups are collected run by run, and are in order.
 use Rattle.std.proofs.Common.{◌≡◌, ℕ, ◌+◌, ◌<◌, ◌≤◌, List, [], ◌∷◌, ◌++◌, length, drop, get_or, map, sym, ap, ◌∙◌, Bool, true, false, cond, arith}
 use Rattle.std.specs.Prelude.{All, filter}
 use Rattle.std.specs.List.{AllByRecursion}
@@ -17,14 +17,14 @@ use Rattle.size_growth.specs.Runs.{Under, runs, table_at}
 use Rattle.size_growth.proofs.RunLemmas.{run-front, runs-end}
 use Rattle.size_growth.proofs.SumLemmas.{sums_table}
 
--- a group stands for its run
+-- A group represents its run.
 pub group-is : (o : RowOptions) (level : ℕ) (paths : List GrowthPath) (g : Group) → IsGroup o paths g
     → label_entry (record { label = get_or (labels_at level paths) g.from []; below = table_at (level + 1) (mid g.from g.to paths) }) ≡ group_entry level paths g
 group-is o level paths g group =
     let one : GrowthSizes → Entry = λ s. record { kind = Label (get_or (labels_at level paths) g.from []); sizes = s; below = table_at (level + 1) (mid g.from g.to paths) } in
     ap one (sums_table (level + 1) (mid g.from g.to paths) ∙ sym group.sizes)
 
--- the entries of one group more
+-- The entries of one more group.
 pub gather : (o : RowOptions) (level : ℕ) (paths : List GrowthPath) (groups : List Group) (g : Group) → IsGroup o paths g → IsRun level paths g.from g.to
     → map (group_entry level paths) groups ++ filter (is_child o) (map label_entry (runs (table_at level (drop g.from paths)))) ≡ filter (is_child o) (map label_entry (runs (table_at level paths)))
     → map (group_entry level paths) (groups ++ cond (has_changed o g.sizes) (g ∷ []) []) ++ filter (is_child o) (map label_entry (runs (table_at level (drop g.to paths))))
@@ -37,11 +37,11 @@ gather o level paths groups g group run so-far =
     ap (map label_entry) (run-front level paths g.from g.to group.some group.within run) ∙ ap (λ (x : Entry). x ∷ rest) (group-is o level paths g group) in
     one-more f groups g (filter (is_child o) rest) (has_changed o g.sizes) ∙ (sym (ap (λ es. map f groups ++ filter (is_child o) es) e) ∙ so-far)
 
--- past the last path there are no entries
+-- Past the last path there are no entries.
 pub none-left : (o : RowOptions) (level : ℕ) (paths : List GrowthPath) (from : ℕ) (es : List Entry) → length paths ≤ from → es ++ filter (is_child o) (map label_entry (runs (table_at level (drop from paths)))) ≡ es
 none-left o level paths from es le = ap (λ us. es ++ filter (is_child o) (map label_entry us)) (runs-end level paths from le) ∙ append-nil es
 
--- groups that end before another begins
+-- Groups that end before another begins.
 rise-push : (groups : List Group) (g : Group) → All (λ (h : Group). h.from < g.from) groups → Rise groups → Rise (groups ++ g ∷ [])
 rise-push [] g before rise = (tt, tt)
 rise-push (h ∷ groups) g before rise =
@@ -56,7 +56,7 @@ pub rise-kept : (groups : List Group) (g : Group) (b : Bool) → All (λ (h : Gr
 rise-kept groups g true before rise = rise-push groups g before rise
 rise-kept groups g false before rise = rw append-nil rise
 
--- groups that end at or before a place begin before it
+-- Groups that end at or before a position begin before it.
 pub begin-before : (o : RowOptions) (paths : List GrowthPath) (groups : List Group) (at : ℕ) → All (IsGroup o paths) groups → All (λ (h : Group). h.to ≤ at) groups → All (λ (h : Group). h.from < at) groups
 begin-before o paths groups at every before k d lt = let some = (every k d lt).some in omega (arith, some, before k d lt)
 

@@ -1,4 +1,4 @@
--- Where paths ascend, each label that they begin with stands once.
+-- Where paths are sorted, each label that they begin with comes once.
 use Rattle.std.proofs.Common.{◌≡◌, ℕ, ◌+◌, ◌<◌, List, [], ◌∷◌, length, drop, refl, sym, ap, ◌∙◌, subst, Bool, true, false, cond, arith}
 use Rattle.std.specs.Prelude.{All}
 use Rattle.std.specs.List.{sum_by, AllByRecursion}
@@ -23,7 +23,7 @@ use Rattle.size_growth.specs.Runs.{Under, first_label, joined, path_from, runs}
 abbrev label_cmp : List ℕ → List ℕ → Ordering
 label_cmp a b = slice_cmp nat_cmp a b
 
--- the sizes under a label
+-- The sizes under a label.
 module _ (size : GrowthSizes → ℕ) (label : List ℕ) where
   abbrev of-path : GrowthPath → ℕ
   of-path p = size p.sizes
@@ -65,11 +65,11 @@ module _ (size : GrowthSizes → ℕ) (label : List ℕ) where
   runs-size [] = refl
   runs-size (p ∷ paths) = omega (arith, joined-size p (runs paths), runs-size paths, sum_by-cons (λ (q : GrowthPath). cond (bytes_eq (first_label q) label) (of-path q) 0) p paths)
 
--- a path below all that stand under a label
+-- A path below all that are under a label.
 abbrev Before : GrowthPath → Under → Type 0
 Before p u = AllByRecursion (λ (q : GrowthPath). path_cmp p.path (u.label ∷ q.path) ≡ Less) u.below
 
--- the first label of a path and what stands behind it
+-- The first label of a path and the rest.
 parts : (p : GrowthPath) (path : List (List ℕ)) → p.path ≡ path → 0 < length path → p.path ≡ first_label p ∷ drop 1 p.path
 parts p [] e lt = absurd (omega arith)
 parts p (l ∷ path) e lt = rw e refl
@@ -93,7 +93,7 @@ before-runs p (q ∷ paths) some less =
     let P : List (List ℕ) → Type 0 = λ path. path_cmp p.path path ≡ Less in
     before-joined p q (runs paths) (subst P (parts q q.path refl some.0) less.0) (before-runs p paths some.1 less.1)
 
--- paths that begin with different labels are ordered by them
+-- Paths that begin with different labels are ordered by them.
 by-label : (l k : List ℕ) (p q : List (List ℕ)) → bytes_eq l k ≡ false → path_cmp (l ∷ p) (k ∷ q) ≡ Less → label_cmp l k ≡ Less
 by-label l k p q other less = at (label_cmp l k) refl less
   where
@@ -118,7 +118,7 @@ behind p l (q ∷ ps) e is h =
     let whole : path_cmp (l ∷ drop 1 p.path) (l ∷ q.path) ≡ Less = subst (λ path. path_cmp path (l ∷ q.path) ≡ Less) (is ∙ ap (λ k. k ∷ drop 1 p.path) e) h.0 in
     (sym (past l (drop 1 p.path) q.path) ∙ whole, behind p l ps e is h.1)
 
--- a label has some paths, in order
+-- A label has at least one path, and its paths are sorted.
 abbrev Rises : Under → Type 0
 Rises u = (0 < length u.below) × IsStrictlySortedBy growth_cmp u.below
 

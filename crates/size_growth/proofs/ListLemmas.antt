@@ -13,7 +13,7 @@ use Rattle.size_growth.specs.Rows.{growth_tree, listing}
 use Rattle.size_growth.specs.Runs.{table_at}
 use Rattle.size_growth.proofs.SumLemmas.{fits_part}
 
--- paths from one place up to another are a part
+-- Paths from one index up to another are a part.
 pub part-of : (depth : ℕ) (paths : List GrowthPath) (from n : ℕ) → IsPart depth paths → IsPart depth (take n (drop from paths))
 part-of depth paths from n part =
     let D : GrowthPath → Type 0 = λ p. length p.path ≡ depth in
@@ -28,7 +28,7 @@ whole-part depth n paths seen known d e = rw (d, e) (record { deep = known.deep;
 pub deep-at : (depth level : ℕ) (paths : List GrowthPath) → IsPart depth paths → level < depth → All (λ (p : GrowthPath). level < length p.path) paths
 deep-at depth level paths part lt k d inside = omega (arith, part.deep k d inside)
 
--- from the first label on paths are themselves
+-- From the first label on, paths are themselves.
 whole : (paths : List GrowthPath) → table_at 0 paths ≡ paths
 whole [] = refl
 whole (p ∷ paths) = ap (λ t. p ∷ t) (whole paths)
@@ -36,7 +36,7 @@ whole (p ∷ paths) = ap (λ t. p ∷ t) (whole paths)
 same-tree : (depth : ℕ) (s t : GrowthSizes) (a b : List GrowthRow) → s ≡ t → a ≡ b → ◌≡◌ {A = GrowthTree} (record { depth = depth; sizes = s; rows = a }) (record { depth = depth; sizes = t; rows = b })
 same-tree depth s t a b e f = rw (e, f) refl
 
--- a tree by its parts
+-- A tree by its parts.
 pub tree-is : (o : RowOptions) (depth n : ℕ) (sizes : GrowthSizes) (rows out : List GrowthRow) (paths seen : List GrowthPath) → n ≡ depth → seen ≡ paths → sizes ≡ sums seen → out ≡ []
     → rows ≡ out ++ listing o (n - 0) 0 (table_at 0 seen) → ◌≡◌ {A = GrowthTree} (record { depth = n; sizes = sizes; rows = rows }) (growth_tree o depth paths)
 tree-is o depth n sizes rows out paths seen d s summed none made =

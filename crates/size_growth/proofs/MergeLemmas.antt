@@ -1,4 +1,4 @@
--- The rows of two rollups side by side: their sums, their order, and what holds of each path.
+-- The merged rows of two rollups: their sums, their order, and what holds of each path.
 use Rattle.std.proofs.Common.{◌≡◌, ℕ, ◌+◌, ◌<◌, ◌≤◌, List, [], ◌∷◌, ◌++◌, length, drop, map, refl, sym, ap, ◌∙◌, subst, arith, append_assoc, slice_get, Some}
 use Rattle.std.specs.List.{sum_by, AllByRecursion}
 use Rattle.std.specs.List.Sorted.{IsStrictlySortedBy}
@@ -18,7 +18,7 @@ use Rattle.size_growth.specs.Paths.{growth_cmp}
 pub equal_path : (n b : RollupRow) → row_cmp n b ≡ Equal → n.path ≡ b.path
 equal_path n b e = same_path n.path b.path (ap is_eq e)
 
--- a sum over what is merged, of which each side has its part
+-- A sum over the merge. Each side has its part of it.
 module _ (w : GrowthPath → ℕ) (u v : RollupRow → ℕ) (one : (n : RollupRow) → w (new_path n) ≡ u n) (other : (b : RollupRow) → w (base_path b) ≡ v b)
     (both : (n b : RollupRow) → row_cmp n b ≡ Equal → w (both_path n b) ≡ u n + v b) where
   sum-base : (bs : List RollupRow) → sum_by w (map base_path bs) ≡ sum_by v bs
@@ -41,7 +41,7 @@ module _ (w : GrowthPath → ℕ) (u v : RollupRow → ℕ) (one : (n : RollupRo
   sum-merged [] bs = omega (arith, sum-base bs)
   sum-merged (n ∷ ns) bs = sum-beside n ns (λ rest. merged ns rest) (λ rest. sum-merged ns rest) bs
 
--- what holds of each path
+-- What holds of each path.
 module _ (P : GrowthPath → Type 0) (Q : RollupRow → Type 0) (one : (n : RollupRow) → Q n → P (new_path n)) (other : (b : RollupRow) → Q b → P (base_path b))
     (both : (n b : RollupRow) → Q n → P (both_path n b)) where
   each-base : (bs : List RollupRow) → AllByRecursion Q bs → AllByRecursion P (map base_path bs)
@@ -63,7 +63,7 @@ module _ (P : GrowthPath → Type 0) (Q : RollupRow → Type 0) (one : (n : Roll
   each-merged [] bs hs ks = each-base bs ks
   each-merged (n ∷ ns) bs hs ks = each-beside n (λ rest. merged ns rest) hs.0 (λ rest more. each-merged ns rest hs.1 more) bs ks
 
--- a path below others
+-- A path below others.
 abbrev Below : List (List ℕ) → List GrowthPath → Type 0
 Below p paths = AllByRecursion (λ (q : GrowthPath). path_cmp p q.path ≡ Less) paths
 
@@ -105,22 +105,22 @@ unfolding IsStrictlySortedBy
 beside-sorted n ns hn h [] hs = (below-merged n.path ns [] hn tt, h [] tt)
 beside-sorted n ns hn h (b ∷ bs) hs = order-sorted n b ns bs (row_cmp n b) refl hn hs.0 (h (b ∷ bs) hs) (h bs hs.1) (beside-sorted n ns hn h bs hs.1)
 
--- what is merged ascends
+-- The merge is sorted.
 pub merged-sorted : (ns bs : List RollupRow) → IsStrictlySortedBy row_cmp ns → IsStrictlySortedBy row_cmp bs → IsStrictlySortedBy growth_cmp (merged ns bs)
 unfolding IsStrictlySortedBy
 merged-sorted [] bs hs ks = base-sorted bs ks
 merged-sorted (n ∷ ns) bs hs ks = beside-sorted n ns hs.0 (λ rest more. merged-sorted ns rest hs.1 more) bs ks
 
--- the first of what is left of a list
+-- The first of what is left of a list.
 pub drop-got : {X : Type 0} (xs : List X) (i : ℕ) (x : X) → i < length xs → slice_get xs i ≡ Some x → drop i xs ≡ x ∷ drop (i + 1) xs
 drop-got xs i x lt at = drop_more xs i x lt ∙ ap (λ y. y ∷ drop (i + 1) xs) (get_or_from_slice_get xs i x x at)
 
--- a path that goes from what is left to the paths so far
+-- A path that moves from the rest to the paths so far.
 pub gone : (out old rest all : List GrowthPath) (p q : GrowthPath) → out ≡ old ++ p ∷ [] → p ≡ q → all ≡ q ∷ rest → out ++ rest ≡ old ++ all
 gone out old rest all p q e f g =
     ap (λ xs. xs ++ rest) (e ∙ ap (λ r. old ++ r ∷ []) f) ∙ (append_assoc old (q ∷ []) rest ∙ ap (λ xs. old ++ xs) (sym g))
 
--- the next path, where base rows are at their end, and where both sides have a row
+-- The next path, where base rows are at their end, and where both sides have a row.
 module _ (ns bs : List RollupRow) (i j : ℕ) (n b : RollupRow) (out old : List GrowthPath) (p : GrowthPath) (push : out ≡ old ++ p ∷ []) where
   pub no-base : length bs ≤ j → i < length ns → slice_get ns i ≡ Some n → p ≡ new_path n → out ++ merged (drop (i + 1) ns) (drop j bs) ≡ old ++ merged (drop i ns) (drop j bs)
   no-base end lt at is =

@@ -10,12 +10,12 @@ use Rattle.size_growth.specs.declared.growth.GrowthPath.{GrowthPath}
 use Rattle.size_growth.specs.Items.{IsRun, labels_at, mid}
 use Rattle.size_growth.specs.Runs.{Under, first_label, joined, path_from, runs, table_at}
 
--- the first of runs has another label
+-- The first of the runs has another label.
 abbrev Apart : List ℕ → List Under → Type 0
 Apart l [] = ⊤
 Apart l (u ∷ us) = bytes_eq l u.label ≡ false
 
--- and so has the first of paths
+-- The first of the paths has another label.
 abbrev pub Next : List ℕ → List GrowthPath → Type 0
 Next l [] = ⊤
 Next l (q ∷ qs) = bytes_eq l (first_label q) ≡ false
@@ -56,7 +56,7 @@ front-of : (l : List ℕ) (ps bs : List GrowthPath) → 0 < length ps → AllByR
 front-of l [] bs some h next = absurd (omega arith)
 front-of l (p ∷ ps) bs some h next = front l p ps bs h.0 h.1 next
 
--- the label of a level is the first one from there on
+-- The label at a level is the first one from there on.
 first-at : (level : ℕ) (p : GrowthPath) → first_label (path_from level p) ≡ get_or p.path level []
 first-at level p = let z : level + 0 ≡ level = omega arith in get_or-drop level p.path 0 [] ∙ ap (λ k. get_or p.path k []) z
 
@@ -77,7 +77,7 @@ behind-first level (p ∷ ps) =
     let one : List (List ℕ) → GrowthPath = λ path. record { path = path; sizes = p.sizes } in
     ap (λ q. q ∷ map (path_from 1) (table_at level ps)) (ap one (drop-drop 1 level p.path)) ∙ ap (λ qs. path_from (level + 1) p ∷ qs) (behind-first level ps)
 
--- the labels of a part
+-- The labels of a part.
 part-label : (level : ℕ) (paths : List GrowthPath) (from n k : ℕ) → k < n → get_or (labels_at level (take n (drop from paths))) k [] ≡ get_or (labels_at level paths) (from + k) []
 part-label level paths from n k lt =
     let f : GrowthPath → List ℕ = λ p. get_or p.path level [] in
@@ -89,7 +89,7 @@ rest-label level paths from k =
     let f : GrowthPath → List ℕ = λ p. get_or p.path level [] in
     ap (λ xs. get_or xs k []) (sym (drop-map f from paths)) ∙ get_or-drop from (labels_at level paths) k []
 
--- what is found at the front of the paths from a place on is a run from there
+-- What is found at the front of the paths from an index on is a run.
 pub run-is : (level : ℕ) (paths : List GrowthPath) (from n : ℕ) → 0 < n
     → ((k : ℕ) → k < n → get_or (labels_at level (take (length paths - from) (drop from paths))) k [] ≡ get_or (labels_at level (take (length paths - from) (drop from paths))) 0 [])
     → (n < length (take (length paths - from) (drop from paths))
@@ -108,7 +108,7 @@ run-is level paths from n some same next =
       next = λ lt h. next (omega (arith, ap (λ (xs : List GrowthPath). length xs) e, length-drop from paths)) (at n ∙ (h ∙ sym first));
     }
 
--- the runs of the paths from a place on begin with the run there
+-- The runs of the paths from an index on begin with the run there.
 pub run-front : (level : ℕ) (paths : List GrowthPath) (from to : ℕ) → from < to → to ≤ length paths → IsRun level paths from to
     → runs (table_at level (drop from paths)) ≡ record { label = get_or (labels_at level paths) from []; below = table_at (level + 1) (mid from to paths) } ∷ runs (table_at level (drop to paths))
 run-front level paths from to lt le run =
@@ -128,7 +128,7 @@ run-front level paths from to lt le run =
     ∙ (front-of l (table_at level (take n xs)) (table_at level (drop to paths)) (omega (arith, length-map (take n xs) (path_from level), long)) (labelled level l (take n xs) all) (next-is level l (drop to paths) other)
     ∙ ap (λ (below : List GrowthPath). record { label = l; below = below } ∷ runs (table_at level (drop to paths))) (behind-first level (take n xs)))
 
--- past the last path there are none
+-- Past the last path there are no runs.
 pub runs-end : (level : ℕ) (paths : List GrowthPath) (from : ℕ) → length paths ≤ from → runs (table_at level (drop from paths)) ≡ []
 unfolding runs
 runs-end level paths from le = rw (drop_all from paths le) refl

@@ -1,4 +1,4 @@
--- Groups in order stand for entries in order.
+-- Sorted groups represent sorted entries.
 use Rattle.std.proofs.Common.{◌≡◌, ℕ, ◌<◌, List, [], ◌∷◌, get_or, map, refl, sym, ap, ◌∙◌}
 use Rattle.std.specs.Prelude.{All, filter}
 use Rattle.std.specs.declared.cmp.Ordering.{Ordering}
@@ -23,7 +23,7 @@ use Rattle.size_growth.specs.Rows.{Entry, by_key, children, is_child, label_entr
 use Rattle.size_growth.specs.Runs.{runs, table_at}
 use Rattle.size_growth.proofs.SumLemmas.{same_sizes}
 
--- the order of groups: the larger key, then the earlier place, then the other fields
+-- The order of groups: the larger key, then the earlier position, then the other fields.
 abbrev sizes_cmp : GrowthSizes → GrowthSizes → Ordering
 sizes_cmp a b = ordering_then (nat_cmp a.new_vm b.new_vm) (ordering_then (nat_cmp a.new_file b.new_file) (ordering_then (nat_cmp a.base_vm b.base_vm) (nat_cmp a.base_file b.base_file)))
 
@@ -57,7 +57,7 @@ module _ (o : RowOptions) (f : Group → Entry) (says : (g : Group) → (f g).si
   key-is : (g : Group) → HasKey o g → g.key.0 ≡ growth_key o (f g).sizes
   key-is g has = has ∙ ap (growth_key o) (sym (says g))
 
-  -- a later group stands before another where its key is larger
+  -- A later group comes before another where its key is larger.
   tells : (g h : Group) → HasKey o g → HasKey o h → g.from < h.from → is_lt (group_cmp h g) ≡ is_lt (by_key o (f h) (f g))
   tells g h kg kh lt =
       then-greater (nat_cmp g.key.0 h.key.0) (nat_cmp h.from g.from) (ordering_then (nat_cmp h.to g.to) (sizes_cmp h.sizes g.sizes)) (nat_greater h.from g.from lt)
@@ -76,12 +76,12 @@ module _ (o : RowOptions) (f : Group → Entry) (says : (g : Group) → (f g).si
       map-placed group_cmp (by_key o) f g hs (λ k d lt. tells g (get_or hs k d) own (have k d lt) (behind k d lt))
       ∙ ap (placed (by_key o) (f g)) (order-map groups (All-tail K g groups keys) rise.1)
 
-  -- groups that were sorted stand for the entries in order
+  -- Groups that were sorted represent the sorted entries.
   pub sorted-entries : (given sorted : List Group) → IsPermutation given sorted → IsSorted (λ x y. group_ord.ghosts.cmp x y) sorted → All (HasKey o) given → Rise given
       → map f sorted ≡ in_order (by_key o) (map f given)
   sorted-entries given sorted same order keys rise = ap (map f) (in_order_is group_cmp total-law group_is given sorted same order) ∙ order-map given keys rise
 
--- sorted groups are the children
+-- Sorted groups are the children.
 pub sorted-children : (o : RowOptions) (level : ℕ) (paths : List GrowthPath) (given sorted : List Group) → IsPermutation given sorted → IsSorted (λ x y. group_ord.ghosts.cmp x y) sorted → All (IsGroup o paths) given → Rise given
     → map (group_entry level paths) given ≡ filter (is_child o) (map label_entry (runs (table_at level paths))) → map (group_entry level paths) sorted ≡ children o (table_at level paths)
 unfolding children

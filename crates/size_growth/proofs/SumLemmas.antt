@@ -1,4 +1,4 @@
--- Sizes that are added up.
+-- Sums of sizes.
 use Rattle.std.proofs.Common.{◌≡◌, ℕ, ◌+◌, ◌<◌, List, length, get_or, take, drop, refl, sym, arith}
 use Rattle.std.proofs.lemmas.List.Sums.{sum_by_more, sum_by_more_le}
 use Rattle.report_rows.proofs.GroupLemmas.{part-le}
@@ -13,7 +13,7 @@ same_fields : (a b c d e f g h : ℕ) → a ≡ e → b ≡ f → c ≡ g → d 
     → ◌≡◌ {A = GrowthSizes} (record { new_vm = a; new_file = b; base_vm = c; base_file = d }) (record { new_vm = e; new_file = f; base_vm = g; base_file = h })
 same_fields a b c d e f g h p q r s = rw (p, q, r, s) refl
 
--- sizes that are equal one by one
+-- Sizes that are equal one by one.
 pub same_sizes : (s t : GrowthSizes) → s.new_vm ≡ t.new_vm → s.new_file ≡ t.new_file → s.base_vm ≡ t.base_vm → s.base_file ≡ t.base_file → s ≡ t
 same_sizes s t p q r u = same_fields s.new_vm s.new_file s.base_vm s.base_file t.new_vm t.new_file t.base_vm t.base_file p q r u
 
@@ -39,7 +39,7 @@ module _ {X : Type 0} (f : X → GrowthSizes) where
     base_file = omega (arith, part-le (λ x. (f x).base_file) xs from n, fits.base_file);
   }
 
--- the sizes of paths from a level on are theirs
+-- The sizes of paths from a level on are their own.
 pub sums_table : (level : ℕ) (paths : List GrowthPath) → sums (table_at level paths) ≡ sums paths
 sums_table level paths =
     same_sizes (sums (table_at level paths)) (sums paths) (sum_by-map (λ (p : GrowthPath). p.sizes.new_vm) (path_from level) paths) (sum_by-map (λ (p : GrowthPath). p.sizes.new_file) (path_from level) paths)

@@ -27,11 +27,11 @@ use Rattle.size_growth.specs.Runs.{Under, first_label, joined, path_from, runs}
 use Rattle.size_growth.specs.Sizes.{sums_by}
 use Rattle.size_growth.specs.Trees.{side_kind, new_row, base_row, HasGrowths, GrowsAlike}
 
--- each path has so many labels
+-- Each path has this many labels.
 abbrev pub AreOf : ℕ → List GrowthPath → Type 0
 AreOf n t = All (λ (p : GrowthPath). length p.path ≡ n) t
 
--- what stands under each label has one less
+-- Under each label they have one less.
 of-joined : (n : ℕ) (p : GrowthPath) (us : List Under) → length p.path ≡ suc n → All (λ (u : Under). AreOf n u.below) us → All (λ (u : Under). AreOf n u.below) (joined p us)
 of-joined n p [] e all = All-cons (λ (u : Under). AreOf n u.below) (record { label = first_label p; below = path_from 1 p ∷ [] }) [] (behind [] (λ k d lt. absurd (omega arith))) all
   where
@@ -53,7 +53,7 @@ of-runs n (p ∷ t) all =
     let P : GrowthPath → Type 0 = λ q. length q.path ≡ suc n in
     of-joined n p (runs t) (All-head P p t all) (of-runs n t (All-tail P p t all))
 
--- one of the sizes
+-- One of the sizes.
 pub record IsSize (size : GrowthSizes → ℕ) : Type 0 where
   pub all : (t : List GrowthPath) → size (sums t) ≡ sum_by (λ (p : GrowthPath). size p.sizes) t
   pub others : (es : List Entry) → size (sums_by (λ (e : Entry). e.sizes) es) ≡ sum_by (λ (e : Entry). size e.sizes) es
@@ -83,7 +83,7 @@ module _ (size : GrowthSizes → ℕ) (is : IsSize size) where
           let v : Under = record { label = first_label p; below = path_from 1 p ∷ [] } in
           omega (arith, sum_by-cons of-label v (u ∷ us), is.all (path_from 1 p ∷ []), sum_by-cons of-path (path_from 1 p) [])
 
-  -- the labels of paths add up to them
+  -- The labels of paths add up to them.
   sum-runs : (t : List GrowthPath) → sum_by of-label (runs t) ≡ sum_by of-path t
   unfolding runs
   sum-runs [] = refl
@@ -95,7 +95,7 @@ module _ (size : GrowthSizes → ℕ) (is : IsSize size) where
   pub sum-entries : (o : RowOptions) (t : List GrowthPath) → sum_by of-entry (entries_of o t) ≡ sum_by of-entry (children o t)
   sum-entries o t = sum_by-within o.limit (by_key o) others_entry of-entry (children o t) (is.others (drop o.limit (children o t)))
 
--- a new size and its base size, which are equal where nothing shown has changed
+-- A new size and its base size, which are equal where nothing shown has changed.
 pub record ArePair (o : RowOptions) (new base : GrowthSizes → ℕ) : Type 0 where
   pub new_is : IsSize new
   pub base_is : IsSize base
@@ -118,12 +118,12 @@ module _ (o : RowOptions) (new base : GrowthSizes → ℕ) (pair : ArePair o new
         sum-labels base pair.base_is t,
       )
 
-  -- the growths of the entries add up to the growth of all paths
+  -- The growths of the entries add up to the growth of all paths.
   pub entries-grow : (t : List GrowthPath)
       → sum_by (λ (e : Entry). new e.sizes) (entries_of o t) + sum_by (λ (p : GrowthPath). base p.sizes) t ≡ sum_by (λ (e : Entry). base e.sizes) (entries_of o t) + sum_by (λ (p : GrowthPath). new p.sizes) t
   entries-grow t = omega (arith, sum-entries new pair.new_is o t, sum-entries base pair.base_is o t, children-grow t)
 
--- sizes with no difference
+-- Sizes with no difference.
 no-amount : (m n : ℕ) → amount m n ≡ 0 → m ≡ n
 no-amount m n e = omega (arith, e)
 
@@ -144,7 +144,7 @@ file-pair o shows = record {
   alike = λ s unchanged. no-amount s.new_file s.base_file (second-none (shows_vm o.domain) (shows_file o.domain) (vm_amount s) (file_amount s) shows unchanged);
 }
 
--- where a shown size has changed, there are entries
+-- Where a shown size has changed, there are entries.
 not-empty : (o : RowOptions) (new base : GrowthSizes → ℕ) → ArePair o new base → (t : List GrowthPath) (es : List Entry) → entries_of o t ≡ es → 0 < amount (new (sums t)) (base (sums t)) → 0 < length es
 not-empty o new base pair t [] e lt =
     let g = entries-grow o new base pair t in
@@ -158,18 +158,18 @@ some-entry o t is = elim (some-shown (shows_vm o.domain) (shows_file o.domain) (
   | inr file ↦ not-empty o (λ s. s.new_file) (λ s. s.base_file) (file-pair o file.0) t (entries_of o t) refl file.1
 ]
 
--- no entries without paths
+-- There are no entries without paths.
 entries-none : (o : RowOptions) → entries_of o [] ≡ []
 unfolding children in_order runs
 entries-none o = within-nil o.limit (by_key o) others_entry
 
--- an entry of paths of suc n labels
+-- An entry of paths of suc n labels.
 record IsSound (o : RowOptions) (n : ℕ) (e : Entry) : Type 0 where
   pub deep : AreOf n e.below
   pub some : 0 < n → has_some (entries_of o e.below) ≡ not (is_others (side_kind e.kind))
   pub sizes : is_others (side_kind e.kind) ≡ false → e.sizes ≡ sums e.below
 
--- the entry of a label
+-- The entry of a label.
 record IsLabel (n : ℕ) (e : Entry) : Type 0 where
   pub named : is_others (side_kind e.kind) ≡ false
   pub deep : AreOf n e.below
@@ -211,7 +211,7 @@ is-tree o depth t all =
     subst (AreLevels depth 0) (sym (map-rows (entries_of o) below-of row_of new_row depth 0 t))
     (are-tree (entries_of o) below-of new-shape AreOf (IsSound o) (entries-sound o) (λ n e is. is.deep) (λ n e is. is.some (omega arith)) depth t all)
 
--- the rows of one side
+-- The rows of one side.
 module _ (vm file : GrowthSizes → ℕ) where
   abbrev side : GrowthRow → Row
   side r = record { level = r.level; kind = side_kind r.kind; vm = vm r.sizes; file = file r.sizes }
@@ -223,13 +223,13 @@ module _ (vm file : GrowthSizes → ℕ) where
   side-rows : (o : RowOptions) (n level : ℕ) (t : List GrowthPath) (after : List GrowthRow) → map side (listing o n level t ++ after) ≡ rows_over (entries_of o) below-of (λ l e. side (row_of l e)) n level t ++ map side after
   side-rows o n level t after = map-append side (listing o n level t) after ∙ ap (λ rows. rows ++ map side after) (map-rows (entries_of o) below-of row_of side n level t)
 
-  -- a level adds up its entries
+  -- A level adds up its entries.
   side-sum : (o : RowOptions) (size : Row → ℕ) (n level : ℕ) (t : List GrowthPath) (after : List GrowthRow) → Stops (λ (r : GrowthRow). r.level) level after
       → level_sum size level (map side (listing o (suc n) level t ++ after)) ≡ sum_by (λ (e : Entry). size (side (row_of level e))) (entries_of o t)
   side-sum o size n level t after stops =
       ap (level_sum size level) (side-rows o (suc n) level t after) ∙ level-sum (entries_of o) below-of (λ e. side (row_of 0 e)) size n level t (map side after) (stops-side level after stops)
 
--- a size of rows, new and base
+-- A size of rows, new and base.
 module _ (o : RowOptions) (depth : ℕ) (size : Row → ℕ) (new base : GrowthSizes → ℕ) (pair : ArePair o new base)
     (new-is : (r : GrowthRow) → size (new_row r) ≡ new r.sizes) (base-is : (r : GrowthRow) → size (base_row r) ≡ base r.sizes) where
   abbrev level-of : GrowthRow → ℕ
@@ -249,7 +249,7 @@ module _ (o : RowOptions) (depth : ℕ) (size : Row → ℕ) (new base : GrowthS
         pair.base_is.all t,
       )
 
-  -- the growths of the children of a row add up to its growth
+  -- The growths of the children of a row add up to its growth.
   row-grows : (n level : ℕ) (e : Entry) (after : List GrowthRow) → depth ≡ level + suc n → IsSound o n e → Stops level-of (level + 1) after
       → has_children (new_row (row_of level e)) (map new_row (listing o n (level + 1) e.below ++ after)) ≡ true
       → level_sum size (level + 1) (map new_row (listing o n (level + 1) e.below ++ after)) + size (base_row (row_of level e))

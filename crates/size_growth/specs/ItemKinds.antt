@@ -1,11 +1,11 @@
--- What stands in a level.
+-- The kinds of items.
 use Rattle.std.specs.Prelude.{ℕ, List}
 use Rattle.report_rows.specs.declared.groups.Kind.{Kind}
 use Rattle.report_rows.specs.declared.groups.Kind.TheVariants.{Label, Others}
 use Rattle.size_growth.specs.declared.row.GrowthKind.{GrowthKind}
 use Rattle.size_growth.specs.declared.row.GrowthKind.TheVariants as row_kinds
 
--- the kind of an item's row, whose label is this one if it has any
+-- The kind of an item's row. The label counts only for the item of a label.
 abbrev pub kind_of : List ℕ → Kind → GrowthKind
 kind_of label Label = row_kinds.Label label
 kind_of label (Others count) = row_kinds.Others count

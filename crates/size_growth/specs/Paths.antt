@@ -7,21 +7,21 @@ use Rattle.size_growth.specs.declared.growth.GrowthPath.{GrowthPath}
 use Rattle.size_growth.specs.declared.growth.GrowthSizes.{GrowthSizes}
 use Rattle.size_growth.specs.Sizes.{Fits, HasSize, sums_by}
 
--- what contracts see of a growth
+-- A growth as contracts see it.
 pub record Paths : Type 0 where
   pub depth : ℕ
   pub paths : List GrowthPath
 
--- paths ascend label by label, and labels byte by byte
+-- The order of paths: label by label, and labels byte by byte.
 abbrev pub growth_cmp : GrowthPath → GrowthPath → Ordering
 growth_cmp a b = path_cmp a.path b.path
 
--- the sizes of all paths
+-- The sums of the sizes of all paths.
 abbrev pub sums : List GrowthPath → GrowthSizes
 sums paths = sums_by (λ (p : GrowthPath). p.sizes) paths
 
--- What is known of every growth: its paths ascend, each stands once, and each has its labels and a size above 0. A
--- 63-bit number holds each size of all paths together.
+-- The properties of every growth: its paths are sorted without duplicates, and each has one label for each
+-- level and a size above 0. Each sum over all paths fits in 63 bits.
 pub record IsGrowth (depth : ℕ) (paths : List GrowthPath) : Type 0 where
   pub ordered : IsStrictlySortedBy growth_cmp paths
   pub deep : All (λ (p : GrowthPath). length p.path ≡ depth) paths

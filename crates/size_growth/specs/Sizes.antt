@@ -3,10 +3,11 @@ use Rattle.std.specs.Prelude.{◌+◌, ◌-◌, ◌^◌, ◌<◌, ◌≤◌, Lis
 use Rattle.std.specs.List.{sum_by}
 use Rattle.size_growth.specs.declared.growth.GrowthSizes.{GrowthSizes}
 
+-- Sizes of 0.
 abbrev pub no_sizes : GrowthSizes
 no_sizes = record { new_vm = 0; new_file = 0; base_vm = 0; base_file = 0 }
 
--- each size added to its like
+-- The sum of sizes, each with its own kind.
 abbrev pub plus : GrowthSizes → GrowthSizes → GrowthSizes
 plus a b = record {
   new_vm = a.new_vm + b.new_vm;
@@ -15,7 +16,7 @@ plus a b = record {
   base_file = a.base_file + b.base_file;
 }
 
--- the sizes of all elements of a list
+-- The sums of the sizes of all elements of a list.
 abbrev pub sums_by : {X : Type 0} → (X → GrowthSizes) → List X → GrowthSizes
 sums_by sizes xs = record {
   new_vm = sum_by (λ x. (sizes x).new_vm) xs;
@@ -24,13 +25,13 @@ sums_by sizes xs = record {
   base_file = sum_by (λ x. (sizes x).base_file) xs;
 }
 
--- a 63-bit number holds each of the sizes
+-- Each of the sizes fits in 63 bits.
 pub record Fits (s : GrowthSizes) : Type 0 where
   pub new_vm : s.new_vm ≤ 2 ^ 63 - 1
   pub new_file : s.new_file ≤ 2 ^ 63 - 1
   pub base_vm : s.base_vm ≤ 2 ^ 63 - 1
   pub base_file : s.base_file ≤ 2 ^ 63 - 1
 
--- one of the sizes is not 0
+-- One of the sizes isn't 0.
 abbrev pub HasSize : GrowthSizes → Type 0
 HasSize s = 0 < (s.new_vm + s.new_file) + (s.base_vm + s.base_file)

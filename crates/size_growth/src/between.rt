@@ -1,4 +1,4 @@
-//! The rows of two rollups side by side.
+//! Comparing the rows of two rollups.
 
 ghost use Rattle.std.specs.Prelude.{◌≡◌, ◌+◌, ◌^◌, ◌<◌, ◌≤◌, ◌++◌, IfOk, OnOk, drop, length, map};
 ghost use Rattle.size_growth.specs.Between.{IsBetween, Stands};
@@ -10,14 +10,14 @@ use size_core::{NoMemory, Path};
 use std::alloc::Global;
 use std::cmp::Ordering;
 
-/// How many rows of each rollup are passed.
+/// How many rows of each rollup have been processed.
 #[derive(Clone, Copy, Debug)]
 pub struct Place {
     pub new: usize,
     pub base: usize,
 }
 
-// The same path once more.
+// A copy of the path.
 fn copy(alloc: Global, path: &Path) -> Result<Path, NoMemory>
     ensures { IfOk result (λ p. p ≡ path.now) }
 {
@@ -28,7 +28,7 @@ fn copy(alloc: Global, path: &Path) -> Result<Path, NoMemory>
     Ok(labels)
 }
 
-// A path that only the new files have.
+// The sizes of a path that only the new files have.
 fn only_new(alloc: Global, row: &RollupRow) -> Result<GrowthPath, NoMemory>
     ensures { IfOk result (λ p. p ≡ new_path row.now) }
 {
@@ -43,7 +43,7 @@ fn only_new(alloc: Global, row: &RollupRow) -> Result<GrowthPath, NoMemory>
     })
 }
 
-// A path that only the base files have.
+// The sizes of a path that only the base files have.
 fn only_base(alloc: Global, row: &RollupRow) -> Result<GrowthPath, NoMemory>
     ensures { IfOk result (λ p. p ≡ base_path row.now) }
 {
@@ -58,7 +58,7 @@ fn only_base(alloc: Global, row: &RollupRow) -> Result<GrowthPath, NoMemory>
     })
 }
 
-// A path that both have.
+// The sizes of a path that both have.
 fn in_both(alloc: Global, new: &RollupRow, base: &RollupRow) -> Result<GrowthPath, NoMemory>
     ensures { IfOk result (λ p. p ≡ both_path new.now base.now) }
 {
@@ -73,7 +73,7 @@ fn in_both(alloc: Global, new: &RollupRow, base: &RollupRow) -> Result<GrowthPat
     })
 }
 
-// Passes the lesser of the two paths that stand at a place, or both where they are one.
+// Processes the lesser of the two next paths, or both where they are equal.
 fn pass_lesser(
     alloc: Global,
     new: &Rollup,
@@ -117,7 +117,7 @@ fn pass_lesser(
     }
 }
 
-// Passes the next path, up to a row of the new rollup.
+// Processes the next path, up to one row of the new rollup.
 fn pass(
     alloc: Global,
     new: &Rollup,
@@ -144,7 +144,7 @@ fn pass(
     })
 }
 
-// Passes the rows of the base rollup from a place on, behind which the new one has none.
+// Processes the remaining rows of the base rollup. The new one has none left.
 fn pass_rest(
     alloc: Global,
     base: &Rollup,
@@ -161,8 +161,8 @@ fn pass_rest(
 }
 
 impl Growth {
-    /// The paths that one of two rollups has, each with its sizes in both, which are 0 where a rollup doesn't have
-    /// the path. The only error is want of memory.
+    /// The paths that the new files or the base files have, each with its sizes in both. A size is 0 where the
+    /// files don't have the path. The only error is running out of memory.
     pub fn between(alloc: Global, new: &Rollup, base: &Rollup) -> Result<Growth, NoMemory>
         requires { new.now.depth ≡ base.now.depth }
         ensures depth { IfOk result (λ g. g.depth ≡ new.now.depth) }

@@ -1,4 +1,4 @@
-//! The labels of a level with their paths, in the order of a report.
+//! The labels of a level, grouped with their paths, in the order of a report.
 
 ghost use Rattle.std.specs.Prelude.{◌≡◌, ◌<◌, ◌++◌, ◌∷◌, [], All, IfOk, OnOk, filter, length, map, if◌then◌else◌};
 ghost use Rattle.size_growth.specs.Items.{IsGroup, IsPart, IsRun, Rise, group_entry};
@@ -14,8 +14,8 @@ use size_core::{NoMemory, Path};
 use std::alloc::Global;
 use std::cmp::Reverse;
 
-/// The paths of a growth from `from` up to `to`, which share a label. Groups come in the order of a report: the
-/// larger key first, and of one key the lesser label, which stands first among the paths.
+/// A group: the paths of a growth from index `from` up to `to`, which share a label. Groups are ordered as in a
+/// report: by key, the larger first, and for equal keys by label, which is the order of the paths.
 #[derive(Clone, Copy, PartialEq, Eq, PartialOrd, Ord, Debug)]
 pub struct Group {
     pub key: Reverse<u64>,
@@ -24,7 +24,7 @@ pub struct Group {
     pub sizes: GrowthSizes,
 }
 
-/// The sizes of paths, added up.
+/// The sums of the paths' sizes.
 #[tactic(auto, using(crate::proofs::SumLemmas::sums_more, crate::proofs::SumLemmas::fits_more))]
 pub fn sums(paths: &[GrowthPath]) -> GrowthSizes
     requires { Fits (sums paths.now) }
@@ -37,7 +37,7 @@ pub fn sums(paths: &[GrowthPath]) -> GrowthSizes
     sizes
 }
 
-// The difference of a new size and a base size.
+// The absolute difference of a new size and a base size.
 fn amount(new: u64, base: u64) -> u64
     ensures { result ≡ amount new base }
 {
@@ -56,7 +56,7 @@ fn file_amount(sizes: &GrowthSizes) -> u64
     amount(sizes.new_file, sizes.base_file)
 }
 
-/// The shown amount that orders.
+/// The sort key: the shown change that rows are sorted by.
 pub fn growth_key(options: &RowOptions, sizes: &GrowthSizes) -> u64
     ensures { result ≡ growth_key options.now sizes.now }
 {
@@ -78,7 +78,7 @@ impl HasPath for GrowthPath {
     }
 }
 
-// The group that begins at a path.
+// The group whose first path is at `from`.
 fn make_group(
     options: &RowOptions,
     depth: u32,
@@ -103,7 +103,7 @@ fn make_group(
     }
 }
 
-// Adds a group of which a shown size has changed.
+// Appends a group, where one of its shown sizes has changed.
 fn keep(options: &RowOptions, groups: &mut Vec<Group>, group: Group) -> Result<(), NoMemory>
     ensures { OnOk result (groups.new.items
         ≡ groups.old.items ++ (if has_changed options.now group.sizes then group ∷ [] else [])) }
@@ -114,7 +114,7 @@ fn keep(options: &RowOptions, groups: &mut Vec<Group>, group: Group) -> Result<(
     Ok(())
 }
 
-// The groups of a level of which a shown size has changed, in the order of the paths.
+// The groups of a level with a changed shown size, in the order of the paths.
 fn groups_of(
     alloc: Global,
     options: &RowOptions,
@@ -139,7 +139,7 @@ fn groups_of(
     Ok(groups)
 }
 
-/// The labels of a level of which a shown size has changed, in order.
+/// The labels of a level with a changed shown size, in the order of a report.
 pub fn children(
     alloc: Global,
     options: &RowOptions,

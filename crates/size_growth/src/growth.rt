@@ -7,21 +7,21 @@ ghost use Rattle.size_growth.specs.Sizes.{Fits, no_sizes, plus};
 use size_core::Path;
 use std::marker::Model;
 
-/// The sizes of what was counted in the new files, and of what was counted in the base files, in bytes.
+/// The sizes in the new files and in the base files, in bytes.
 #[derive(Clone, Copy, Debug, PartialEq, Eq, PartialOrd, Ord)]
 pub struct GrowthSizes {
-    /// Mapped addresses of the new files.
+    /// The VM size in the new files: the number of mapped addresses.
     pub new_vm: u64,
-    /// File bytes of the new files.
+    /// The file size in the new files.
     pub new_file: u64,
-    /// Mapped addresses of the base files.
+    /// The VM size in the base files.
     pub base_vm: u64,
-    /// File bytes of the base files.
+    /// The file size in the base files.
     pub base_file: u64,
 }
 
 impl GrowthSizes {
-    /// The sizes of nothing.
+    /// Sizes of 0.
     pub fn none() -> GrowthSizes
         ensures { result ≡ no_sizes }
     {
@@ -33,7 +33,7 @@ impl GrowthSizes {
         }
     }
 
-    /// Each size added to its like.
+    /// The sum of the sizes, each with its own kind.
     pub fn plus(self, other: GrowthSizes) -> GrowthSizes
         requires { Fits (plus self other) }
         ensures { result ≡ plus self other }
@@ -47,15 +47,15 @@ impl GrowthSizes {
     }
 }
 
-/// A path of labels, one for each data source asked, with its sizes.
+/// A path with its sizes. The path has one label for each requested data source.
 #[derive(Debug, Drop)]
 pub struct GrowthPath {
     pub path: Path,
     pub sizes: GrowthSizes,
 }
 
-/// The paths that new files or base files have. Contracts see how many labels each path has, and the paths in
-/// order, each once.
+/// The paths of the new files and the base files. Contracts see the number of labels of each path, and the
+/// paths, sorted and without duplicates.
 #[derive(Debug, Drop)]
 pub struct Growth {
     pub(crate) depth: u32,
@@ -73,14 +73,14 @@ impl Model for Growth {
 }
 
 impl Growth {
-    /// How many labels each path has.
+    /// The number of labels of each path.
     pub fn depth(&self) -> u32
         ensures { result ≡ self.now.depth }
     {
         self.depth
     }
 
-    /// How many paths there are, and what is known of every growth.
+    /// The number of paths, and the properties of every growth.
     pub fn len(&self) -> usize
         ensures count { result ≡ length self.now.paths }
         ensures known { IsGrowth self.now.depth self.now.paths }
@@ -88,7 +88,7 @@ impl Growth {
         self.paths.len()
     }
 
-    /// The path of a number, from 0 on, with its sizes.
+    /// The path at index `i`, counted from 0, with its sizes.
     pub fn path(&self, i: usize) -> &GrowthPath
         requires { i < length self.now.paths }
         ensures { slice_get self.now.paths i ≡ Some result.now }
@@ -96,7 +96,7 @@ impl Growth {
         &self.paths[i]
     }
 
-    /// The paths in order.
+    /// The paths, sorted.
     pub(crate) fn paths(&self) -> &[GrowthPath]
         ensures value { result.now ≡ self.now.paths }
         ensures known { IsGrowth self.now.depth self.now.paths }

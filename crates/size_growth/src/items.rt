@@ -1,4 +1,4 @@
-//! What stands in a level: its labels within a limit, and the others taken together.
+//! The items of a level: its labels within a limit, and one item for the others.
 
 ghost use Rattle.std.specs.Prelude.{◌≡◌, ◌<◌, All, IfOk, map};
 ghost use Rattle.size_growth.specs.Items.{IsPart, IsRange, item_entry, item_of, others_item};
@@ -12,7 +12,8 @@ use report_rows::{Grouped, Kind, RowOptions, limit};
 use size_core::NoMemory;
 use std::alloc::Global;
 
-/// A label with its paths, those from `from` up to `to`; or labels left over, with no paths.
+/// A label with its paths, those from index `from` up to `to`; or labels that a limit leaves out, with no
+/// paths.
 #[derive(Clone, Copy, Debug)]
 pub struct Item {
     pub key: u64,
@@ -22,7 +23,7 @@ pub struct Item {
     pub sizes: GrowthSizes,
 }
 
-// A label as an item.
+// The item of a label.
 fn label_item(group: &Group) -> Item
     ensures { result ≡ item_of group.now }
 {
@@ -35,7 +36,7 @@ fn label_item(group: &Group) -> Item
     }
 }
 
-// Labels as items.
+// The items of labels.
 fn items_of(alloc: Global, groups: &[Group]) -> Result<Vec<Item>, NoMemory>
     ensures { IfOk result (λ items. items.items ≡ map item_of groups.now) }
 {
@@ -73,7 +74,7 @@ impl Grouped for Item {
     }
 }
 
-/// What stands in a level under these paths, in the order of a report.
+/// The items of a level of these paths, within the limit, in the order of a report.
 pub fn items(
     alloc: Global,
     options: &RowOptions,

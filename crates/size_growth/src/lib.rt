@@ -1,4 +1,5 @@
-//! Growth: the sizes of new files beside those of base files, path by path, and the rows of a report over them.
+//! Growth: the sizes of new files compared with those of base files, path by path, and the rows of a report
+//! over them.
 #![tactic(auto)]
 
 mod between;
@@ -13,6 +14,3 @@ pub use growth::{Growth, GrowthPath, GrowthSizes};
 pub use laws::{growths_add_up, labels_stand_once};
 pub use listing::growth_rows;
 pub use row::{GrowthKind, GrowthRow, GrowthRows, GrowthTree};
-
-#[cfg(test)]
-mod tests;

@@ -32,7 +32,7 @@ fn make_row(paths: &[GrowthPath], level: u32, item: &Item) -> Result<GrowthRow, 
     })
 }
 
-// Adds the rows of the levels from this one on.
+// Appends the rows of the levels from this one on.
 fn list(
     alloc: Global,
     options: &RowOptions,
@@ -57,11 +57,11 @@ fn list(
     Ok(())
 }
 
-/// The rows of a report over a growth: the labels of each level of which a shown size has changed, the larger amount
-/// first, and of one amount the lesser label. Where there is a limit, the labels beyond it are one row, before the
-/// labels of its amount. An amount is the difference of a new size and a base size, without its sign. `sort` says
-/// which of the two amounts orders, and `domain` which are shown; an amount that is not shown counts as 0. A limit of
-/// 0 is none. The only error is want of memory.
+/// The rows of a report over a growth: the labels of each level with a changed shown size. A label's key is the
+/// absolute difference of a new size and its base size. `sort` selects the VM size, the file size, or the
+/// larger difference of the two; a size that `domain` doesn't show counts as 0. Rows are ordered by key, the
+/// larger first, and for equal keys by label. With a limit, the labels beyond it become one row, before the
+/// labels with the same key. A limit of 0 means no limit. The only error is running out of memory.
 pub fn growth_rows(
     alloc: Global,
     growth: &Growth,

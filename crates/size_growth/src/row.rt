@@ -1,33 +1,33 @@
-//! What the rows of a growth are.
+//! Rows of a report of growth.
 
 use crate::growth::GrowthSizes;
 use size_core::{Bytes, List};
 
-/// What a row stands for.
+/// The kind of a row.
 #[derive(Debug, Drop)]
 pub enum GrowthKind {
-    /// All that has this label after the path of the row above.
+    /// A row for everything with this label below the path of the parent row.
     Label(Bytes),
-    /// So many labels that the limit left over, taken together.
+    /// One row for this many labels that the limit leaves out.
     Others(u64),
 }
 
-/// A row with all its sizes, in bytes, whether they are shown or not.
+/// A row with all of its sizes in bytes, whether they are shown or not.
 #[derive(Debug, Drop)]
 pub struct GrowthRow {
-    /// How many rows it stands under; 0 in the first level.
+    /// The row's level. The first level is 0.
     pub level: u32,
     pub kind: GrowthKind,
     pub sizes: GrowthSizes,
 }
 
-/// The rows of all levels in the order of a report: the children of a row follow it, one level deeper.
+/// The rows of all levels in the order of a report. The children of a row follow it, one level deeper.
 pub type GrowthRows = List<GrowthRow>;
 
-/// A report's rows, and the sizes of all that was counted.
+/// A report's rows, and its totals.
 #[derive(Debug, Drop)]
 pub struct GrowthTree {
-    /// How many levels there are: one for each data source.
+    /// The number of levels: one for each data source.
     pub depth: u32,
     pub sizes: GrowthSizes,
     pub rows: GrowthRows,

@@ -35,7 +35,7 @@ sum_by-swap f xs (y ∷ ys) =
     ∙ (sum_by-plus (λ x. f x y) (λ x. sum_by (f x) ys) xs
     ∙ (ap (λ k. sum_by (λ x. f x y) xs + k) (sum_by-swap f xs ys) ∙ sym (sum_by-cons (λ z. sum_by (λ x. f x z) xs) y ys)))
 
--- no label twice
+-- The labels are distinct.
 abbrev AreDistinct : List (List ℕ) → Type 0
 AreDistinct labels = AllPairs (λ (a b : List ℕ). a ≢ b) labels
 
@@ -45,7 +45,7 @@ distinct_tail x xs h i j d lt within = h (suc i) (suc j) d (omega arith) (omega 
 distinct_head : (x : List ℕ) (xs : List (List ℕ)) → AreDistinct (x ∷ xs) → (k : ℕ) (d : List ℕ) → k < length xs → x ≡ get_or xs k d → ⊥
 distinct_head x xs h k d lt = h 0 (suc k) d (omega arith) (omega arith)
 
--- 1 where a label is the next one
+-- 1 where a label is the next one.
 abbrev one_at : List ℕ → List ℕ → ℕ
 one_at next label = cond (bytes_eq label next) 1 0
 
@@ -72,13 +72,13 @@ one_next next [] distinct there = absurd (omega (arith, there.1))
 one_next next (x ∷ xs) distinct there =
     sum_by-cons (one_at next) x xs ∙ one_step next x xs (bytes_eq x next) refl distinct there (one_next next xs (distinct_tail x xs distinct))
 
--- what labels count at a position, where the next label is one of them
+-- How many of the labels a position counts for, where its next label is one of them.
 at_position : (next : List ℕ) (labels : List (List ℕ)) (b : Bool) → AreDistinct labels → (b ≡ true → Contains labels next)
     → sum_by (λ label. cond (b && bytes_eq label next) 1 0) labels ≡ cond b 1 0
 at_position next labels false distinct there = sum_by-zero labels
 at_position next labels true distinct there = one_next next labels distinct (there refl)
 
--- what labels count at n positions
+-- How many of the labels n positions count for.
 by_positions : (t : ℕ → Bool) (next : ℕ → List ℕ) (labels : List (List ℕ)) (a n : ℕ) → AreDistinct labels → ((x : ℕ) → a ≤ x → x < a + n → t x ≡ true → Contains labels (next x))
     → sum_by (λ label. count_from (λ x. t x && bytes_eq label (next x)) a n) labels ≡ count_from t a n
 by_positions t next labels a zero distinct there =
@@ -95,7 +95,7 @@ by_positions t next labels a (suc n) distinct there =
       count-suc t a n,
     ))
 
--- a size by paths of positions that pass a gate
+-- A size, counted over the positions that pass a test.
 abbrev size_at : (ℕ → Bool) → (ℕ → List (List ℕ)) → Option (List ℕ → Bool) → ℕ → List (List ℕ) → ℕ
 size_at gate path filter n prefix = count_from (λ x. gate x && counts_for filter prefix (path x)) 0 n
 
@@ -123,7 +123,7 @@ module _ (gate : ℕ → Bool) (path : ℕ → List (List ℕ)) (filter : Option
       sum_by-same (λ label. size_at gate path filter n (prefix ++ label ∷ [])) (λ label. count_from (λ x. here x && bytes_eq label (next x)) 0 n) labels child_size
       ∙ by_positions here next labels 0 n distinct (λ x low high h. complete (next x) (has_size x (omega arith) h))
 
--- over files, where it holds of each
+-- The same over a list of files, where it holds of each file.
 over_files : (size : List (List ℕ) → FileView → ℕ) (files : List FileView) (prefix labels : List (List ℕ))
     → All (λ (f : FileView). sum_by (λ (label : List ℕ). size (prefix ++ label ∷ []) f) labels ≡ size prefix f) files
     → sum_by (λ (f : FileView). sum_by (λ (label : List ℕ). size (prefix ++ label ∷ []) f) labels) files ≡ sum_by (size prefix) files

@@ -13,7 +13,7 @@ pub count-suc : (f : ℕ → Bool) (a n : ℕ) → count_from f a (suc n) ≡ co
 unfolding count_from
 count-suc f a n = refl
 
--- tests that agree count alike
+-- Tests that agree have equal counts.
 pub count-same : (f g : ℕ → Bool) (a n : ℕ) → ((x : ℕ) → a ≤ x → x < a + n → f x ≡ g x) → count_from f a n ≡ count_from g a n
 count-same f g a zero h = count-zero f a ∙ sym (count-zero g a)
 count-same f g a (suc n) h =
@@ -38,7 +38,7 @@ pub count-all : (f : ℕ → Bool) (a n : ℕ) → ((x : ℕ) → f x ≡ true) 
 count-all f a zero h = count-zero f a
 count-all f a (suc n) h = count-suc f a n ∙ (ap (λ b. cond b 1 0 + count_from f (a + 1) n) (h a) ∙ omega (arith, count-all f (a + 1) n h))
 
--- a test that passes wherever another does counts no less
+-- A test that passes wherever another does has no smaller count.
 pub count-le : (f g : ℕ → Bool) (a n : ℕ) → ((x : ℕ) → f x ≡ true → g x ≡ true) → count_from f a n ≤ count_from g a n
 count-le f g a zero h = omega (arith, count-zero f a, count-zero g a)
 count-le f g a (suc n) h = omega (arith, count-suc f a n, count-suc g a n, count-le f g (a + 1) n h, one_le (f a) (g a) (h a))
@@ -56,7 +56,7 @@ count-le-or f g a (suc n) = omega (arith, count-suc (λ x. f x || g x) a n, coun
     one_or true c = omega arith
     one_or false c = omega arith
 
--- one number is itself
+-- A test for one number counts at most 1.
 pub count-one-at : (k a n : ℕ) → count_from (λ x. nat_eq x k) a n ≤ 1
 count-one-at k a zero = omega (arith, count-zero (λ x. nat_eq x k) a)
 count-one-at k a (suc n) =
@@ -81,7 +81,7 @@ count-le-length f a (suc n) = omega (arith, count-suc f a n, count-le-length f (
     one_le true = omega arith
     one_le false = omega arith
 
--- where a test passes once, its count is above 0
+-- A test that passes somewhere has a count above 0.
 pub count-some : (f : ℕ → Bool) (a n x : ℕ) → a ≤ x → x < a + n → f x ≡ true → 0 < count_from f a n
 count-some f a zero x b c e = absurd (omega arith)
 count-some f a (suc n) x b c e =
@@ -94,11 +94,11 @@ count-some f a (suc n) x b c e =
     one true e = refl
     one false e = cc
 
--- one number more
+-- The count of one number more.
 pub count-more : (f : ℕ → Bool) (a n : ℕ) → count_from f a (n + 1) ≡ count_from f a n + cond (f (a + n)) 1 0
 count-more f a n = omega (arith, count-append f a n 1, count-suc f (a + n) 0, count-zero f (a + n + 1))
 
--- a count that grows by a truth as a number, and is at most the numbers so far
+-- A count that grows by a Boolean as a number is at most the count of the numbers so far.
 pub byte_fits : (t : ℕ → Bool) (a n size : ℕ) (b : Bool) → size ≡ count_from t a n → size + bool_byte b ≤ n + 1
 byte_fits t a n size b e = omega (arith, e, count-le-length t a n, byte_le b)
   where

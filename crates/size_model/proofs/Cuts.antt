@@ -1,4 +1,4 @@
--- Tidy pieces: their labels, and that a labelling has one list of them.
+-- The labels of tidy pieces, and that a labelling has exactly one list of tidy pieces.
 use Rattle.std.proofs.Common.{◌≡◌, ◌<◌, ◌≤◌, ℕ, zero, suc, Bool, true, false, cond, IsTrue, List, [], ◌∷◌, Option, None, Some, length, get_or, refl, sym, ap, ◌∙◌, inl, inr, ◌⊎◌, arith}
 use Rattle.std.specs.Prelude.{Any, Contains}
 use Rattle.std.proofs.lemmas.Bool.{cases_lt}
@@ -29,7 +29,7 @@ label_past_head p ps x a = ap (λ t. cond t (Some p.label) (label_in ps x)) (has
 pub label_before_head : (p : Piece) (ps : List Piece) (x : ℕ) → x < p.start → label_in (p ∷ ps) x ≡ label_in ps x
 label_before_head p ps x a = ap (λ t. cond t (Some p.label) (label_in ps x)) (has_left p x a)
 
--- the first piece starts no earlier than a position
+-- The first piece starts at or after a position.
 abbrev pub StartsFrom : ℕ → List Piece → Type 0
 StartsFrom at [] = Unit {0}
 StartsFrom at (p ∷ ps) = at ≤ p.start
@@ -43,11 +43,11 @@ label_before [] at x t s h = refl
 label_before (p ∷ ps) at x t s h =
     label_before_head p ps x (omega arith) ∙ label_before ps (end_of p) x t.2 (StartsFrom-Precedes p ps t.1) (omega arith)
 
--- a label of a position is that of some piece which has it
+-- The label of a position is that of a piece that has the position.
 label_none_from_head : (p : Piece) (ps : List Piece) (x : ℕ) → label_in (p ∷ ps) x ≡ None → p.start ≤ x → x < end_of p → ⊥
 label_none_from_head p ps x e a b = none-some p.label (sym e ∙ label_at_head p ps x a b)
 
--- at the end of a tidy list's first piece its label does not stand
+-- At the end of the first piece of a tidy list, the label isn't that of the piece.
 pub label_at_end : (p : Piece) (ps : List Piece) → IsTidy (p ∷ ps) → label_in (p ∷ ps) (end_of p) ≡ Some p.label → ⊥
 label_at_end p [] t e = none-some p.label (sym (label_past_head p [] (end_of p) (omega arith)) ∙ e)
 label_at_end p (q ∷ qs) t e =
@@ -84,7 +84,7 @@ tails p q ps qs t u e h x =
       | inr l ↦ sym (label_past_head p ps x l) ∙ (h x ∙ label_past_head q qs x (omega arith))
     ]
 
--- a tidy list is the only one with its labels
+-- A tidy list is the only one with its labels.
 pub IsTidy-unique : (ps qs : List Piece) → IsTidy ps → IsTidy qs → ((x : ℕ) → label_in ps x ≡ label_in qs x) → ps ≡ qs
 IsTidy-unique [] [] t u h = refl
 IsTidy-unique [] (q ∷ qs) t u h = absurd (label_none_from_head q qs q.start (sym (h q.start)) (omega arith) (omega arith))
@@ -101,21 +101,21 @@ IsTidy-unique (p ∷ ps) (q ∷ qs) t u h =
 pub IsCut-unique : (f : ℕ → Option ℕ) (ps qs : List Piece) → IsCut f ps → IsCut f qs → ps ≡ qs
 IsCut-unique f ps qs a b = IsTidy-unique ps qs a.tidy b.tidy (λ x. a.labels x ∙ sym (b.labels x))
 
--- a position of a piece of a tidy list lies from the list's start on
+-- Each position of a piece of a tidy list is at or after the start of the list.
 member_from : (ps : List Piece) (at k x : ℕ) (d : Piece) → IsTidy ps → StartsFrom at ps → k < length ps → has (get_or ps k d) x ≡ true → at ≤ x
 member_from [] at k x d t s lt h = absurd (omega arith)
 member_from (p ∷ ps) at zero x d t s lt h = let low : p.start ≤ x = grind (arith, nat_tests) in omega arith
 member_from (p ∷ ps) at (suc k) x d t s lt h =
     let later : end_of p ≤ x = member_from ps (end_of p) k x d t.2 (StartsFrom-Precedes p ps t.1) (omega arith) h in omega arith
 
--- the label of a piece stands at each of its positions
+-- Each position of a piece has the label of the piece.
 label_of_member : (ps : List Piece) (k x : ℕ) (d : Piece) → IsTidy ps → k < length ps → has (get_or ps k d) x ≡ true → label_in ps x ≡ Some (get_or ps k d).label
 label_of_member [] k x d t lt h = absurd (omega arith)
 label_of_member (p ∷ ps) zero x d t lt h = ap (λ b. cond b (Some p.label) (label_in ps x)) h
 label_of_member (p ∷ ps) (suc k) x d t lt h =
     label_past_head p ps x (member_from ps (end_of p) k x d t.2 (StartsFrom-Precedes p ps t.1) (omega arith) h) ∙ label_of_member ps k x d t.2 (omega arith) h
 
--- a piece that has a label's position and the label
+-- A piece has this position and this label.
 abbrev HasAt : ℕ → ℕ → Piece → Type 0
 HasAt x label p = IsTrue (has p x) × (p.label ≡ label)
 
@@ -124,7 +124,7 @@ member_step : (p : Piece) (ps : List Piece) (x label : ℕ) (b : Bool) → has p
 member_step p ps x label true h e later = (zero, p, omega arith, refl, (h, same_Some p.label label e))
 member_step p ps x label false h e later = let w = later e in (suc w.0, w.1, omega (arith, w.2), w.3, w.4)
 
--- a label stands in a piece that has it
+-- A position with a label lies in a piece that has the label.
 member_of_label : (ps : List Piece) (x label : ℕ) → label_in ps x ≡ Some label → Any (HasAt x label) ps
 member_of_label [] x label e = absurd (none-some label e)
 member_of_label (p ∷ ps) x label e = member_step p ps x label (has p x) refl e (member_of_label ps x label)

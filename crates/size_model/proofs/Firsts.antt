@@ -1,4 +1,4 @@
--- The first of a list that passes a test, as a loop over numbers finds it.
+-- The first item of a list that passes a test, as a loop over indices finds it.
 use Rattle.std.proofs.Common.{◌≡◌, ◌+◌, ◌-◌, ◌<◌, ◌≤◌, ℕ, zero, suc, Bool, true, false, cond, ◌||◌, ◌&&◌, List, [], ◌∷◌, ◌++◌, Option, None, Some, length, map, take, drop, slice_get, refl, sym, ap, ◌∙◌, arith}
 use Rattle.std.specs.List.{list_any, starts_with}
 use Rattle.std.specs.Str.{bytes_eq}
@@ -7,7 +7,7 @@ use Rattle.size_core.specs.declared.claim.Load.{Load}
 use Rattle.size_model.specs.Labels.{first_label}
 use Rattle.size_model.specs.Loads.{load_has_address, load_has_offset, mapped, addr, place, place_in}
 
--- the rest of a list from the item of a number on
+-- The rest of a list from the item at an index on.
 pub drop-get : {X : Type 0} (xs : List X) (i : ℕ) (x : X) → slice_get xs i ≡ Some x → drop i xs ≡ x ∷ drop (suc i) xs
 drop-get [] i x e = absurd (none-some x e)
 drop-get (y ∷ ys) zero x e = ap (λ z. z ∷ ys) (same_Some y x e)
@@ -31,11 +31,12 @@ module _ {C L : Type 0} (test : C → Bool) (label : C → L) (rest : L) (cs : L
   pub first_end : length cs ≤ i → first_label test label rest (drop i cs) ≡ rest
   first_end le = ap (first_label test label rest) (drop-end cs i le)
 
--- what the loops look for: whether a load covers an address, the address of an offset, and the offset of an address
+-- What the loops look for: whether a load covers an address, the address of an offset, and the offset of an
+-- address.
 abbrev pub mapped_by : List Load → ℕ → ℕ → Bool
 mapped_by ls space x = first_label (λ (l : Load). load_has_address l space x) (λ (l : Load). true) false ls
 
--- the space and address of an offset in a load
+-- The space and the address of an offset in a load.
 abbrev pub address_at : ℕ → Load → Option (ℕ × ℕ)
 address_at o l = Some (l.space, l.vaddr + (o - l.offset))
 
@@ -61,14 +62,14 @@ pub place-first : (len : ℕ) (ls : List Load) (space x : ℕ) → place len ls 
 place-first len [] space x = refl
 place-first len (l ∷ ls) space x = ap (λ r. cond (load_has_address l space x) (place_in len l x) r) (place-first len ls space x)
 
--- an item of a list's front
+-- An item of the first n items of a list.
 pub slice_get-front : {X : Type 0} (xs : List X) (n i : ℕ) (x : X) → i < n → slice_get xs i ≡ Some x → slice_get (take n xs) i ≡ Some x
 slice_get-front [] n i x lt e = absurd (none-some x e)
 slice_get-front (y ∷ ys) zero i x lt e = absurd (omega arith)
 slice_get-front (y ∷ ys) (suc n) zero x lt e = e
 slice_get-front (y ∷ ys) (suc n) (suc i) x lt e = slice_get-front ys n i x (omega arith) e
 
--- a path that grows by one label
+-- A path that grows by one label.
 pub map_more : {X Y : Type 0} (f : X → Y) (xs : List X) (i : ℕ) (x : X) → slice_get xs i ≡ Some x → map f (take i xs) ++ f x ∷ [] ≡ map f (take (i + 1) xs)
 map_more f xs i x e = let one : i + 1 ≡ suc i = omega arith in rw one (map_suc f xs i x e)
   where
@@ -91,7 +92,7 @@ any-first test (x ∷ xs) = step (test x) (any-first test xs)
     step true e = refl
     step false e = e
 
--- whether what is left of a path begins with what is left of a prefix
+-- Whether what is left of a path begins with what is left of a prefix.
 abbrev pub begins_from : ℕ → List (List ℕ) → List (List ℕ) → Bool
 begins_from i path prefix = starts_with bytes_eq (drop i path) (drop i prefix)
 
@@ -112,7 +113,7 @@ begins_short (p ∷ ps) (q ∷ qs) lt = ap (λ b. bytes_eq q p && b) (begins_sho
 pub begins_end : (path prefix : List (List ℕ)) (i : ℕ) → length prefix ≤ i → begins_from i path prefix ≡ true
 begins_end path prefix i le = ap (λ ys. starts_with bytes_eq (drop i path) ys) (drop-end prefix i le)
 
--- the item of a number below the length
+-- The item at an index below the length.
 pub item_at : {X : Type 0} (xs : List X) (i : ℕ) → i < length xs → (x : X) × (slice_get xs i ≡ Some x)
 item_at [] i lt = absurd (omega arith)
 item_at (x ∷ xs) zero lt = (x, refl)

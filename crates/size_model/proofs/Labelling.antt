@@ -16,7 +16,7 @@ use Rattle.size_model.proofs.Counts.{count-same, count-all}
 use Rattle.size_model.proofs.Children.{sum_by-same}
 use Rattle.size_model.proofs.Paths.{and_true}
 
--- the first label of rewritten claims, whatever they cover
+-- The first label of rewritten claims, whatever they cover.
 rewritten_first : (test : Side → Span → Span → Bool) (rewritten : List ℕ → List ℕ) (unmapped : List ℕ) (cs : List LabelledClaim)
     → first_label (λ (c : LabelledClaim). test c.side c.vm c.file) (λ (c : LabelledClaim). c.label) (rewritten unmapped) (map (relabelled rewritten) cs)
     ≡ rewritten (first_label (λ (c : LabelledClaim). test c.side c.vm c.file) (λ (c : LabelledClaim). c.label) unmapped cs)
@@ -53,7 +53,7 @@ mapped-push (k ∷ ks) l space x = or_step (load_has_address k space x) (mapped 
     or_step true c d e = refl
     or_step false c d e = e
 
--- the place of an address that is mapped already
+-- The offset of an address that is mapped already.
 place-push : (len : ℕ) (ls : List Load) (l : Load) (space x : ℕ) → mapped ls space x ≡ true → place len (ls ++ l ∷ []) space x ≡ place len ls space x
 place-push len [] l space x h = cc
 place-push len (k ∷ ks) l space x h = place_step (place_in len k x) (load_has_address k space x) h (place-push len ks l space x)

@@ -11,28 +11,28 @@ use Rattle.size_model.specs.Sizes.{label_of_address, position_path}
 use Rattle.size_model.proofs.Counts.{count-zero, count-suc, count-append, count-none, count-le-length}
 use Rattle.size_model.proofs.Labelling.{mapped-push}
 
--- the position of a load's first address, and how many addresses of its space it covers
+-- The position of a load's first address, and how many addresses of its space it covers.
 abbrev pub start_of : Load → ℕ
 start_of l = l.space * 2 ^ 64 + l.vaddr
 
 abbrev pub addresses_of : Load → ℕ
 addresses_of l = min l.memsz (2 ^ 64 - l.vaddr)
 
--- a position from its space and address
+-- A position from its space and address.
 pub space_at : (space x : ℕ) → x < 2 ^ 64 → space_of (space * 2 ^ 64 + x) ≡ space
 space_at space x lt = omega arith
 
 pub address_at_position : (space x : ℕ) → x < 2 ^ 64 → address_of (space * 2 ^ 64 + x) ≡ x
 address_at_position space x lt = omega arith
 
--- a position that a load covers
+-- A position that a load covers.
 covered_bounds : (l : Load) (space x : ℕ) → load_has_address l space x ≡ true → (l.space ≡ space) × (l.vaddr ≤ x) × (x < l.vaddr + l.memsz)
 covered_bounds l space x h = (grind (arith, nat_tests), grind (arith, nat_tests), grind (arith, nat_tests))
 
 pub covers_inside : (l : Load) (k : ℕ) → k < addresses_of l → load_has_address l l.space (l.vaddr + k) ≡ true
 covers_inside l k lt = grind (arith, nat_tests)
 
--- a load covers no position before its first, and none behind its last
+-- A load covers no position before its first or after its last.
 outside : (l : Load) (p : ℕ) (b : Bool) → load_has_address l (space_of p) (address_of p) ≡ b → (start_of l ≤ p → p < start_of l + addresses_of l → b ≡ false) → b ≡ false
 outside l p false e h = refl
 outside l p true e h =
@@ -48,7 +48,7 @@ outside_before l p lt = outside l p (load_has_address l (space_of p) (address_of
 outside_after : (l : Load) (p : ℕ) → start_of l + addresses_of l ≤ p → load_has_address l (space_of p) (address_of p) ≡ false
 outside_after l p le = outside l p (load_has_address l (space_of p) (address_of p)) refl (λ a b. absurd (omega arith))
 
--- what a load counts at a position
+-- A load counts this position.
 abbrev pub counts_at : (List (List ℕ) → Bool) → FileView → List Load → Load → ℕ → Bool
 counts_at test f earlier l p = is_first_at earlier l p && test (position_path f p)
 
@@ -56,7 +56,7 @@ not_counted : (b c d : Bool) → b ≡ false → ((b && c) && d) ≡ false
 not_counted true c d e = cc
 not_counted false c d e = refl
 
--- what a load counts of all positions it counts of its own
+-- How many positions a load counts, from its first address on.
 pub first_mapped_size-window : (test : List (List ℕ) → Bool) (f : FileView) (earlier : List Load) (l : Load) → l.space < 2 ^ 32 → l.vaddr < 2 ^ 64
     → first_mapped_size test f earlier l ≡ count_from (counts_at test f earlier l) (start_of l) (addresses_of l)
 first_mapped_size-window test f earlier l space address = window (2 ^ 96 - (start_of l + addresses_of l)) (omega arith)
@@ -73,7 +73,7 @@ first_mapped_size-window test f earlier l space address = window (2 ^ 96 - (star
         let later = count-append t (start_of l) (addresses_of l) rest in
         ap (count_from t 0) e ∙ omega (arith, parts, later, before, after)
 
--- what a load counts at one of its addresses
+-- A load counts the position of this one of its addresses.
 pub counts_at-address : (test : List (List ℕ) → Bool) (f : FileView) (earlier : List Load) (l : Load) (k : ℕ) → k < addresses_of l
     → counts_at test f earlier l (start_of l + k) ≡ (not (mapped earlier l.space (l.vaddr + k)) && test (map (label_of_address f l.space (l.vaddr + k)) f.sources))
 counts_at-address test f earlier l k lt =
@@ -86,7 +86,7 @@ counts_at-address test f earlier l k lt =
         ∙ (ap (λ x. (load_has_address l l.space x && not (mapped earlier l.space x)) && test (map (label_of_address f l.space x) f.sources)) a
         ∙ ap (λ b. (b && not (mapped earlier l.space (l.vaddr + k))) && test (map (label_of_address f l.space (l.vaddr + k)) f.sources)) (covers_inside l k lt))
 
--- where a test holds as often as two others together
+-- A test that holds as often as two others together.
 count-split : (t u v : ℕ → Bool) (a n : ℕ) → ((x : ℕ) → cond {A = ℕ} (t x) 1 0 ≡ cond (u x) 1 0 + cond (v x) 1 0) → count_from t a n ≡ count_from u a n + count_from v a n
 count-split t u v a zero h = omega (arith, count-zero t a, count-zero u a, count-zero v a)
 count-split t u v a (suc n) h = omega (arith, count-suc t a n, count-suc u a n, count-suc v a n, h a, count-split t u v (a + 1) n h)
@@ -101,7 +101,7 @@ one_of false true false = refl
 one_of false false true = refl
 one_of false false false = refl
 
--- how many positions of these loads have a path that passes
+-- How many positions of these loads have a path that passes.
 abbrev pub mapped_size : (List (List ℕ) → Bool) → FileView → List Load → ℕ
 mapped_size test f loads = count_from (λ p. is_mapped loads p && test (position_path f p)) 0 (2 ^ 96)
 
@@ -115,7 +115,7 @@ take_suc [] i x e = absurd (none-some x e)
 take_suc (y ∷ ys) zero x e = ap (λ z. z ∷ []) (same_Some y x e)
 take_suc (y ∷ ys) (suc i) x e = ap (λ zs. y ∷ zs) (take_suc ys i x e)
 
--- the loop over loads
+-- The loop over loads.
 pub mapped_size-none : (test : List (List ℕ) → Bool) (f : FileView) → mapped_size test f [] ≡ 0
 mapped_size-none test f = count-none (λ p. is_mapped [] p && test (position_path f p)) 0 (2 ^ 96) (λ p low high. refl)
 

@@ -24,7 +24,7 @@ bytes_eq-same xs = (bytes_eq-Decides xs xs).1 refl
 pub same_bytes : (xs ys : List ℕ) → bytes_eq xs ys ≡ true → xs ≡ ys
 same_bytes xs ys = (bytes_eq-Decides xs ys).0
 
--- a path begins with a prefix and one more label
+-- A path begins with a prefix and one more label.
 pub starts_with-push : (path prefix : List (List ℕ)) (label d : List ℕ) → length prefix < length path
     → starts_with bytes_eq path (prefix ++ label ∷ []) ≡ (starts_with bytes_eq path prefix && bytes_eq label (get_or path (length prefix) d))
 starts_with-push [] prefix label d lt = absurd (omega arith)
@@ -32,7 +32,7 @@ starts_with-push (p ∷ ps) [] label d lt = and_true (bytes_eq label p)
 starts_with-push (p ∷ ps) (q ∷ qs) label d lt =
     ap (λ b. bytes_eq q p && b) (starts_with-push ps qs label d (omega arith)) ∙ sym (and_assoc (bytes_eq q p) (starts_with bytes_eq ps qs) (bytes_eq label (get_or ps (length qs) d)))
 
--- what a prefix with one more label counts
+-- A path counts for a prefix with one more label.
 pub counts_for-push : (filter : Option (List ℕ → Bool)) (prefix path : List (List ℕ)) (label d : List ℕ) → length prefix < length path
     → counts_for filter (prefix ++ label ∷ []) path ≡ (counts_for filter prefix path && bytes_eq label (get_or path (length prefix) d))
 counts_for-push filter prefix path label d lt =
@@ -41,7 +41,7 @@ counts_for-push filter prefix path label d lt =
 cons_same : (x y : List ℕ) (xs ys : List (List ℕ)) → x ≡ y → xs ≡ ys → (x ∷ xs) ≡ (y ∷ ys)
 cons_same x y xs ys a b = cc
 
--- two prefixes of one length are one
+-- Two prefixes of the same length are the same prefix.
 pub starts_with-unique : (path p q : List (List ℕ)) → length p ≡ length q → starts_with bytes_eq path p ≡ true → starts_with bytes_eq path q ≡ true → p ≡ q
 starts_with-unique path [] [] e a b = refl
 starts_with-unique path [] (y ∷ ys) e a b = absurd (omega arith)

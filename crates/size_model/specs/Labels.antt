@@ -5,27 +5,27 @@ use Rattle.size_core.specs.declared.claim.Claim.{Claim}
 use Rattle.size_model.specs.Loads.{is_mapped, space_of, address_of}
 use Rattle.size_model.specs.Claims.{covers_offset, covers_address}
 
--- the label of the first that covers, or the label of what none covers
+-- The label of the first item that covers, or `unmapped` where no item covers.
 abbrev pub first_label : {C L : Type 0} → (C → Bool) → (C → L) → L → List C → L
 first_label covers label unmapped [] = unmapped
 first_label covers label unmapped (c ∷ cs) = if covers c then label c else first_label covers label unmapped cs
 
--- the number of the label of an offset, by the first claim that covers it
+-- The number of the label of an offset, by the first claim that covers it.
 abbrev pub offset_label : ℕ → List Load → ℕ → List Claim → ℕ → ℕ
 offset_label len loads unmapped claims o =
     first_label (λ (c : Claim). covers_offset len loads c.side c.vm c.file o) (λ (c : Claim). c.label) unmapped claims
 
--- the number of the label of an address of a space
+-- The number of the label of an address of a space, by the first claim that covers it.
 abbrev pub address_label : ℕ → List Load → ℕ → List Claim → ℕ → ℕ → ℕ
 address_label len loads unmapped claims space x =
     first_label (λ (c : Claim). covers_address len loads c.side c.vm c.file space x) (λ (c : Claim). c.label) unmapped claims
 
--- the labelling of the offsets below the file's length
+-- The labelling of the offsets below the length of the file.
 abbrev pub offset_labelling : ℕ → List Load → ℕ → List Claim → ℕ → Option ℕ
 offset_labelling len loads unmapped claims o =
     if nat_lt o len then Some (offset_label len loads unmapped claims o) else None
 
--- the labelling of the mapped positions
+-- The labelling of the mapped positions.
 abbrev pub address_labelling : ℕ → List Load → ℕ → List Claim → ℕ → Option ℕ
 address_labelling len loads unmapped claims p =
     if is_mapped loads p then Some (address_label len loads unmapped claims (space_of p) (address_of p)) else None

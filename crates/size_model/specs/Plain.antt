@@ -6,10 +6,10 @@ use Rattle.size_model.specs.Count.{count_from}
 use Rattle.size_model.specs.Loads.{load_has_address, space_of, address_of, is_mapped}
 use Rattle.size_model.specs.Sizes.{position_path}
 
--- a load covers a position, and none of the earlier loads does
+-- A load covers a position, and no earlier load does.
 abbrev pub is_first_at : List Load → Load → ℕ → Bool
 is_first_at earlier l p = load_has_address l (space_of p) (address_of p) && not (is_mapped earlier p)
 
--- how many positions a load is the first to cover whose path passes a test
+-- How many positions have a path that passes a test, of those that the load is the first to cover.
 abbrev pub first_mapped_size : (List (List ℕ) → Bool) → FileView → List Load → Load → ℕ
 first_mapped_size test f earlier l = count_from (λ p. is_first_at earlier l p && test (position_path f p)) 0 (2 ^ 96)

@@ -10,50 +10,53 @@ use Rattle.size_model.specs.Loads.{is_mapped, space_of, address_of}
 use Rattle.size_model.specs.Claims.{covers_offset, covers_address}
 use Rattle.size_model.specs.Labels.{first_label}
 
--- the label that a data source gives an offset
+-- The label of an offset in a data source.
 abbrev pub label_of_offset : FileView → ℕ → SourceView → List ℕ
 label_of_offset f o s =
     first_label (λ (c : LabelledClaim). covers_offset f.len f.loads c.side c.vm c.file o) (λ (c : LabelledClaim). c.label) s.unmapped s.claims
 
--- the label that a data source gives an address of a space
+-- The label of an address of a space in a data source.
 abbrev pub label_of_address : FileView → ℕ → ℕ → SourceView → List ℕ
 label_of_address f space x s =
     first_label (λ (c : LabelledClaim). covers_address f.len f.loads c.side c.vm c.file space x) (λ (c : LabelledClaim). c.label) s.unmapped s.claims
 
--- the path of an offset, and of a position of the address spaces: its labels over the data sources asked
+-- The path of an offset: its labels over the requested data sources.
 abbrev pub offset_path : FileView → ℕ → List (List ℕ)
 offset_path f o = map (label_of_offset f o) f.sources
 
+-- The path of a position of the address spaces: its labels over the requested data sources.
 abbrev pub position_path : FileView → ℕ → List (List ℕ)
 position_path f p = map (label_of_address f (space_of p) (address_of p)) f.sources
 
--- a path passes where there is no filter, or the filter's test holds of some label of it
+-- A path passes the filter: there is no filter, or its test holds of some label of the path.
 abbrev pub passes : Option (List ℕ → Bool) → List (List ℕ) → Bool
 passes None path = true
 passes (Some test) path = list_any test path
 
--- a path is counted for a prefix
+-- A path counts for a prefix: it passes the filter and begins with the prefix.
 abbrev pub counts_for : Option (List ℕ → Bool) → List (List ℕ) → List (List ℕ) → Bool
 counts_for filter prefix path = passes filter path && starts_with bytes_eq path prefix
 
--- how many offsets of a file are counted for a prefix
+-- How many offsets of a file count for a prefix.
 abbrev pub file_size_in : Option (List ℕ → Bool) → List (List ℕ) → FileView → ℕ
 file_size_in filter prefix f = count_from (λ o. counts_for filter prefix (offset_path f o)) 0 f.len
 
--- how many mapped positions of a file are counted for a prefix
+-- How many mapped positions of a file count for a prefix.
 abbrev pub vm_size_in : Option (List ℕ → Bool) → List (List ℕ) → FileView → ℕ
 vm_size_in filter prefix f = count_from (λ p. is_mapped f.loads p && counts_for filter prefix (position_path f p)) 0 (2 ^ 96)
 
--- the sizes of a prefix over all files; a file that is named twice counts twice
+-- The file size of a prefix over all files. A file that is named twice counts twice.
 abbrev pub file_size : Option (List ℕ → Bool) → List FileView → List (List ℕ) → ℕ
 file_size filter files prefix = sum_by (file_size_in filter prefix) files
 
+-- The VM size of a prefix over all files. A file that is named twice counts twice.
 abbrev pub vm_size : Option (List ℕ → Bool) → List FileView → List (List ℕ) → ℕ
 vm_size filter files prefix = sum_by (vm_size_in filter prefix) files
 
--- a label rewritten in a claim, and in all that a data source says of a file
+-- A claim with its label rewritten.
 abbrev pub relabelled : (List ℕ → List ℕ) → LabelledClaim → LabelledClaim
 relabelled rewritten c = record c { label = rewritten c.label }
 
+-- A data source with each label rewritten.
 abbrev pub with_rewriting : (List ℕ → List ℕ) → SourceView → SourceView
 with_rewriting rewritten s = record { claims = map (relabelled rewritten) s.claims; unmapped = rewritten s.unmapped }

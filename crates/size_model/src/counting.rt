@@ -1,4 +1,4 @@
-//! The plain program's paths and sizes: each offset and each mapped address is looked at.
+//! Paths and sizes in the plain program, which visits each offset and each mapped address.
 
 ghost use Rattle.std.specs.Prelude.{◌≡◌, ◌<◌, ◌&&◌, ℕ, not, Bool, List, Some, map, take, length, slice_get, option_map, IfOk};
 ghost use Rattle.std.specs.List.{list_any, starts_with};
@@ -13,17 +13,17 @@ use crate::view::FileView;
 use size_core::{NoMemory, Path};
 use std::alloc::Global;
 
-/// A test of labels, as a filter makes it.
+/// A test of labels. A filter is one.
 pub trait LabelTest {
-    /// Whether a label passes.
+    /// Whether a label passes the test, as contracts see it.
     ghost holds: { Self → List ℕ → Bool };
 
-    /// Whether a label passes.
+    /// Returns whether a label passes the test.
     fn holds(&self, label: &[u8]) -> bool
         ensures { result ≡ holds self.now label.now };
 }
 
-/// The path of an offset: its label in each data source, in order.
+/// Returns the path of a file offset: its label in each data source, in order.
 pub fn offset_path(alloc: Global, file: &FileView, offset: u64) -> Result<Path, NoMemory>
     ensures { IfOk result (λ path. path ≡ offset_path file.now offset) }
 {
@@ -34,7 +34,7 @@ pub fn offset_path(alloc: Global, file: &FileView, offset: u64) -> Result<Path, 
     Ok(path)
 }
 
-/// The path of an address of a space.
+/// Returns the path of a virtual address of a space: its label in each data source, in order.
 pub fn address_path(
     alloc: Global,
     file: &FileView,
@@ -50,7 +50,7 @@ pub fn address_path(
     Ok(path)
 }
 
-// Whether some label of a path passes a test.
+// Returns whether some label of a path passes a test.
 fn has_passing<T: LabelTest>(test: &T, path: &Path) -> bool
     ensures { result ≡ list_any (T.holds test.now) path.now }
 {
@@ -62,7 +62,7 @@ fn has_passing<T: LabelTest>(test: &T, path: &Path) -> bool
     false
 }
 
-/// Whether a path passes: there is no filter, or some label of the path passes its test.
+/// Returns whether a path passes the filter: there is no filter, or some label of the path passes its test.
 pub fn passes<T: LabelTest>(filter: Option<&T>, path: &Path) -> bool
     ensures { result ≡ passes (option_map (λ t. T.holds t.now) filter.entry) path.now }
 {
@@ -72,7 +72,7 @@ pub fn passes<T: LabelTest>(filter: Option<&T>, path: &Path) -> bool
     }
 }
 
-// Whether a path begins with the labels of a prefix.
+// Returns whether a path begins with the labels of a prefix.
 fn begins_with(path: &Path, prefix: &Path) -> bool
     ensures { result ≡ starts_with bytes_eq path.now prefix.now }
 {
@@ -87,14 +87,14 @@ fn begins_with(path: &Path, prefix: &Path) -> bool
     true
 }
 
-/// Whether a path is counted for a prefix: it passes the filter and begins with the prefix.
+/// Returns whether a path counts for a prefix: it passes the filter and begins with the prefix.
 pub fn counts_for<T: LabelTest>(filter: Option<&T>, prefix: &Path, path: &Path) -> bool
     ensures { result ≡ counts_for (option_map (λ t. T.holds t.now) filter.entry) prefix.now path.now }
 {
     passes(filter, path) && begins_with(path, prefix)
 }
 
-/// How many offsets of a file are counted for a prefix.
+/// Returns how many file offsets count for a prefix.
 pub fn file_size_in<T: LabelTest>(
     alloc: Global,
     filter: Option<&T>,
@@ -111,7 +111,8 @@ pub fn file_size_in<T: LabelTest>(
     Ok(size)
 }
 
-// Whether load i is the first to cover an address, whose path is counted for a prefix.
+// Returns whether load `i` is the first load that covers an address, and the path of the address counts for
+// a prefix.
 fn counts_first<T: LabelTest>(
     alloc: Global,
     filter: Option<&T>,
@@ -134,8 +135,8 @@ fn counts_first<T: LabelTest>(
     Ok(counts_for(filter, prefix, &path))
 }
 
-// How many addresses load i is the first to cover that are counted for a prefix. What of the load passes the
-// end of its space is no address.
+// Returns how many addresses count for a prefix, of those that load `i` is the first to cover. Only
+// addresses below 2^64 are visited, also where the load ends past it.
 fn size_of_load<T: LabelTest>(
     alloc: Global,
     filter: Option<&T>,
@@ -159,8 +160,8 @@ fn size_of_load<T: LabelTest>(
     Ok(size)
 }
 
-/// How many mapped addresses of a file are counted for a prefix. Each is counted at the first load that
-/// covers it.
+/// Returns how many mapped addresses of a file count for a prefix. Each address is counted once, at the
+/// first load that covers it.
 pub fn vm_size_in<T: LabelTest>(
     alloc: Global,
     filter: Option<&T>,

@@ -1,46 +1,47 @@
-//! Laws of pieces, paths and sizes: each is the contract of a function that does nothing.
+//! Laws of pieces, paths and sizes. Each law is the contract of a function with an empty body.
 
 ghost use Rattle.size_model.specs.Laws.{CutIsUnique, CutHasLabels, RangeAddsTwoPlaces, EachByteCountsOnce, SizesAddUp, TotalsAreWhole, TwiceCoveredCountsOnce, RewritingIsByLabel};
 
-/// A labelling has one cut.
+/// A labelling has exactly one cut.
 pub fn cut_is_unique()
     ensures { CutIsUnique }
 {}
 
-/// A position in a piece of a cut has the piece's label, and each position with a label lies in a piece.
+/// In a cut, each position of a piece has the label of the piece, and each position with a label lies in a
+/// piece with that label.
 pub fn cut_has_labels()
     ensures { CutHasLabels }
 {}
 
-/// Where a range is added to the pieces of a cut, the new cut's pieces begin or end at two more positions
+/// When a range is added to the pieces of a cut, pieces of the new cut begin or end at two more positions
 /// at most.
 pub fn range_adds_two_places()
     ensures { RangeAddsTwoPlaces }
 {}
 
-/// A byte is counted for one path of each length, so two rows of one level never count the same byte.
+/// A byte counts for one path of each length. So two rows of the same level never count the same byte.
 pub fn each_byte_counts_once()
     ensures { EachByteCountsOnce }
 {}
 
-/// The sizes of a path's children add up to its own, in the file and in memory.
+/// The sizes of the children of a path add up to the size of the path, in the file and in memory.
 pub fn sizes_add_up()
     ensures { SizesAddUp }
 {}
 
-/// Without a filter the sizes of the empty path are the sum of the files' lengths and the sum of their
-/// numbers of mapped addresses.
+/// Without a filter, the file size of the empty path is the sum of the lengths of the files, and its VM
+/// size is the sum of their numbers of mapped addresses.
 pub fn totals_are_whole()
     ensures { TotalsAreWhole }
 {}
 
-/// An address that two loads cover is one address: a load over addresses that are mapped already changes
-/// no VM size.
+/// An address that two loads cover counts once: a load that covers only mapped addresses changes no VM
+/// size.
 pub fn twice_covered_counts_once()
     ensures { TwiceCoveredCountsOnce }
 {}
 
-/// Where the labels of a data source are rewritten, the label of each byte is the rewritten one.
+/// When the labels of a data source are rewritten, the label of each byte is the rewritten label.
 pub fn rewriting_is_by_label()
     ensures { RewritingIsByLabel }
 {}

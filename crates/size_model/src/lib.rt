@@ -1,5 +1,5 @@
-//! What the sizes of a report mean: which bytes a claim covers, the label of a byte, its path over the
-//! data sources asked, and the sizes of a path.
+//! Defines what the sizes of a report mean: the bytes that a claim covers, the label of a byte, its path
+//! over the requested data sources, and the sizes of a path.
 #![tactic(auto)]
 
 mod counting;
@@ -20,6 +20,3 @@ pub use plain::{
     addr, address_label, label_of_address, label_of_offset, mapped, offset_label, place,
 };
 pub use view::{FileView, LabelledClaim, SourceView};
-
-#[cfg(test)]
-mod tests;

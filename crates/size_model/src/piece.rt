@@ -1,6 +1,6 @@
 //! Labelled ranges of positions.
 
-/// `len` positions from `start` on, and the number of their label. A position is a file offset, or
+/// A range of `len` positions from `start` on, and the number of its label. A position is a file offset, or
 /// `space * 2^64 + address` for a virtual address of an address space.
 #[derive(Clone, Copy, Debug, PartialEq, Eq, Hash)]
 pub struct Piece {

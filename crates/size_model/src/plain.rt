@@ -1,5 +1,5 @@
-//! The plain program: labels and sizes by going through loads, claims, offsets and addresses one by one.
-//! It is slow, and says in code what each number means; what is faster is compared with it.
+//! The plain program: it finds labels and sizes by visiting loads, claims, offsets and addresses one by
+//! one. It is slow, but its code shows what each number means. Tests compare the fast code with it.
 
 ghost use Rattle.std.specs.Prelude.{◌≡◌, ◌≤◌, take, length};
 ghost use Rattle.size_model.specs.Claims.{span_has, address_in, offset_in, covers_offset, covers_address};
@@ -10,7 +10,7 @@ ghost use Rattle.size_model.specs.Sizes.{label_of_offset, label_of_address};
 use crate::view::{FileView, SourceView};
 use size_core::{Bytes, Claim, List, Load, Side, Span};
 
-// How many bytes of the file a load takes, the file's end aside.
+// Returns how many bytes of the file a load maps, before the cut at the end of the file.
 fn load_len(load: &Load) -> u64
     ensures { result ≡ load_len load.now }
 {
@@ -29,7 +29,8 @@ fn load_has_offset(len: u64, load: &Load, offset: u64) -> bool
     load.offset <= offset && offset - load.offset < load_len(load) && offset < len
 }
 
-// The offset at which an address lies in a load.
+// Returns the file offset that a load maps to an address. `None` after the part of the load that is in the
+// file, and from the end of the file on.
 fn place_in(len: u64, load: &Load, address: u64) -> Option<u64>
     ensures { result ≡ place_in len load.now address }
 {
@@ -41,7 +42,7 @@ fn place_in(len: u64, load: &Load, address: u64) -> Option<u64>
     }
 }
 
-// Whether one of the first `count` loads covers an address.
+// Returns whether one of the first `count` loads covers an address.
 pub(crate) fn is_mapped_by_first(loads: &List<Load>, count: usize, space: u32, address: u64) -> bool
     requires { count ≤ length loads.now }
     ensures { result ≡ mapped (take count loads.now) space address }
@@ -54,15 +55,15 @@ pub(crate) fn is_mapped_by_first(loads: &List<Load>, count: usize, space: u32, a
     false
 }
 
-/// Whether an address of a space is mapped.
+/// Returns whether an address of a space is mapped.
 pub fn mapped(loads: &List<Load>, space: u32, address: u64) -> bool
     ensures { result ≡ mapped loads.now space address }
 {
     is_mapped_by_first(loads, loads.len(), space, address)
 }
 
-/// The space and the address of an offset in a file of `len` bytes, by the first load that covers it. An
-/// address of a load that passes 2^64 may pass it too.
+/// Returns the space and the virtual address of an offset in a file of `len` bytes, by the first load that
+/// covers the offset. The address is 2^64 or more where the load ends past 2^64.
 pub fn addr(len: u64, loads: &List<Load>, offset: u64) -> Option<(u32, u128)>
     ensures { result ≡ addr len loads.now offset }
 {
@@ -78,7 +79,8 @@ pub fn addr(len: u64, loads: &List<Load>, offset: u64) -> Option<(u32, u128)>
     None
 }
 
-/// The offset of an address of a space in a file of `len` bytes, by the first load that covers it.
+/// Returns the file offset of an address of a space in a file of `len` bytes, by the first load that covers
+/// the address.
 pub fn place(len: u64, loads: &List<Load>, space: u32, address: u64) -> Option<u64>
     ensures { result ≡ place len loads.now space address }
 {
@@ -149,7 +151,7 @@ fn covers_address(
     }
 }
 
-/// The label that a data source gives an offset: that of the first claim that covers it.
+/// Returns the label of a file offset in a data source: that of the first claim that covers the offset.
 pub fn label_of_offset<'a>(file: &FileView, source: &'a SourceView, offset: u64) -> &'a Bytes
     ensures { result.now ≡ label_of_offset file.now offset source.now }
 {
@@ -169,7 +171,8 @@ pub fn label_of_offset<'a>(file: &FileView, source: &'a SourceView, offset: u64)
     &source.unmapped
 }
 
-/// The label that a data source gives an address of a space: that of the first claim that covers it.
+/// Returns the label of an address of a space in a data source: that of the first claim that covers the
+/// address.
 pub fn label_of_address<'a>(
     file: &FileView,
     source: &'a SourceView,
@@ -195,8 +198,8 @@ pub fn label_of_address<'a>(
     &source.unmapped
 }
 
-/// The number of an offset's label in a file of `len` bytes: that of the first claim that covers the offset,
-/// or `unmapped`.
+/// Returns the number of the label of an offset in a file of `len` bytes: that of the first claim that
+/// covers the offset, or `unmapped`.
 pub fn offset_label(
     len: u64,
     loads: &List<Load>,
@@ -214,7 +217,8 @@ pub fn offset_label(
     unmapped
 }
 
-/// The number of an address's label: that of the first claim that covers the address, or `unmapped`.
+/// Returns the number of the label of an address: that of the first claim that covers the address, or
+/// `unmapped`.
 pub fn address_label(
     len: u64,
     loads: &List<Load>,

@@ -1,8 +1,8 @@
-//! A file as its sizes are counted: its length, its loads, and the claims of each data source asked.
+//! A file as its sizes are counted: its length, its loads, and the claims of each requested data source.
 
 use size_core::{Bytes, List, Load, Side, Span};
 
-/// A claim, with its label's bytes in the place of a number.
+/// A claim that has the bytes of its label and not a number.
 #[derive(Debug, Drop)]
 pub struct LabelledClaim {
     pub side: Side,
@@ -11,14 +11,14 @@ pub struct LabelledClaim {
     pub label: Bytes,
 }
 
-/// What one data source says of a file: its claims in order, and the label of a byte that none covers.
+/// The claims of one data source in order, and the label of a byte that no claim covers.
 #[derive(Debug, Drop)]
 pub struct SourceView {
     pub claims: List<LabelledClaim>,
     pub unmapped: Bytes,
 }
 
-/// A file of `len` bytes: its loads in order, and the data sources asked, in their order.
+/// A file of `len` bytes: its loads in order, and the requested data sources in order.
 #[derive(Debug, Drop)]
 pub struct FileView {
     pub len: u64,

@@ -1,4 +1,4 @@
--- Options with which nothing is wrong keep their limits.
+-- Options without an error keep their limits.
 use Rattle.std.proofs.Common.{rules, ◌≡◌, ◌≢◌, ℕ, suc, ◌≤◌, ◌==◌, Bool, true, false, not, ◌&&◌, ◌||◌, List, [], ◌∷◌, length, refl, Option, Some, None, is_none, is_some, nat_le, nat_lt, if◌then◌else◌, option_and_then, unwrap_or, codes, arith, All}
 use Rattle.std.specs.List.{list_any}
 use Rattle.std.proofs.lemmas.Bool.Decides.{nat_tests}
@@ -16,7 +16,7 @@ abbrev NoneHolds : List (Bool × UsageKind) → Type 0
 NoneHolds [] = Unit {0}
 NoneHolds (p ∷ ps) = (p.0 ≡ false) × NoneHolds ps
 
--- where there is no first one, no test holds
+-- Where there is no first error, no test holds.
 none_holds : (ps : List (Bool × UsageKind)) → first_usage ps ≡ None → NoneHolds ps
 none_holds [] h = tt
 none_holds ((true, kind) ∷ ps) h = cc
@@ -62,7 +62,7 @@ input (file ∷ files) None good some one = omega arith
 input [] (Some t) good some one = small (number_of t) [] good refl
 input (file ∷ files) (Some t) good some one = absurd (some_file (length files) one)
 
--- ---- a debug file and a place
+-- ---- a debug file and a location
 
 one : (n : ℕ) → not (n == 1) ≡ false → n ≡ 1
 one n h = go (n == 1) refl h
@@ -78,7 +78,7 @@ no_value : (o : Option Text) → is_some o ≡ false → o ≡ None
 no_value None h = refl
 no_value (Some t) h = cc
 
--- beside one file nothing is made
+-- With one file nothing is synthetic.
 not_made : (files : List Text) (synth : Option Text) → length files ≡ 1 → (not (length files == 0) && is_some synth) ≡ false
     → option_and_then small_number_of synth ≡ None
 not_made files None is h = refl

@@ -7,14 +7,14 @@ use Rattle.clap.specs.Words.{Text}
 differs : (x : ℕ) → x ≢ 44 → (x == 44) ≡ false
 differs x h = grind (arith, nat_tests)
 
--- a name ends at the first comma
+-- A name ends at the first comma.
 pub cut : (a b : List ℕ) → ((i : ℕ) → i < length a → get_or a i 0 ≢ 44) → names_in (a ++ 44 ∷ b) ≡ a ∷ names_in b
 cut [] b h = refl
 cut (x ∷ a) b h =
     ap (λ (t : Bool). if t then [] ∷ names_in (a ++ 44 ∷ b) else begun_by x (names_in (a ++ 44 ∷ b))) (differs x (h 0 (omega arith)))
     ∙ ap (begun_by x) (cut a b (λ i lt. h (suc i) (omega arith)))
 
--- and where there is none it is the whole text
+-- Where there is no comma, the name is the whole text.
 pub uncut : (a : List ℕ) → ((i : ℕ) → i < length a → get_or a i 0 ≢ 44) → names_in a ≡ a ∷ []
 uncut [] h = refl
 uncut (x ∷ a) h =
@@ -38,7 +38,7 @@ begun_some : (c : ℕ) (names : List Text) → 0 < length (begun_by c names)
 begun_some c [] = omega arith
 begun_some c (name ∷ names) = omega arith
 
--- there is a name in each text
+-- There is a name in each text.
 pub some_name : (t : Text) → 0 < length (names_in t)
 some_name [] = omega arith
 some_name (c ∷ cs) = go (c == 44)
@@ -49,7 +49,7 @@ some_name (c ∷ cs) = go (c == 44)
 
 -- ---- whether the list is a bad one, name by name
 
--- a name is empty, or there are more than `room`
+-- A name is empty, or there are more than `room` names.
 abbrev pub is_bad_within : ℕ → List Text → Bool
 is_bad_within room names = list_any (λ n. length n == 0) names || nat_lt room (length names)
 
@@ -63,7 +63,7 @@ one_less room less n is = go (nat_lt less n) refl
     go true h = grind (arith, nat_tests)
     go false h = grind (arith, nat_tests)
 
--- a name that isn't empty takes its room
+-- A name that isn't empty takes one of the `room` names.
 pub passes : (room less : ℕ) (left name rest : Text) → left ≡ name ++ 44 ∷ rest → ((i : ℕ) → i < length name → get_or name i 0 ≢ 44)
     → length name ≢ 0 → room ≡ less + 1 → is_bad_within room (names_in left) ≡ is_bad_within less (names_in rest)
 passes room less left name rest parts clean some is =
@@ -78,7 +78,7 @@ or_true false = refl
 more : (n : ℕ) → 0 < n → nat_lt 1 (suc n) ≡ true
 more n h = grind (arith, nat_tests)
 
--- an empty name, or a name that takes the last room before another one
+-- An empty name, or a name that takes the last of the `room` names before another one.
 pub stops : (room : ℕ) (left name rest : Text) → left ≡ name ++ 44 ∷ rest → ((i : ℕ) → i < length name → get_or name i 0 ≢ 44)
     → (length name ≡ 0) ⊎ (room ≡ 1) → is_bad_within room (names_in left) ≡ true
 stops room left name rest parts clean why =
@@ -98,7 +98,7 @@ alone : (b : Bool) → ((b || false) || false) ≡ b
 alone true = refl
 alone false = refl
 
--- the last name is the whole of what is left
+-- The last name is all of the rest.
 pub ends : (room : ℕ) (left : Text) → ((i : ℕ) → i < length left → get_or left i 0 ≢ 44) → 0 < room
     → is_bad_within room (names_in left) ≡ (length left == 0)
 ends room left clean some =

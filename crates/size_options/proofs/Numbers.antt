@@ -37,7 +37,7 @@ digits_of is_digit most t h =
     let short = left_of (is_short most t) _ h in
     (is_below 0 (length t) (left_of (nat_lt 0 (length t)) _ short), is_within (length t) most (right_of (nat_lt 0 (length t)) _ short), right_of (is_short most t) _ h)
 
--- what a type of so many bits reads of decimal digits
+-- What a type of this many bits reads of decimal digits.
 decimal_read_at : {E : Type 0} → (bits : ℕ) (t : List ℕ) (r : Result ℕ E) → ParsesUnsigned bits 10 t r → 0 < length t
     → list_all is_ascii_digit t ≡ true → result_ok r ≡ (if nat_lt (digits_value 10 t) (2 ^ bits) then Some (digits_value 10 t) else None)
 decimal_read_at {E} bits t r p some digits = go r (parse_digits own bits t r p digits)
@@ -66,7 +66,7 @@ no_sign : (t : List ℕ) → list_all is_ascii_hexdigit t ≡ true → get_or t 
 no_sign [] h is = omega arith
 no_sign (c ∷ cs) h is = let digit = (hexadecimal_digit c (left_of _ _ h)).1 in omega arith
 
--- sixteen hexadecimal digits always fit 64 bits
+-- Sixteen hexadecimal digits always fit in 64 bits.
 pub hexadecimal_read : {E : Type 0} → (t : List ℕ) (r : Result ℕ E) → ParsesUnsigned 64 16 t r → has_digits is_ascii_hexdigit 16 t ≡ true
     → result_ok r ≡ hexadecimal_of t
 hexadecimal_read {E} t r p h =

@@ -1,4 +1,4 @@
--- Which kind of misuse is the first, and what that says of the words.
+-- The first error, and what it says about the arguments.
 use Rattle.std.proofs.Common.{◌≡◌, ◌∙◌, ℕ, ◌+◌, ◌≤◌, ◌==◌, Bool, true, false, not, ◌&&◌, cond, List, [], ◌∷◌, map, take, drop, min, length, sym, ap, ap₂, refl, subst, Option, Some, None, Ok, unwrap_or, position, nat_le, nat_lt, arith}
 use Rattle.std.specs.List.{list_all, position_or_len}
 use Rattle.std.proofs.lemmas.List.{drop-map, take-map, length-map}
@@ -16,7 +16,7 @@ use Rattle.size_options.specs.declared.answer.UsageKind.{UsageKind}
 use Rattle.size_options.specs.declared.answer.UsageKind.TheVariants.{Words, BadNumber, BadSort, BadDomain, TwoFormats, BadSourceList, NoFile, SynthWithFile, NoBase, DebugFile, BadPlace, TwoPlaces, PlaceFile}
 use Rattle.size_options.specs.declared.chosen.Options.{Options}
 
--- the first kind of misuse that the tests find in the words
+-- The first error that the tests find in the arguments.
 abbrev pub first_of_words : List Text → Option UsageKind
 first_of_words words = first_usage (usage_tests (given_by words) (ends_in_mark words) (has_mark words))
 
@@ -37,7 +37,7 @@ module _ {X : Type 0} (f : X → Text) where
   mark_map [] = refl
   mark_map (x ∷ xs) = ap (λ n. cond (not (is_mark (f x))) (1 + n) 0) (mark_map xs)
 
-  -- the place that `position` gives, or the end
+  -- The index that `position` gives, or the end.
   pub mark_is : (xs : List X) → unwrap_or (position (λ w. is_mark (f w)) xs) (length xs) ≡ mark_at (map f xs)
   mark_is xs = go (nat_lt n (length xs)) refl ∙ sym (mark_map xs)
     where
@@ -51,28 +51,28 @@ module _ {X : Type 0} (f : X → Text) where
   pub mark_within : (xs : List X) → mark_at (map f xs) ≤ length xs
   mark_within xs = rw (mark_map xs) (prefix_len-le-length _ xs)
 
-  -- the words that are read are those before the mark
+  -- The arguments that are parsed are those before `--`.
   pub words_before : (xs : List X) (n : ℕ) → n ≡ mark_at (map f xs) → map f (take n xs) ≡ profile_words (map f xs)
   words_before xs n is = sym (take-map f n xs) ∙ ap (λ k. take k (map f xs)) is
 
-  -- what the tests say of the values that are read, they say of the words
+  -- What the tests say about the parsed values, they say about the arguments.
   pub first_is : (xs : List X) (n : ℕ) (g : GivenTexts) (found : Option UsageKind) → n ≡ mark_at (map f xs) → g ≡ given_by (map f xs)
       → found ≡ first_usage (usage_tests g (n + 1 == length xs) (nat_lt n (length xs))) → found ≡ first_of_words (map f xs)
   first_is xs n g found at given is =
       is ∙ ap (λ (x : GivenTexts). first_usage (usage_tests x (n + 1 == length xs) (nat_lt n (length xs)))) given
       ∙ ap₂ (λ (k l : ℕ). first_usage (usage_tests (given_by (map f xs)) (k + 1 == l) (nat_lt k l))) at (sym (length-map xs f))
 
-  -- where no word is a mark, none stands behind one
+  -- Where no argument is `--`, none follows one.
   pub none_behind : (xs : List X) (n : ℕ) → n ≡ mark_at (map f xs) → nat_lt n (length xs) ≡ false → base_words (map f xs) ≡ []
   none_behind xs n is none =
       let beyond : length xs ≤ n = grind (arith, nat_tests) in
       drop_of_length-le (map f xs) (omega (arith, length-map xs f))
 
-  -- the words behind the mark, also where there is none
+  -- The arguments after `--`, or none where there is no `--`.
   pub words_behind : (xs : List X) (n : ℕ) → n ≡ mark_at (map f xs) → map f (drop (min (n + 1) (length xs)) xs) ≡ base_words (map f xs)
   words_behind xs n is = ap (map f) (drop_within (n + 1) xs) ∙ sym (drop-map f (n + 1) xs) ∙ ap (λ k. drop (k + 1) (map f xs)) is
 
--- ---- words that can't be read
+-- ---- arguments that can't be parsed
 
 unread_usage : (words before : List Text) → before ≡ profile_words words → (kind : UsageKind) → IsUnread before kind → IsUsageOf words kind
 unread_usage words before is Words h = record {
@@ -98,7 +98,7 @@ pub refusal_is : (words before : List Text) → before ≡ profile_words words �
 refusal_is words before is NoMemory h = tt
 refusal_is words before is (Usage kind) h = unread_usage words before is kind h
 
--- ---- no test stands for Words
+-- ---- no test is for Words
 
 abbrev is_other : UsageKind → Bool
 is_other Words = false
@@ -126,7 +126,7 @@ never_words g b m kind h is = never (first_other (usage_tests g b m) Words refl 
     never : false ≡ true → ⊥
     never e = cc
 
--- ---- what the words ask for
+-- ---- what the arguments give
 
 pub usage_is : (words : List Text) (kind : UsageKind) → word_errors words ≡ []
     → Some kind ≡ first_of_words words → IsUsageOf words kind

@@ -1,4 +1,4 @@
--- What the answers to the words of a run mean.
+-- What the results of parsing a command line mean.
 use Rattle.std.specs.Prelude.{◌≡◌, ◌≢◌, ◌<◌, ◌≤◌, ℕ, Bool, false, List, [], Option, None, Some, Err, All, length}
 use Rattle.std.specs.Option.{ForSome}
 use Rattle.clap.specs.Words.{Kinds, Text}
@@ -11,60 +11,62 @@ use Rattle.size_options.specs.declared.answer.UsageKind.{UsageKind}
 use Rattle.size_options.specs.declared.answer.UsageKind.TheVariants.{Words}
 use Rattle.size_options.specs.declared.chosen.Options.{Options}
 
--- by clap's definition only want of memory keeps the words before the mark from being read
+-- Whether clap's definition parses the arguments before `--`. A failed allocation can still keep them from
+-- being parsed.
 abbrev pub are_taken : List Text → Bool
 are_taken words = takes_words (profile_words words)
 
--- the kinds of error that clap's definition gives for the words before the mark
+-- The kinds of error that clap's definition gives for the arguments before `--`.
 abbrev pub word_errors : List Text → Kinds
 word_errors words = errors_of (profile_words words)
 
--- these words can't be read
+-- The arguments can't be parsed, and this is the kind that says so.
 abbrev pub IsUnread : List Text → UsageKind → Type 0
 IsUnread words Words = (takes_words words ≡ false) × (errors_of words ≢ [])
 IsUnread words _ = ⊥
 
--- why there are no matches: these words can't be read; want of memory has no cause
+-- Why there are no matches: the arguments can't be parsed, or an allocation failed.
 abbrev pub IsUnreadAnswer : List Text → OptionAnswer → Type 0
 IsUnreadAnswer words NoMemory = Unit {0}
 IsUnreadAnswer words (Usage kind) = IsUnread words kind
 
--- the words are misused in this way: they can't be read, or they are read and this is what they come to
+-- The command line has this error: its arguments can't be parsed, or they are parsed and this is the first
+-- error among them.
 pub record IsUsageOf (words : List Text) (kind : UsageKind) : Type 0 where
   pub not_taken : kind ≡ Words → are_taken words ≡ false
   pub unread : kind ≡ Words → word_errors words ≢ []
   pub read : kind ≢ Words → word_errors words ≡ []
   pub first : kind ≢ Words → asked words ≡ Err kind
 
--- the cause of a refusal; want of memory has none
+-- The cause of an error. A failed allocation has none.
 abbrev pub IsRefusalOf : List Text → OptionAnswer → Type 0
 IsRefusalOf words NoMemory = Unit {0}
 IsRefusalOf words (Usage kind) = IsUsageOf words kind
 
--- a number of at most a million stands for the one file, and else there are files
+-- There is input: a number of at most a million for the synthetic file, or at least one file.
 abbrev pub HasInput : Option ℕ → List Text → Type 0
 HasInput None files = 0 < length files
 HasInput (Some n) files = (n ≤ 1000000) × (files ≡ [])
 
--- one file, which isn't made, and no base file
+-- There is one file, which isn't synthetic, and no base file.
 pub record IsPair (o : Options) : Type 0 where
   pub one_file : length o.files ≡ 1
   pub not_made : o.synth ≡ None
   pub no_base : o.bases ≡ []
 
--- one file, which is made or has a name
+-- There is one file, synthetic or named.
 abbrev pub IsOneInput : Option ℕ → List Text → Type 0
 IsOneInput None files = length files ≡ 1
 IsOneInput (Some n) files = files ≡ []
 
--- one file, and neither a debug file nor a base file
+-- There is one file, and neither a debug file nor a base file.
 pub record IsAlone (o : Options) : Type 0 where
   pub one_file : IsOneInput o.synth o.files
   pub no_debug : o.debug ≡ None
   pub no_base : o.bases ≡ []
 
--- there are one to eight data sources, each with a name, and something to read; a debug file stands beside one file,
--- and a place is asked of one file
+-- The options keep their limits: there are one to eight data sources with names, and something to read. With a
+-- debug file or a location there is one file.
 pub record KeepsLimits (o : Options) : Type 0 where
   pub some_source : 0 < length o.sources
   pub few_sources : length o.sources ≤ 8

@@ -1,4 +1,4 @@
--- What the words of a run ask for, or the first thing that is wrong with them.
+-- The options that a command line gives, or its first error.
 use Rattle.std.specs.Prelude.{Bool, not, ◌&&◌, ◌||◌, ◌==◌, List, [], ◌∷◌, Option, None, Some, Result, Ok, Err, codes, if◌then◌else◌, is_none, is_some, length, nat_lt, option_and_then, unwrap_or}
 use Rattle.clap.specs.Words.{Text}
 use Rattle.size_core.specs.declared.choices.Domain.TheVariants as domain
@@ -13,31 +13,31 @@ use Rattle.size_options.specs.declared.answer.UsageKind.{UsageKind}
 use Rattle.size_options.specs.declared.answer.UsageKind.TheVariants.{BadNumber, BadSort, BadDomain, TwoFormats, BadSourceList, NoFile, SynthWithFile, NoBase, DebugFile, BadPlace, TwoPlaces, PlaceFile}
 use Rattle.size_options.specs.declared.chosen.Options.{Options}
 
--- the names of the data sources: those of `-d`, or `sections` alone
+-- The names of the data sources: those of `-d`, or `sections` alone.
 abbrev pub source_names : GivenTexts → List Text
 source_names g = names_in (unwrap_or g.sources (codes "sections"))
 
--- a debug file is given, and there isn't one file alone
+-- Whether a debug file is given, but not exactly one file alone.
 abbrev pub is_unpaired : GivenTexts → Bool → Bool
 is_unpaired g has_mark = is_some g.debug && (not (length g.files == 1) || has_mark)
 
--- the value of an offset or of an address is no place
+-- Whether the value of an offset or of an address can't be parsed.
 abbrev pub is_bad_place : GivenTexts → Bool
 is_bad_place g = is_bad offset_of g.offset || is_bad address_of g.address
 
--- an offset or an address is given, and there is a file beside that of the place
+-- Whether an offset or an address is given together with another file.
 abbrev pub is_place_beside : GivenTexts → Bool → Bool
 is_place_beside g has_mark = (is_some g.offset || is_some g.address)
     && ((is_some g.debug || has_mark) || nat_lt 1 (length g.files))
 
--- the kinds of misuse of a debug file and of a place, each beside its test
+-- The errors in the use of a debug file and of a location, each with its test.
 abbrev pub debug_tests : GivenTexts → Bool → List (Bool × UsageKind)
 debug_tests g has_mark = (is_unpaired g has_mark, DebugFile)
     ∷ (is_bad_place g, BadPlace)
     ∷ (is_some g.offset && is_some g.address, TwoPlaces)
     ∷ (is_place_beside g has_mark, PlaceFile) ∷ []
 
--- each kind of misuse beside its test, in the order in which they are tried
+-- Each error with its test, in the order in which they are tried.
 abbrev pub usage_tests : GivenTexts → Bool → Bool → List (Bool × UsageKind)
 usage_tests g has_no_base has_mark = (is_bad number_of g.limit || is_bad small_number_of g.synth, BadNumber)
     ∷ (is_bad sort_of g.sort, BadSort)
@@ -48,15 +48,16 @@ usage_tests g has_no_base has_mark = (is_bad number_of g.limit || is_bad small_n
     ∷ (not (length g.files == 0) && is_some g.synth, SynthWithFile)
     ∷ (has_no_base, NoBase) ∷ debug_tests g has_mark
 
--- the kind of the first test that holds
+-- The kind of the first test that holds.
 abbrev pub first_usage : List (Bool × UsageKind) → Option UsageKind
 first_usage [] = None
 first_usage (p ∷ ps) = if p.0 then Some p.1 else first_usage ps
 
+-- The format: CSV, TSV, or text where neither is given.
 abbrev pub format_of : GivenTexts → Format
 format_of g = if g.csv then format.Csv else (if g.tsv then format.Tsv else format.Text)
 
--- the options that are given, and for each other one its default, with these base files
+-- The given options, with defaults for the others, and these base files.
 abbrev pub options_in : GivenTexts → List Text → Options
 options_in g bases = record {
   sources = source_names g;
@@ -74,15 +75,16 @@ options_in g bases = record {
   bases = bases;
 }
 
+-- The options, unless there is an error.
 abbrev pub unless_usage : Option UsageKind → Options → Result Options UsageKind
 unless_usage None options = Ok options
 unless_usage (Some kind) options = Err kind
 
--- what the matches of the words before the mark hold
+-- The arguments that the matches before `--` hold.
 abbrev pub given_by : List Text → GivenTexts
 given_by words = given_in (rows_by (profile_words words))
 
--- what the words ask for by the matches that clap's definition gives: the options, or the first kind of misuse other
--- than words that can't be read
+-- The options that a command line gives by clap's definition, or the first error other than arguments that
+-- can't be parsed.
 unfoldable pub asked : List Text → Result Options UsageKind
 asked words = unless_usage (first_usage (usage_tests (given_by words) (ends_in_mark words) (has_mark words))) (options_in (given_by words) (base_words words))

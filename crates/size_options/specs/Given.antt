@@ -5,7 +5,7 @@ use Rattle.std.specs.Str.{bytes_eq}
 use Rattle.clap.specs.Words.{Row, Text, all_of, first_of}
 use Rattle.size_options.specs.declared.given.Given.{Given}
 
--- the text of each option that is given, which flags are, and the files
+-- The text of each option that is given, the flags that are given, and the files.
 pub record GivenTexts : Type 0 where
   pub sources : Option Text
   pub limit : Option Text
@@ -22,10 +22,11 @@ pub record GivenTexts : Type 0 where
   pub synth : Option Text
   pub files : List Text
 
--- the matches have `true` for a flag that is given
+-- Whether a flag is given. The matches then have `true` for it.
 abbrev pub is_on : Text → List Row → Bool
 is_on id rows = option_map_or (λ v. bytes_eq v (codes "true")) (first_of id rows) false
 
+-- The arguments that rows of matches hold.
 abbrev pub given_in : List Row → GivenTexts
 given_in rows = record {
   sources = first_of (codes "sources") rows;
@@ -44,7 +45,7 @@ given_in rows = record {
   files = unwrap_or (all_of (codes "FILE") rows) [];
 }
 
--- the same of a value that borrows its texts
+-- The same for a value that borrows its texts.
 abbrev pub texts_of : Given → GivenTexts
 texts_of g = record {
   sources = option_map (λ s. s.now) g.sources;

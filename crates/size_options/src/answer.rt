@@ -1,4 +1,4 @@
-//! Why words are no options.
+//! The errors of parsing the command line.
 
 ghost use Rattle.std.specs.Prelude.{◌≡◌};
 ghost use Rattle.size_options.specs.declared.answer.OptionAnswer.TheVariants.{NoMemory as OutOfMemory};
@@ -7,49 +7,48 @@ use size_core::NoMemory;
 use std::alloc::AllocError;
 use thiserror::Error;
 
-/// How the words are misused. Where several kinds apply, the first in this order is the answer.
+/// How the command line is wrong. Where several kinds apply, the first in this order is returned.
 #[derive(Clone, Copy, Debug, PartialEq, Eq, Hash)]
 pub enum UsageKind {
-    /// The words can't be read: an unknown option, an option without its value, an option that is given
-    /// twice.
+    /// The arguments can't be parsed: an option is unknown, lacks its value, or is given twice.
     Words,
-    /// The value of `-n` or `--synth` is no number of one to ten digits below 2^32, or that of `--synth`
-    /// is above 1,000,000.
+    /// The value of `-n` or `--synth` isn't a number below 2^32 of one to ten digits, or that of `--synth` is
+    /// above 1,000,000.
     BadNumber,
-    /// The value of `-s` is none of `vm`, `file` and `both`.
+    /// The value of `-s` isn't `vm`, `file` or `both`.
     BadSort,
-    /// The value of `--domain` is none of `vm`, `file` and `both`.
+    /// The value of `--domain` isn't `vm`, `file` or `both`.
     BadDomain,
     /// `--csv` and `--tsv` are both given.
     TwoFormats,
-    /// A name in the value of `-d` is empty, or there are more than eight.
+    /// A name in the value of `-d` is empty, or there are more than eight names.
     BadSourceList,
     /// There is neither a file nor `--synth`.
     NoFile,
-    /// There are both `--synth` and a file.
+    /// `--synth` and a file are both given.
     SynthWithFile,
-    /// The first word `--`, after which base files stand, is the last word.
+    /// The first argument `--`, which base files follow, is the last argument.
     NoBase,
-    /// `--debug-file` is given, and there isn't exactly one file, or there is a word `--`.
+    /// `--debug-file` is given, but there isn't exactly one file, or there is an argument `--`.
     DebugFile,
-    /// The value of `--debug-fileoff` is no number below 2^64 (one to twenty digits, or `0x` and one to
-    /// sixteen hexadecimal digits), or that of `--debug-vmaddr` is neither such a number nor a space below
-    /// 2^32 in one to ten digits, a colon and such a number.
+    /// The value of `--debug-fileoff` isn't a number below 2^64: one to twenty digits, or `0x` and one to
+    /// sixteen hexadecimal digits. Or the value of `--debug-vmaddr` is neither such a number nor an address
+    /// space, a colon and such a number, where the space is a number below 2^32 of one to ten digits.
     BadPlace,
     /// `--debug-fileoff` and `--debug-vmaddr` are both given.
     TwoPlaces,
-    /// One of `--debug-fileoff` and `--debug-vmaddr` is given beside `--debug-file`, a word `--` or a second
-    /// file.
+    /// `--debug-fileoff` or `--debug-vmaddr` is given together with `--debug-file`, an argument `--` or a
+    /// second file.
     PlaceFile,
 }
 
 /// Why there are no options.
 #[derive(Clone, Copy, Debug, PartialEq, Eq, Hash, Error)]
 pub enum OptionAnswer {
-    /// The words are misused.
+    /// The command line is wrong.
     #[error("{0:?}")]
     Usage(UsageKind),
-    /// There was not enough memory.
+    /// An allocation failed.
     #[error("out of memory")]
     NoMemory,
 }

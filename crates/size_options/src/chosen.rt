@@ -12,41 +12,41 @@ use crate::values::{address_of, domain_of, number_of, offset_of, small_number_of
 use size_core::{Domain, Format, Names, NoMemory, Place, Sort, Text};
 use std::alloc::Global;
 
-/// How many children of one path are kept where `-n` isn't given.
+/// The number of rows under one parent that are kept where `-n` isn't given.
 const LIMIT: u32 = 20;
 
 /// The data sources where `-d` isn't given.
 pub const SOURCES: &str = "sections";
 
-/// What the words of a run ask for.
+/// The options that the command line gives.
 #[derive(Debug, Drop)]
 pub struct Options {
-    /// The names of the data sources, one to eight, none empty. Whether they are known isn't checked yet.
+    /// The names of the data sources: one to eight, none empty. They may be unknown; a later step checks that.
     pub sources: Names,
-    /// How many children of one path are kept; 0 is unlimited.
+    /// The number of rows under one parent that are kept. 0 means no limit.
     pub limit: u32,
-    /// Which size orders the rows.
+    /// The size that rows are sorted by.
     pub sort: Sort,
-    /// Which sizes are shown.
+    /// The sizes that are shown.
     pub domain: Domain,
-    /// Labels are written whole in the text report.
+    /// Whether the text report prints labels in full.
     pub wide: bool,
-    /// How the report is written.
+    /// The format of the report.
     pub format: Format,
-    /// The pattern that a byte's labels are searched for.
+    /// The pattern that labels are filtered by.
     pub filter: Option<Text>,
-    /// The name of the configuration's file.
+    /// The name of the configuration file.
     pub config: Option<Text>,
-    /// The name of the debug file, which gives the names of the one file's addresses.
+    /// The name of the debug file. It has the symbols and the debug information for the one file.
     pub debug: Option<Text>,
-    /// The place that is explained in place of a report, in the one file.
+    /// The location to explain instead of writing a report. There is then one file.
     pub place: Option<Place>,
-    /// The number of functions of the made file that is profiled in place of files, at most 1,000,000.
+    /// The number of functions of the synthetic file that is profiled instead of files, at most 1,000,000.
     pub synth: Option<u32>,
-    /// The names of the files, in order. There is one at least, unless `synth` is given, and then none.
+    /// The names of the files, in order. There is at least one, or none where `synth` is given.
     pub files: Names,
-    /// The names of the base files, in order, against which the files have grown. There is none where no growth is
-    /// asked for.
+    /// The names of the base files that the files are compared with, in order. There are none where no
+    /// comparison is requested.
     pub bases: Names,
 }
 
@@ -62,7 +62,7 @@ fn order_of(value: Option<&str>) -> Sort
     value.and_then(sort_of).unwrap_or(Sort::Both)
 }
 
-fn shown_by(value: Option<&str>) -> Domain
+fn shown_sizes_of(value: Option<&str>) -> Domain
     ensures { result ≡ value_or domain_of domain.Both (option_map (λ s. s.now) value.entry) }
 {
     value.and_then(domain_of).unwrap_or(Domain::Both)
@@ -114,7 +114,7 @@ fn names_of(alloc: Global, texts: &[&str]) -> Result<Names, NoMemory>
     Ok(names)
 }
 
-// The names that words are.
+// These arguments, as names.
 fn names_by(alloc: Global, words: &[String]) -> Result<Names, NoMemory>
     ensures { IfOk result (λ n. n ≡ map string_bytes words.entry.now) }
 {
@@ -125,7 +125,7 @@ fn names_by(alloc: Global, words: &[String]) -> Result<Names, NoMemory>
     Ok(names)
 }
 
-// The names between the commas.
+// The comma-separated names.
 fn names_in(alloc: Global, list: &str) -> Result<Names, NoMemory>
     ensures { IfOk result (λ n. n ≡ names_in list.entry.now) }
 {
@@ -139,7 +139,7 @@ fn names_in(alloc: Global, list: &str) -> Result<Names, NoMemory>
     Ok(names)
 }
 
-/// The options that were given, and for each other one its default; `bases` are the words that name base files.
+/// The given options, with defaults for the others. `bases` are the arguments that name base files.
 pub fn options_of(
     alloc: Global,
     given: &Given<'_, '_>,
@@ -159,7 +159,7 @@ pub fn options_of(
         sources,
         limit: limit_of(given.limit),
         sort: order_of(given.sort),
-        domain: shown_by(given.domain),
+        domain: shown_sizes_of(given.domain),
         wide: given.wide,
         format: format_of(given),
         filter,

@@ -1,4 +1,4 @@
-//! The command that reads the words of a profile.
+//! The `clap` command that parses the command line.
 
 ghost use Rattle.std.specs.Prelude.{◌≡◌, false, IfOk};
 ghost use Rattle.clap.specs.Words.{app_of, rule_of};
@@ -8,7 +8,7 @@ ghost use Rattle.size_options.specs.Command.{profile_app, report_rules, row_rule
 use clap::{Arg, ArgAction, Command};
 use std::alloc::{AllocError, Global};
 
-// An option of one letter, with a value.
+// An option with one letter and a value.
 fn letter_option<'a>(alloc: Global, id: &'a str, letter: char) -> Arg<'a>
     ensures rule { rule_of result ≡ letter_option letter id.entry.now }
     ensures local { result.global ≡ false }
@@ -16,7 +16,7 @@ fn letter_option<'a>(alloc: Global, id: &'a str, letter: char) -> Arg<'a>
     Arg::new(alloc, id).short(letter)
 }
 
-// An option that is written as a whole word, with a value.
+// An option with a long name and a value.
 fn word_option<'a>(alloc: Global, id: &'a str) -> Arg<'a>
     ensures rule { rule_of result ≡ word_option id.entry.now }
     ensures local { result.global ≡ false }
@@ -54,7 +54,7 @@ fn bare_command<'a>(alloc: Global) -> Command<'a>
         .disable_version_flag(true)
 }
 
-// What rows there are.
+// Adds the options for the rows of a report.
 fn with_row_options<'a>(command: Command<'a>, alloc: Global) -> Result<Command<'a>, AllocError>
     ensures { IfOk result (λ c. app_of c ≡ with_rules (app_of command.entry) row_rules) }
 {
@@ -65,7 +65,7 @@ fn with_row_options<'a>(command: Command<'a>, alloc: Global) -> Result<Command<'
         .arg(word_option(alloc, "domain"))
 }
 
-// How the report is written.
+// Adds the flags for the format of a report.
 fn with_report_flags<'a>(command: Command<'a>, alloc: Global) -> Result<Command<'a>, AllocError>
     ensures { IfOk result (λ c. app_of c ≡ with_rules (app_of command.entry) report_rules) }
 {
@@ -75,7 +75,7 @@ fn with_report_flags<'a>(command: Command<'a>, alloc: Global) -> Result<Command<
         .arg(word_flag(alloc, "tsv"))
 }
 
-// Which labels there are and which count.
+// Adds the options for labels and their filter.
 fn with_label_options<'a>(command: Command<'a>, alloc: Global) -> Result<Command<'a>, AllocError>
     ensures { IfOk result (λ c. app_of c ≡ with_rules (app_of command.entry) label_rules) }
 {
@@ -84,7 +84,7 @@ fn with_label_options<'a>(command: Command<'a>, alloc: Global) -> Result<Command
         .arg(word_option(alloc, "source-filter"))
 }
 
-// A file that has the names, and the place that is explained.
+// Adds the options for a debug file and for a location to explain.
 fn with_debug_options<'a>(command: Command<'a>, alloc: Global) -> Result<Command<'a>, AllocError>
     ensures { IfOk result (λ c. app_of c ≡ with_rules (app_of command.entry) debug_rules) }
 {

@@ -1,4 +1,4 @@
-//! What the matches hold, argument by argument. Above this file nothing sees `clap`.
+//! What the matches hold, argument by argument. Only this module and those below it use `clap`.
 
 ghost use Rattle.std.specs.Prelude.{◌≡◌, map, option_map};
 ghost use Rattle.clap.specs.Words.{all_of, first_of, found_of, rows_of};
@@ -6,7 +6,7 @@ ghost use Rattle.size_options.specs.Given.{given_in, is_on, texts_of};
 
 use clap::ArgMatches;
 
-/// The text of each option that is given, which flags are, and the files.
+/// The text of each option that is given, the flags that are given, and the files.
 #[derive(Clone, Copy)]
 pub struct Given<'m, 'a> {
     pub sources: Option<&'a str>,
@@ -34,7 +34,10 @@ fn value_of<'a>(matches: &ArgMatches<'a>, id: &str) -> Option<&'a str>
 fn is_on(matches: &ArgMatches<'_>, id: &str) -> bool
     ensures { result ≡ is_on id.now (rows_of (found_of matches.now)) }
 {
-    value_of(matches, id).is_some_and(|text| text == "true")
+    match value_of(matches, id) {
+        Some(text) => text == "true",
+        None => false,
+    }
 }
 
 fn values_of<'m, 'a>(matches: &'m ArgMatches<'a>, id: &str) -> Option<&'m [&'a str]>
@@ -44,7 +47,7 @@ fn values_of<'m, 'a>(matches: &'m ArgMatches<'a>, id: &str) -> Option<&'m [&'a s
     matches.get_raw(id)
 }
 
-/// What the matches hold.
+/// The arguments that the matches hold.
 pub fn given_of<'m, 'a>(matches: &'m ArgMatches<'a>) -> Given<'m, 'a>
     ensures { texts_of result ≡ given_in (rows_of (found_of matches.entry.now)) }
 {

@@ -1,4 +1,4 @@
-//! The words of a run, read as options by one command of `clap`.
+//! Parsing the command line into options, by one `clap` command.
 #![tactic(auto)]
 
 mod answer;
@@ -12,6 +12,3 @@ mod words;
 pub use answer::{OptionAnswer, UsageKind};
 pub use chosen::Options;
 pub use words::options;
-
-#[cfg(test)]
-mod tests;

@@ -1,4 +1,4 @@
-//! The matches of the words.
+//! Parsing the arguments before `--` with `clap`.
 
 ghost use Rattle.std.specs.Prelude.{◌≡◌, [], IfErr, IfOk, map, string_bytes};
 ghost use Rattle.clap.specs.Words.{found_of, rows_of};
@@ -11,7 +11,7 @@ use clap::ArgMatches;
 use clap::error::ErrorKind;
 use std::alloc::Global;
 
-/// What clap makes of the words before the mark.
+/// The matches of these arguments.
 pub fn matches_of<'a>(alloc: Global, words: &'a [String]) -> Result<ArgMatches<'a>, OptionAnswer>
     ensures rows { IfOk result (λ m.
         rows_of (found_of m) ≡ rows_by (map string_bytes words.entry.now)) }

@@ -1,4 +1,4 @@
-//! What the text of an option's value says.
+//! Parsing the values of options.
 
 ghost use Rattle.std.specs.Prelude.{◌≡◌};
 ghost use Rattle.std.specs.List.{list_all};
@@ -8,13 +8,13 @@ ghost use Rattle.size_options.specs.Values.{names_in, number_of, offset_of, smal
 
 use size_core::{Domain, Place, Sort};
 
-/// The greatest number that `--synth` takes.
+/// The greatest number that `--synth` accepts.
 const MOST_FUNCTIONS: u32 = 1_000_000;
 
-/// How many data sources a run has at most.
+/// The maximum number of data sources.
 const MOST_SOURCES: usize = 8;
 
-// One byte at least, and at most so many.
+// Whether the text has at least one byte and at most `most`.
 fn is_short(text: &str, most: usize) -> bool
     ensures { result ≡ is_short most text.now }
 {
@@ -33,21 +33,21 @@ fn is_hexadecimal(text: &str) -> bool
     text.as_bytes().iter().all(|b| b.is_ascii_hexdigit())
 }
 
-// One to `most` decimal digits.
+// Whether the text is one to `most` decimal digits.
 fn has_digits(text: &str, most: usize) -> bool
     ensures { result ≡ has_digits is_ascii_digit most text.now }
 {
     is_short(text, most) && is_digits(text)
 }
 
-// One to sixteen hexadecimal digits.
+// Whether the text is one to sixteen hexadecimal digits.
 fn has_hexadecimal_digits(text: &str) -> bool
     ensures { result ≡ has_digits is_ascii_hexdigit 16 text.now }
 {
     is_short(text, 16) && is_hexadecimal(text)
 }
 
-/// A number of one to ten digits that fits. The digits are looked at first, since `parse` takes a sign.
+/// A number below 2^32 of one to ten digits. The digits are checked first, because `parse` accepts a sign.
 pub fn number_of(text: &str) -> Option<u32>
     ensures { result ≡ number_of text.now }
 {
@@ -57,14 +57,14 @@ pub fn number_of(text: &str) -> Option<u32>
     text.parse::<u32>().ok()
 }
 
-/// A number that `--synth` takes.
+/// A number that `--synth` accepts.
 pub fn small_number_of(text: &str) -> Option<u32>
     ensures { result ≡ small_number_of text.now }
 {
     number_of(text).filter(|n| *n <= MOST_FUNCTIONS)
 }
 
-// One to twenty decimal digits with a value that fits.
+// A number below 2^64 of one to twenty decimal digits.
 fn decimal_of(text: &str) -> Option<u64>
     ensures { result ≡ decimal_of text.now }
 {
@@ -74,7 +74,7 @@ fn decimal_of(text: &str) -> Option<u64>
     text.parse::<u64>().ok()
 }
 
-// The value of hexadecimal digits, which always fits.
+// The value of one to sixteen hexadecimal digits. It always fits in 64 bits.
 fn hexadecimal_of(text: &str) -> Option<u64>
     ensures { result ≡ hexadecimal_of text.now }
 {
@@ -93,14 +93,14 @@ fn wide_number_of(text: &str) -> Option<u64>
     }
 }
 
-/// The file offset that `--debug-fileoff` names.
+/// The file offset in the value of `--debug-fileoff`.
 pub fn offset_of(text: &str) -> Option<Place>
     ensures { result ≡ offset_of text.now }
 {
     wide_number_of(text).map(Place::Offset)
 }
 
-// The address in the space.
+// The address in this address space, where both were parsed.
 fn address_in(space: Option<u32>, address: Option<u64>) -> Option<Place>
     ensures { result ≡ address_in space address }
 {
@@ -110,7 +110,7 @@ fn address_in(space: Option<u32>, address: Option<u64>) -> Option<Place>
     }
 }
 
-/// The address that `--debug-vmaddr` names.
+/// The address in the value of `--debug-vmaddr`.
 pub fn address_of(text: &str) -> Option<Place>
     ensures { result ≡ address_of text.entry.now }
 {
@@ -120,7 +120,7 @@ pub fn address_of(text: &str) -> Option<Place>
     }
 }
 
-/// The order of the rows that `-s` names.
+/// The sort order in the value of `-s`.
 pub fn sort_of(text: &str) -> Option<Sort>
     ensures { result ≡ sort_of text.now }
 {
@@ -132,7 +132,7 @@ pub fn sort_of(text: &str) -> Option<Sort>
     }
 }
 
-/// The sizes that `--domain` names.
+/// The sizes in the value of `--domain`.
 pub fn domain_of(text: &str) -> Option<Domain>
     ensures { result ≡ domain_of text.now }
 {
@@ -144,7 +144,7 @@ pub fn domain_of(text: &str) -> Option<Domain>
     }
 }
 
-/// Whether a name between the commas is empty, or there are too many.
+/// Whether a name in the list is empty, or there are too many names.
 pub fn is_bad_list(list: &str) -> bool
     ensures { result ≡ is_bad_list (names_in list.entry.now) }
 {

@@ -1,4 +1,4 @@
-//! The words of a run.
+//! Parsing the command line.
 
 ghost use Rattle.std.specs.Prelude.{◌≡◌, ◌≤◌, [], None, Ok, IfErr, IfOk, length, map, option_map, position, string_bytes};
 ghost use Rattle.size_options.specs.Answers.{IsRefusalOf, KeepsLimits, word_errors};
@@ -19,46 +19,67 @@ use std::alloc::Global;
 fn is_bad_number(value: Option<&str>) -> bool
     ensures { result ≡ is_bad number_of (option_map (λ s. s.now) value.entry) }
 {
-    value.is_some_and(|text| number_of(text).is_none())
+    match value {
+        Some(text) => number_of(text).is_none(),
+        None => false,
+    }
 }
 
 fn is_bad_small_number(value: Option<&str>) -> bool
     ensures { result ≡ is_bad small_number_of (option_map (λ s. s.now) value.entry) }
 {
-    value.is_some_and(|text| small_number_of(text).is_none())
+    match value {
+        Some(text) => small_number_of(text).is_none(),
+        None => false,
+    }
 }
 
 fn is_bad_sort(value: Option<&str>) -> bool
     ensures { result ≡ is_bad sort_of (option_map (λ s. s.now) value.entry) }
 {
-    value.is_some_and(|text| sort_of(text).is_none())
+    match value {
+        Some(text) => sort_of(text).is_none(),
+        None => false,
+    }
 }
 
 fn is_bad_domain(value: Option<&str>) -> bool
     ensures { result ≡ is_bad domain_of (option_map (λ s. s.now) value.entry) }
 {
-    value.is_some_and(|text| domain_of(text).is_none())
+    match value {
+        Some(text) => domain_of(text).is_none(),
+        None => false,
+    }
 }
 
 fn is_bad_offset(value: Option<&str>) -> bool
     ensures { result ≡ is_bad offset_of (option_map (λ s. s.now) value.entry) }
 {
-    value.is_some_and(|text| offset_of(text).is_none())
+    match value {
+        Some(text) => offset_of(text).is_none(),
+        None => false,
+    }
 }
 
 fn is_bad_address(value: Option<&str>) -> bool
     ensures { result ≡ is_bad address_of (option_map (λ s. s.now) value.entry) }
 {
-    value.is_some_and(|text| address_of(text).is_none())
+    match value {
+        Some(text) => address_of(text).is_none(),
+        None => false,
+    }
 }
 
 fn file_count(given: &Given<'_, '_>) -> usize
     ensures { result ≡ length (texts_of given.now).files }
 {
-    given.files.map_or(0, |files| files.len())
+    match given.files {
+        Some(files) => files.len(),
+        None => 0,
+    }
 }
 
-// The first way in which a debug file or a place is misused.
+// The first error in the use of a debug file or of a location.
 fn debug_usage_of(given: &Given<'_, '_>, has_mark: bool) -> Option<UsageKind>
     ensures { result ≡ first_usage (debug_tests (texts_of given.now) has_mark) }
 {
@@ -77,11 +98,11 @@ fn debug_usage_of(given: &Given<'_, '_>, has_mark: bool) -> Option<UsageKind>
     }
 }
 
-// The first way in which what was given is misused.
+// The first error in the given options.
 fn usage_of(given: &Given<'_, '_>, has_no_base: bool, has_mark: bool) -> Option<UsageKind>
     ensures { result ≡ first_usage (usage_tests (texts_of given.now) has_no_base has_mark) }
 {
-    let has_no_file = given.files.is_none_or(|files| files.is_empty());
+    let has_no_file = file_count(given) == 0;
     if is_bad_number(given.limit) || is_bad_small_number(given.synth) {
         Some(UsageKind::BadNumber)
     } else if is_bad_sort(given.sort) {
@@ -103,22 +124,22 @@ fn usage_of(given: &Given<'_, '_>, has_no_base: bool, has_mark: bool) -> Option<
     }
 }
 
-// Where the first mark stands.
-fn mark_found(words: &[String]) -> Option<usize>
+// The index of the first argument `--`.
+fn find_mark(words: &[String]) -> Option<usize>
     ensures { result ≡ position (λ w. is_mark (string_bytes w)) words.now }
 {
     words.iter().position(|word| word.as_str() == "--")
 }
 
-// How many words stand before the first mark, or all of them.
+// The number of arguments before the first `--`, or of all arguments where there is none.
 fn mark_at(words: &[String]) -> usize
     ensures at { result ≡ mark_at (seen_words words.now) }
     ensures within { result ≤ length words.now }
 {
-    mark_found(words).unwrap_or(words.len())
+    find_mark(words).unwrap_or(words.len())
 }
 
-// The words after the first mark.
+// The arguments after the first `--`.
 fn base_words(words: &[String], mark: usize) -> &[String]
     requires at { mark ≡ mark_at (seen_words words.now) }
     requires within { mark ≤ length words.now }
@@ -127,13 +148,11 @@ fn base_words(words: &[String], mark: usize) -> &[String]
     &words[(mark + 1).min(words.len())..]
 }
 
-/// The options that the words ask for. `words` are those after the program's name; the first word that is
-/// `--` ends the words of the profile, and those before it are read as clap reads the words of a command. The words
-/// after it are the names of base files, whatever they are.
+/// Parses the command line. `words` are the arguments after the program's name. The first argument `--` ends
+/// the arguments that clap parses. Those after it name base files, whatever they look like.
 ///
-/// `Usage` tells how the words are misused: `Words` comes only where clap doesn't take the words of the
-/// profile, and each other kind exactly where it is the first that applies. Want of memory may come
-/// instead of any answer.
+/// `Usage` has the first error. It is `Words` only where clap can't parse the arguments before `--`, and any
+/// other kind exactly where that kind is the first that applies. `NoMemory` is possible for any arguments.
 pub fn options(alloc: Global, words: &[String]) -> Result<Options, OptionAnswer>
     ensures asked { IfOk result (λ options. asked (seen_words words.entry.now) ≡ Ok options) }
     ensures read { IfOk result (λ _. word_errors (seen_words words.entry.now) ≡ []) }

@@ -1,5 +1,5 @@
--- The claims on a WebAssembly module's sections, header and functions.
-use Rattle.std.specs.Prelude.{ℕ, ◌==◌, List, [], ◌++◌, codes, decimal, Option, None, Some, Result, Ok, if◌then◌else◌}
+-- The claims of the sections, the header and the functions of a WebAssembly module.
+use Rattle.std.specs.Prelude.{ℕ, ◌==◌, List, ◌++◌, codes, decimal, Option, None, Some, Result, Ok, if◌then◌else◌}
 use Rattle.std.specs.List.{flat_map}
 use Rattle.size_core.specs.declared.fault.BadFile.{BadFile}
 use Rattle.size_core.specs.Checks.{◌>>=◌}
@@ -14,7 +14,7 @@ use Rattle.claim_sheet.specs.Reaches.{claim_on, in_file, span, wrapped}
 
 -- Sections.
 
--- what the standard calls the sections of an id (WebAssembly core 2.0, 5.5.2 Sections)
+-- The standard's name of the sections of an id (WebAssembly core 2.0, 5.5.2 Sections).
 abbrev pub standard_name : ℕ → Option (List ℕ)
 standard_name id =
     if id == TYPE then Some (codes "Type")
@@ -31,39 +31,45 @@ standard_name id =
     else if id == DATA_COUNT then Some (codes "DataCount")
     else None
 
+-- A name, or the other one if there is none.
 abbrev pub or_else : Option (List ℕ) → List ℕ → List ℕ
 or_else None other = other
 or_else (Some name) other = name
 
--- a custom section has its own name, if it can be read, and an id that the standard doesn't name is told by its number
+-- The label of a section: the name of a custom section, or `[Custom]` if its name can't be read; the standard's name of
+-- the id; or `[Section #id]` for an id that isn't in the standard (WebAssembly core 2.0, 5.5.3 Custom Section).
 abbrev pub section_label : SectionRecord → List ℕ
 section_label s =
     if s.id == CUSTOM then or_else s.name (codes "[Custom]")
     else or_else (standard_name s.id) (codes "[Section #" ++ decimal s.id ++ codes "]")
 
--- a section from its id to the end of its contents
+-- The claim of a section: its bytes from the id to the end of the contents (WebAssembly core 2.0, 5.5.2 Sections).
 unfoldable pub section_claim : Wrap → SectionRecord → List LabelledClaim
 section_claim wrap s = claim_on (in_file (span 0 s.place s.len)) (wrapped wrap (section_label s))
 
+-- The claims of all sections, in order (WebAssembly core 2.0, 5.5.2 Sections).
 unfoldable pub section_claims : Wrap → List ℕ → List LabelledClaim
 section_claims wrap file = flat_map (section_claim wrap) (sections_of file)
 
--- the magic number and the version (WebAssembly core 2.0, 5.5.16 Modules)
+-- The magic number and the version: eight bytes (WebAssembly core 2.0, 5.5.16 Modules).
 unfoldable pub header_reach : Reach
 header_reach = in_file (span 0 0 8)
 
+-- The claim of the magic number and the version (WebAssembly core 2.0, 5.5.16 Modules).
 abbrev pub header_claims : List ℕ → List LabelledClaim
 header_claims file = claim_on header_reach (codes "[WASM Header]")
 
 -- Functions.
 
+-- The label of a function: its name, or `func[N]` with its index (WebAssembly core 2.0, 7.4.1 Name Section).
 abbrev pub body_label : BodyRecord → List ℕ
 body_label b = or_else b.name (codes "func[" ++ decimal b.index ++ codes "]")
 
--- a body with its size
+-- The claim of a function: the bytes of its body with the size field (WebAssembly core 2.0, 5.5.13 Code Section).
 unfoldable pub body_claim : BodyRecord → List LabelledClaim
 body_claim b = claim_on (in_file (span 0 b.place b.len)) (body_label b)
 
--- the claims of the functions that have bodies, or the first fault of the imports and then of the bodies
+-- The claims of the functions that have bodies, in order, or the first fault: of the imports, or else of the bodies
+-- (WebAssembly core 2.0, 5.5.13 Code Section).
 unfoldable pub symbols_claims : List ℕ → Result (List LabelledClaim) BadFile
 symbols_claims file = functions_of file >>= λ bodies. Ok (flat_map body_claim bodies)

@@ -1,7 +1,7 @@
 //! The claim of a module's header (WebAssembly core 2.0, 5.5.16 Modules).
 
-ghost use Rattle.std.specs.Prelude.{◌≡◌, OnOk};
-ghost use Rattle.claim_sheet.specs.Sheets.{adding};
+ghost use Rattle.std.specs.Prelude.{◌≡◌};
+ghost use Rattle.claim_sheet.specs.Adds.{Adds};
 ghost use Rattle.wasm_claims.specs.Claims.{header_claims, header_reach};
 
 use claim_sheet::{ClaimSheet, Reach, Wrap, span};
@@ -15,10 +15,9 @@ fn header_reach() -> Reach
     Reach::in_file(span(0, 0, 8))
 }
 
-/// Adds the claim of the magic number and the version: the eight bytes that every module has.
+/// Adds the claim of the first eight bytes of a module: the magic number and the version.
 pub fn add_headers(_file: &WasmFile<'_>, sheet: &mut ClaimSheet) -> Result<(), NoMemory>
-    ensures made { OnOk result (sheet.new ≡ adding sheet.old (header_claims _file.now)) }
-    ensures kept { sheet.new.pool ≡ sheet.old.pool }
+    ensures { Adds result sheet.old sheet.new (header_claims _file.now) }
 {
     sheet.add(header_reach(), Wrap::Plain, b"[WASM Header]")
 }

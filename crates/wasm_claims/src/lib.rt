@@ -1,5 +1,5 @@
-//! What a WebAssembly module claims, group by group: its sections, its header and its functions. No part of it
-//! stands at virtual addresses.
+//! The claims of a WebAssembly module (WebAssembly core 2.0, 5.5): those of its sections, its header and its functions.
+//! A module has no virtual addresses.
 #![tactic(auto)]
 
 mod headers;
@@ -9,6 +9,3 @@ mod symbols;
 pub use headers::add_headers;
 pub use sections::add_sections;
 pub use symbols::add_symbols;
-
-#[cfg(test)]
-mod tests;

@@ -1,9 +1,9 @@
 //! The claims of sections (WebAssembly core 2.0, 5.5.2 Sections).
 
-ghost use Rattle.std.specs.Prelude.{◌≡◌, ◌++◌, codes, decimal, IfOk, OnOk};
+ghost use Rattle.std.specs.Prelude.{◌≡◌, ◌++◌, codes, decimal, IfOk};
 ghost use Rattle.std.specs.Option.{option_copied};
+ghost use Rattle.claim_sheet.specs.Adds.{Adds};
 ghost use Rattle.claim_sheet.specs.Reaches.{claim_on, wrapped};
-ghost use Rattle.claim_sheet.specs.Sheets.{adding};
 ghost use Rattle.wasm_file.specs.Shown.{section as section_of};
 ghost use Rattle.wasm_claims.specs.Claims.{or_else, section_claim, section_claims, standard_name};
 
@@ -16,7 +16,7 @@ use wasm_file::{
     TABLE, TYPE, WasmFile, WasmSection,
 };
 
-// What the standard calls the sections of an id.
+// Returns the standard's name of the sections of an id.
 fn standard_name(id: u8) -> Option<&'static [u8]>
     ensures { option_copied result ≡ standard_name id }
 {
@@ -37,7 +37,7 @@ fn standard_name(id: u8) -> Option<&'static [u8]>
     }
 }
 
-/// The name, or the other one where there is none.
+/// Returns the name, or the other one if there is none.
 pub fn or_else<'a>(name: Option<&'a [u8]>, other: &'a [u8]) -> &'a [u8]
     ensures { result.now ≡ or_else (option_copied name.entry) other.now }
 {
@@ -47,7 +47,7 @@ pub fn or_else<'a>(name: Option<&'a [u8]>, other: &'a [u8]) -> &'a [u8]
     }
 }
 
-// The label of a section whose id the standard doesn't name.
+// Returns the label of a section whose id isn't in the standard.
 fn numbered_label(alloc: Global, id: u8) -> Result<Vec<u8>, NoMemory>
     ensures { IfOk result (λ v. v.items ≡ codes "[Section #" ++ decimal id ++ codes "]") }
 {
@@ -58,7 +58,7 @@ fn numbered_label(alloc: Global, id: u8) -> Result<Vec<u8>, NoMemory>
     Ok(text)
 }
 
-// Adds the claim of a section of an id other than that of custom ones.
+// Adds the claim of a section that isn't a custom section.
 fn add_standard(
     alloc: Global,
     reach: Reach,
@@ -66,10 +66,8 @@ fn add_standard(
     wrap: Wrap,
     sheet: &mut ClaimSheet,
 ) -> Result<(), NoMemory>
-    ensures made { OnOk result (sheet.new
-        ≡ adding sheet.old (claim_on reach
-        (wrapped wrap (or_else (standard_name id) (codes "[Section #" ++ decimal id ++ codes "]"))))) }
-    ensures kept { sheet.new.pool ≡ sheet.old.pool }
+    ensures { Adds result sheet.old sheet.new (claim_on reach
+        (wrapped wrap (or_else (standard_name id) (codes "[Section #" ++ decimal id ++ codes "]")))) }
 {
     match standard_name(id) {
         Some(name) => sheet.add(reach, wrap, name),
@@ -87,8 +85,7 @@ fn add_section(
     wrap: Wrap,
     sheet: &mut ClaimSheet,
 ) -> Result<(), NoMemory>
-    ensures made { OnOk result (sheet.new ≡ adding sheet.old (section_claim wrap (section_of section.now))) }
-    ensures kept { sheet.new.pool ≡ sheet.old.pool }
+    ensures { Adds result sheet.old sheet.new (section_claim wrap (section_of section.now)) }
 {
     let reach = Reach::in_file(span(0, section.place, section.len));
     if section.id == CUSTOM {
@@ -105,8 +102,7 @@ pub fn add_sections(
     wrap: Wrap,
     sheet: &mut ClaimSheet,
 ) -> Result<(), NoMemory>
-    ensures made { OnOk result (sheet.new ≡ adding sheet.old (section_claims wrap file.now)) }
-    ensures kept { sheet.new.pool ≡ sheet.old.pool }
+    ensures { Adds result sheet.old sheet.new (section_claims wrap file.now) }
 {
     for section in file.sections() {
         add_section(alloc, &section, wrap, sheet)?;

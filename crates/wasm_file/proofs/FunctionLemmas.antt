@@ -15,7 +15,7 @@ use Rattle.wasm_file.specs.Records.{checks_of, under, values}
 use Rattle.wasm_file.specs.Shown.{Answers, IsFirstFaultOf, body}
 use Rattle.wasm_file.proofs.ModuleLemmas.{means_checked}
 
--- first the imports are checked, and then the bodies
+-- The imports are checked first, and then the bodies.
 both_checks : (file : List ℕ) → first_of (function_checks file) ≡ (first_of (checks_of (imports_of file)) >> first_of (checks_of (extents_of file)))
 unfolding function_checks
 both_checks file = simp first_of_append
@@ -46,7 +46,7 @@ counted_imports file n h = by_check (first_of (checks_of (imports_of file))) h
     by_check (Ok x) is = cc
     by_check (Err f) is = cc
 
--- what is answered tells whether the checks hold, and else which fails first
+-- The result is Ok exactly where the checks hold, and otherwise the first fault.
 pub means_answer : {A : Type 0} (file : List ℕ) (r : Result (Vec Body A) WasmAnswer) → Answers r (functions_of file) → MatchResult r (λ _. AllHold (function_checks file)) (IsFirstFaultOf (function_checks file))
 means_answer file (Ok v) h = means_checked (function_checks file) (bodies_of file) (Ok (map body v.items)) (sym h)
 means_answer file (Err (Bad e)) h = means_checked (function_checks file) (bodies_of file) (Err e) (sym h)

@@ -1,4 +1,4 @@
--- Where sections and bodies stand.
+-- The offsets of sections and the indices of bodies.
 use Rattle.std.proofs.Common.{◌≡◌, ℕ, zero, suc, ◌+◌, ◌-◌, ◌<◌, Bool, true, false, List, [], ◌∷◌, length, take, get_or, Ok, Err, refl, arith}
 use Rattle.std.proofs.lemmas.List.Sums.{sum_by-cons}
 use Rattle.std.specs.Prelude.{Result, nat_lt, sum_by, if◌then◌else◌}
@@ -15,17 +15,17 @@ use Rattle.wasm_file.proofs.SectionLemmas.{stands_at}
 abbrev those : ℕ → List ℕ → ℕ → List SectionRecord
 those fuel file at = values (sections_within fuel file at)
 
--- section k from a place on stands there and the lengths of those before it
-abbrev IsBehind : List SectionRecord → ℕ → ℕ → SectionRecord → Type 0
-IsBehind sections at k d = (get_or sections k d).place ≡ at + sum_by (λ s. s.len) (take k sections)
+-- Section k from an offset on begins there plus the lengths of the sections before it.
+abbrev BeginsAfter : List SectionRecord → ℕ → ℕ → SectionRecord → Type 0
+BeginsAfter sections at k d = (get_or sections k d).place ≡ at + sum_by (λ s. s.len) (take k sections)
 
-follow : (fuel : ℕ) (file : List ℕ) (at k : ℕ) (d : SectionRecord) → k < length (those fuel file at) → IsBehind (those fuel file at) at k d
+follow : (fuel : ℕ) (file : List ℕ) (at k : ℕ) (d : SectionRecord) → k < length (those fuel file at) → BeginsAfter (those fuel file at) at k d
 unfolding sections_within
 follow zero file at k d lt = absurd (omega arith)
 follow (suc fuel) file at k d lt = by_place k (nat_lt at (length file)) (section_at file at) refl (λ next j. follow fuel file next j d) lt
   where
-    by_place : (k : ℕ) (b : Bool) (read : Result SectionRecord BadFile) → section_at file at ≡ read → ((next j : ℕ) → j < length (those fuel file next) → IsBehind (those fuel file next) next j d)
-        → k < length (values (if b then with_rest read (sections_within fuel file) else [])) → IsBehind (values (if b then with_rest read (sections_within fuel file) else [])) at k d
+    by_place : (k : ℕ) (b : Bool) (read : Result SectionRecord BadFile) → section_at file at ≡ read → ((next j : ℕ) → j < length (those fuel file next) → BeginsAfter (those fuel file next) next j d)
+        → k < length (values (if b then with_rest read (sections_within fuel file) else [])) → BeginsAfter (values (if b then with_rest read (sections_within fuel file) else [])) at k d
     by_place k false read is rests lt = absurd (omega arith)
     by_place k true (Err e) is rests lt = absurd (omega arith)
     by_place zero true (Ok s) is rests lt = let place = stands_at file at s is in omega arith
@@ -35,7 +35,7 @@ follow (suc fuel) file at k d lt = by_place k (nat_lt at (length file)) (section
         let cons = sum_by-cons (λ (t : SectionRecord). t.len) s (take j (those fuel file (s.place + s.len))) in
         omega arith
 
-pub sections_follow : (file : List ℕ) (k : ℕ) (d : SectionRecord) → k < length (sections_of file) → IsBehind (sections_of file) 8 k d
+pub sections_follow : (file : List ℕ) (k : ℕ) (d : SectionRecord) → k < length (sections_of file) → BeginsAfter (sections_of file) 8 k d
 unfolding sections_from
 sections_follow file k d lt = follow (length file - 8) file 8 k d lt
 

@@ -8,12 +8,12 @@ use Rattle.wasm_file.specs.Records.{under}
 use Rattle.wasm_file.specs.Sections.{are_there}
 use Rattle.wasm_file.specs.Module.{checked, module_checks, opened, start_of, version_checks}
 
--- the module, or its first fault, as the steps of opening it find it
+-- The module or its first fault, as the steps of opening it find them.
 pub opened_is : (file : List ℕ) → opened file ≡ under (first_of (version_checks file) >> are_there (start_of file)) file
 unfolding module_checks are_there
 opened_is file = simp first_of_append
 
--- What is answered under checks tells whether they hold, and else which fails first.
+-- A result under checks is Ok exactly where they hold, and otherwise the first fault.
 pub means_checked : {X : Type 0} (checks : List Check) (x : X) (r : Result X BadFile) → r ≡ checked checks x → MatchResult r (λ _. AllHold checks) (IsFirstFault checks)
 means_checked {X} checks x r e = answers r (first_of checks) e (means (first_of checks) checks refl)
   where

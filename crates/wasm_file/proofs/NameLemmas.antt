@@ -1,4 +1,4 @@
--- The subsections of a section of names, one after another.
+-- The subsections of a name section, one after another.
 use Rattle.std.proofs.Common.{◌≡◌, ℕ, zero, suc, ◌+◌, ◌-◌, ◌<◌, ◌≤◌, true, false, List, length, Option, Some, None, refl, sym, ap, ◌∙◌, arith}
 use Rattle.std.proofs.lemmas.Grind.{common_steps}
 use Rattle.std.specs.Prelude.{nat_eq}
@@ -24,17 +24,17 @@ pub piece_begins : (base : ℕ) (bytes : List ℕ) (at : ℕ) (x : Window × ℕ
 unfolding piece_at
 piece_begins base bytes at x h = grind (arith, common_steps, number_forward)
 
--- a subsection begins in the window
+-- A subsection begins in the window.
 within : (w : Window) (x : (ℕ × Window) × ℕ) → subsection_at w ≡ Some x → w.at < length w.bytes
 unfolding subsection_at
 within w x h = grind (arith, common_steps, byte_begins)
 
--- and the next one stands further on
+-- The next subsection begins at a greater offset.
 forward : (w : Window) (x : (ℕ × Window) × ℕ) → subsection_at w ≡ Some x → w.at < x.1
 unfolding subsection_at
 forward w x h = grind (arith, common_steps, byte_forward, piece_forward)
 
--- enough fuel is as good as more
+-- A larger bound changes nothing where the bound is enough.
 same_fuel : (id m n : ℕ) (w : Window) → length w.bytes ≤ w.at + m → length w.bytes ≤ w.at + n → subsection_within m id w ≡ subsection_within n id w
 unfolding subsection_within
 same_fuel id zero zero w p q = refl

@@ -1,5 +1,5 @@
--- The functions of a module have fewer than 2^32 indices: each import and each body takes a byte of its section at
--- least, and the two sections don't overlap.
+-- The functions of a module have fewer than 2^32 indices: each import and each body has at least one byte,
+-- and the two sections don't overlap.
 use Rattle.std.proofs.Common.{◌≡◌, ℕ, zero, suc, ◌+◌, ◌-◌, ◌^◌, ◌<◌, ◌≤◌, Bool, true, false, List, [], length, Option, Some, None, Ok, Err, refl, arith}
 use Rattle.std.proofs.lemmas.Grind.{common_steps}
 use Rattle.std.proofs.lemmas.List.Sums.{count_by-le-length}
@@ -16,13 +16,13 @@ use Rattle.wasm_file.specs.Module.{IsOpened, sections_of}
 use Rattle.wasm_file.proofs.NameLemmas.{byte_forward, piece_forward, piece_begins}
 use Rattle.wasm_file.proofs.SectionLemmas.{number_forward, HasRoom, has_room}
 
--- a record begins in its window, and the next one stands further on
+-- A record begins in its window, and the next one begins at a greater offset.
 record Advances {X : Type 0} (read : Window → Option (X × ℕ)) : Type 0 where
   begins : (w : Window) (x : X × ℕ) → read w ≡ Some x → w.at < length w.bytes
   on : (w : Window) (x : X × ℕ) → read w ≡ Some x → w.at < x.1
 
 module _ {X : Type 0} (read : Window → Option (X × ℕ)) (advances : Advances read) where
-  -- so there are no more of them than bytes
+  -- There are at most as many records as bytes.
   records_few : (n : ℕ) (w : Window) → length (values (records read n w)) ≤ length w.bytes - w.at
   unfolding records
   records_few zero w = omega arith
@@ -78,7 +78,7 @@ bodies_advance = record {
   on = λ w x h. grind (arith, common_steps, piece_forward);
 }
 
--- the bytes of a section's contents, none where there is no such section
+-- The size of a section's contents in bytes, and 0 where there is no such section.
 abbrev size_of : Option Window → ℕ
 size_of None = 0
 size_of (Some w) = length w.bytes
@@ -96,11 +96,11 @@ unfolding bodies_in
 bodies_few None = omega arith
 bodies_few (Some w) = vector_few body_at bodies_advance w
 
--- the sections from a place on
+-- The sections from an offset on.
 abbrev those : ℕ → List ℕ → ℕ → List SectionRecord
 those fuel file at = values (sections_within fuel file at)
 
--- the contents of one section lie in what is left of the file
+-- The contents of one section fit into the rest of the file.
 one_fits : (id fuel : ℕ) (file : List ℕ) (at : ℕ) → size_of (first_with id (those fuel file at)) ≤ length file - at
 unfolding sections_within
 one_fits id zero file at = omega arith
@@ -117,7 +117,7 @@ one_fits id (suc fuel) file at = by_place (nat_lt at (length file)) (section_at 
     by_place true (Err e) is rests = omega arith
     by_place true (Ok s) is rests = by_id s (s.id == id) (has_room file at s is) (rests (s.place + s.len))
 
--- so do those of two sections together
+-- The contents of two sections fit together.
 two_fit : (a b fuel : ℕ) (file : List ℕ) (at : ℕ) → nat_eq a b ≡ false → size_of (first_with a (those fuel file at)) + size_of (first_with b (those fuel file at)) ≤ length file - at
 unfolding sections_within
 two_fit a b zero file at apart = omega arith
@@ -141,7 +141,7 @@ two_fit a b (suc fuel) file at apart = by_place (nat_lt at (length file)) (secti
     by_place true (Err e) is rests = omega arith
     by_place true (Ok s) is rests = by_id s (s.id == a) (s.id == b) refl refl (has_room file at s is) (rests (s.place + s.len))
 
--- the functions of a module have few indices
+-- The functions of a module have fewer than 2^32 indices.
 pub functions_fit : (file : List ℕ) (first : ℕ) → IsOpened file → first ≡ function_count (imports_of file) → first + length (values (extents_of file)) < 2 ^ 32
 unfolding sections_from
 functions_fit file first opened is =

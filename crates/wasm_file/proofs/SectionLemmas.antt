@@ -11,7 +11,7 @@ use Rattle.byte_cursor.specs.Window.{Window}
 use Rattle.wasm_file.specs.Numbers.{number_at}
 use Rattle.wasm_file.specs.Sections.{SectionRecord, present, section_at, size_at, section_of, sections_within, sections_from, to_come, are_there, AreThere, IsFound, IsUnreadable}
 
--- a number takes a byte at least
+-- A number has at least one byte.
 leb_some : (bytes : List ℕ) (x : ℕ × ℕ) → leb bytes ≡ Some x → 0 < x.1
 unfolding leb
 leb_some [] x h = cc
@@ -22,7 +22,7 @@ leb_some (b ∷ bytes) x h = by_end (nat_lt b 128) (leb bytes) h
     by_end false None e = cc
     by_end false (Some y) e = let one : y.1 + 1 ≡ x.1 = ap (λ (p : ℕ × ℕ). p.1) (let same : (b % 128 + 128 * y.0, y.1 + 1) ≡ x = cc in same) in omega arith
 
--- what stands behind a number stands further on
+-- The offset after a number is greater.
 pub number_forward : (bytes : List ℕ) (at : ℕ) (x : ℕ × ℕ) → number_at bytes at ≡ Some x → at < x.1
 unfolding number_at
 number_forward bytes at x h = grind (arith, common_steps, leb_some)
@@ -38,7 +38,7 @@ size_forward file at place size h = by_end (uleb file at) (number_at file at) re
         let same : y ≡ size = cc in
         number_forward file at size (is ∙ ap (λ (z : ℕ × ℕ). Some z) same)
 
--- a section has its contents behind its id and its size, and ends in the file
+-- The contents of a section follow its id and its size field, and it ends in the file.
 pub record HasRoom (file : List ℕ) (at : ℕ) (s : SectionRecord) : Type 0 where
   pub stands : s.place ≡ at
   pub contents : at + length s.contents.bytes < s.place + s.len
@@ -63,14 +63,14 @@ has_room file at s h = by_size (size_at file (at + 1) at) refl h
     by_size (Err e) is e2 = cc
     by_size (Ok size) is e2 = by_end size (nat_le (size.1 + size.0) (length file)) refl (size_forward file (at + 1) at size is) e2
 
--- the next section stands further on
+-- The next section begins at a greater offset.
 pub goes_on : (file : List ℕ) (at : ℕ) (s : SectionRecord) → section_at file at ≡ Ok s → at < s.place + s.len
 goes_on file at s h = let room = has_room file at s h in omega arith
 
 pub stands_at : (file : List ℕ) (at : ℕ) (s : SectionRecord) → section_at file at ≡ Ok s → s.place ≡ at
 stands_at file at s h = (has_room file at s h).stands
 
--- enough fuel is as good as more
+-- A larger bound changes nothing where the bound is enough.
 pub same_fuel : (file : List ℕ) (m n at : ℕ) → length file ≤ at + m → length file ≤ at + n → sections_within m file at ≡ sections_within n file at
 unfolding sections_within
 same_fuel file zero zero at p q = refl
@@ -91,17 +91,17 @@ bad_within : (file : List ℕ) (fuel at : ℕ) (e : BadFile) → at < length fil
 unfolding sections_within
 bad_within file fuel at e lt is = let within : nat_lt at (length file) ≡ true = grind (arith, common_steps) in rw (within, is) refl
 
--- nothing stands at the end
+-- No section begins at the end of the file.
 pub none_left : (file : List ℕ) (at : ℕ) → length file ≤ at → sections_from file at ≡ []
 unfolding sections_from sections_within
 none_left file at past = let none : length file - at ≡ 0 = omega arith in rw none refl
 
--- a section that can't be read is the last item
+-- A section that can't be read is the last item.
 pub one_bad : (file : List ℕ) (at : ℕ) (e : BadFile) → at < length file → section_at file at ≡ Err e → sections_from file at ≡ Err e ∷ []
 unfolding sections_from
 one_bad file at e lt is = same_fuel file (length file - at) (suc (length file - at)) at (omega arith) (omega arith) ∙ bad_within file (length file - at) at e lt is
 
--- behind a section come those from its end on
+-- After a section come those from its end on.
 pub one_more : (file : List ℕ) (at : ℕ) (s : SectionRecord) → at < length file → section_at file at ≡ Ok s → sections_from file at ≡ Ok s ∷ sections_from file (s.place + s.len)
 unfolding sections_from
 one_more file at s lt is =
@@ -111,7 +111,7 @@ one_more file at s lt is =
     same_fuel file (length file - at) (suc (length file - at)) at (omega arith) (omega arith) ∙ one_within file (length file - at) at s lt is
     ∙ ap (λ (read : List (Result SectionRecord BadFile)). Ok s ∷ read) rest
 
--- where no section is left
+-- Where no section is left.
 pub fault_end : (w : Window) → length w.bytes ≤ w.at → are_there w ≡ Ok tt
 unfolding are_there
 fault_end w past = rw (none_left w.bytes w.at past) refl
@@ -120,12 +120,12 @@ pub section_end : (w : Window) → length w.bytes ≤ w.at → to_come w ≡ []
 unfolding to_come
 section_end w past = rw (none_left w.bytes w.at past) refl
 
--- where one can't be read
+-- Where a section can't be read.
 pub fault_here : (w : Window) (e : BadFile) → w.at < length w.bytes → IsUnreadable w e → are_there w ≡ Err e
 unfolding are_there
 fault_here w e lt h = rw (one_bad w.bytes w.at e lt h.fault) refl
 
--- where one is found
+-- Where a section is found.
 pub found_forward : (w : Window) (s : SectionRecord) (next : Window) → IsFound w s next → w.at < next.at
 found_forward w s next h =
     let forward = goes_on w.bytes w.at s h.read in

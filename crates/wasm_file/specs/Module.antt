@@ -11,38 +11,39 @@ use Rattle.wasm_file.specs.declared.constants.TheConstants.{VERSION}
 use Rattle.wasm_file.specs.Records.{checks_of, under, values}
 use Rattle.wasm_file.specs.Sections.{AreThere, SectionRecord, sections_from}
 
--- the version is there, and it is the one that is read
+-- The checks of the version: it is complete, and it is 1 (WebAssembly core 2.0, 5.5.16 Modules).
 unfoldable pub version_checks : List ℕ → List Check
 version_checks file =
     demand (nat_le 8 (length file)) Truncated 4
     ∷ demand (field file 4 w32 Little == VERSION) BadHeader 4
     ∷ []
 
--- the sections stand behind the magic number and the version
+-- The checks of the sections, which follow the magic number and the version (WebAssembly core 2.0, 5.5.16
+-- Modules).
 abbrev pub section_checks : List ℕ → List Check
 section_checks file = checks_of (sections_from file 8)
 
--- all that is checked of a module
+-- All checks of a module, in order (WebAssembly core 2.0, 5.5.16 Modules).
 unfoldable pub module_checks : List ℕ → List Check
 module_checks file = version_checks file ++ section_checks file
 
--- the value, where the checks hold, or the first fault
+-- The value where the checks hold, or the first fault.
 abbrev pub checked : {X : Type 0} → List Check → X → Result X BadFile
 checked checks x = under (first_of checks) x
 
--- the module, or its first fault
+-- The module, or its first fault.
 abbrev pub opened : List ℕ → Result (List ℕ) BadFile
 opened file = checked (module_checks file) file
 
--- the sections of a module
+-- The sections of a module, from offset 8 on (WebAssembly core 2.0, 5.5.16 Modules).
 abbrev pub sections_of : List ℕ → List SectionRecord
 sections_of file = values (sections_from file 8)
 
--- the place of the first section
+-- The file as a window, with its position at the first section.
 abbrev pub start_of : List ℕ → Window
 start_of file = record { base = 0; bytes = file; at = 8 }
 
--- what is known of a module that was opened
+-- What is known of an opened module.
 pub record IsOpened (file : List ℕ) : Type 0 where
   pub small : length file < 2 ^ 32
   pub headed : 8 ≤ length file

@@ -12,7 +12,8 @@ use Rattle.wasm_file.specs.declared.constants.TheConstants.{CUSTOM}
 use Rattle.wasm_file.specs.Records.{checks_of, values}
 use Rattle.wasm_file.specs.Numbers.{number_at, name_at, value_of, window_at}
 
--- a section
+-- A section: the file offset of its id, its length to the end of its contents, its id, its name and its
+-- contents (WebAssembly core 2.0, 5.5.2 Sections).
 pub record SectionRecord : Type 0 where
   pub place : ℕ
   pub len : ℕ
@@ -20,11 +21,12 @@ pub record SectionRecord : Type 0 where
   pub name : Option (List ℕ)
   pub contents : Window
 
--- the name with which the contents of a custom section begin (5.5.3 Custom Section)
+-- The name at the start of the contents of a custom section, where it can be read (WebAssembly core 2.0,
+-- 5.5.3 Custom Section).
 unfoldable pub section_name : ℕ → List ℕ → Option (List ℕ)
 section_name id contents = if id == CUSTOM then value_of (name_at contents 0) else None
 
--- the section at a place whose contents have this size and begin at its second part
+-- The section whose id is at an offset. size has the size of its contents and their offset.
 abbrev pub section_of : List ℕ → ℕ → ℕ × ℕ → SectionRecord
 section_of file at size = let contents = window_at 0 file size in record {
   place = at;
@@ -34,55 +36,61 @@ section_of file at size = let contents = window_at 0 file size in record {
   contents = contents;
 }
 
--- what is there, or this fault
+-- The value, or this fault where there is none.
 abbrev pub present : {X : Type 0} → Option X → Fault → ℕ → Result X BadFile
 present None fault place = bad fault place
 present (Some x) fault place = Ok x
 
--- the size of the contents of the section at the second place: it has an end, and it is such a number
+-- The size field at an offset, and the offset after it. Truncated where it has no end, and BadLeb where it
+-- isn't a number below 2^32 in at most five bytes; both faults are at offset place (WebAssembly core 2.0,
+-- 5.5.2 Sections).
 unfoldable pub size_at : List ℕ → ℕ → ℕ → Result (ℕ × ℕ) BadFile
 size_at file at place = do
   demand (is_some (uleb file at)) Truncated place
   size ← present (number_at file at) BadLeb place
   Ok size
 
--- the section at a place: an id, the size of its contents, and these, which lie in the file
+-- The section at an offset: its id, the size field, and the contents, which lie in the file (WebAssembly
+-- core 2.0, 5.5.2 Sections).
 unfoldable pub section_at : List ℕ → ℕ → Result SectionRecord BadFile
 section_at file at = do
   size ← size_at file (at + 1) at
   demand (nat_le (size.1 + size.0) (length file)) SectionPastEnd at
   Ok (section_of file at size)
 
--- a section, and then those behind it, or its fault
+-- A section and then those from its end on, or its fault.
 abbrev pub with_rest : Result SectionRecord BadFile → (ℕ → List (Result SectionRecord BadFile)) → List (Result SectionRecord BadFile)
 with_rest (Err e) rest = Err e ∷ []
 with_rest (Ok s) rest = Ok s ∷ rest (s.place + s.len)
 
--- at most so many sections from a place on, up to the end of the file or the first that can't be read
+-- At most this many sections from an offset on, up to the end of the file or the first that can't be read.
 unfoldable pub sections_within : ℕ → List ℕ → ℕ → List (Result SectionRecord BadFile)
 sections_within zero file at = []
 sections_within (suc fuel) file at = if nat_lt at (length file) then with_rest (section_at file at) (sections_within fuel file) else []
 
--- the sections from a place on: each takes a byte at least
+-- The sections from an offset on. A section has at least one byte, so the remaining length of the file is
+-- enough as a bound (WebAssembly core 2.0, 5.5.16 Modules).
 unfoldable pub sections_from : List ℕ → ℕ → List (Result SectionRecord BadFile)
 sections_from file at = sections_within (length file - at) file at
 
--- the sections from a window's place on, and that they are there
+-- The sections from the position of a window on.
 unfoldable pub to_come : Window → List SectionRecord
 to_come w = values (sections_from w.bytes w.at)
 
+-- The check that the sections from the position of a window on can be read.
 unfoldable pub are_there : Window → Check
 are_there w = first_of (checks_of (sections_from w.bytes w.at))
 
+-- The window is that of the whole file, and all sections from its position on can be read.
 pub record AreThere (w : Window) : Type 0 where
   pub whole : w.base ≡ 0
   pub there : are_there w ≡ Ok tt
 
--- this section stands at a window's place, and the next window behind it
+-- This section is at the position of a window, and the position of the next window is after it.
 pub record IsFound (w : Window) (s : SectionRecord) (next : Window) : Type 0 where
   pub read : section_at w.bytes w.at ≡ Ok s
   pub same : next ≡ record w { at = s.place + s.len }
 
--- none can be read there, with this fault
+-- The section at the position of a window can't be read, and this is its fault.
 pub record IsUnreadable (w : Window) (e : BadFile) : Type 0 where
   pub fault : section_at w.bytes w.at ≡ Err e

@@ -1,29 +1,30 @@
--- Where a read leaves a cursor.
+-- The position of a cursor after a read.
 use Rattle.std.specs.Prelude.{◌≡◌, ℕ, ◌≤◌, Option, Some, None, Ok}
 use Rattle.byte_cursor.specs.Window.{Window}
 use Rattle.wasm_file.specs.Sections.{size_at}
 
--- the window that a read leaves
-abbrev pub left_by : {X : Type 0} → Window → Option (X × ℕ) → Window
-left_by w None = w
-left_by w (Some x) = record w { at = x.1 }
+-- The window after a read. It is unchanged where the read failed.
+abbrev pub window_after : {X : Type 0} → Window → Option (X × ℕ) → Window
+window_after w None = w
+window_after w (Some x) = record w { at = x.1 }
 
--- it is this one
-abbrev pub IsBehind : {X : Type 0} → Window → Option (X × ℕ) → Window → Type 0
-IsBehind w read next = next ≡ left_by w read
+-- This is the window after a read.
+abbrev pub IsAfter : {X : Type 0} → Window → Option (X × ℕ) → Window → Type 0
+IsAfter w read next = next ≡ window_after w read
 
--- a read of which the place behind it alone is kept leaves this window
-pub record IsPassed (w : Window) (behind : Option ℕ) (next : Window) : Type 0 where
-  pub read : behind ≡ Some next.at
+-- This is the window after a read that returns only the next offset.
+pub record IsPassed (w : Window) (next_offset : Option ℕ) (next : Window) : Type 0 where
+  pub read : next_offset ≡ Some next.at
   pub same : next ≡ record w { at = next.at }
 
--- this is the size of the contents of the section at a place, and the next window stands behind it
+-- The size field of the section at an offset has this value, and the position of the next window is after
+-- it.
 pub record HasSize (w : Window) (place size : ℕ) (next : Window) : Type 0 where
   pub read : size_at w.bytes w.at place ≡ Ok (size, next.at)
   pub same : next ≡ record w { at = next.at }
   pub forward : w.at ≤ next.at
 
--- the first, if it is there, and else the second
+-- The first of two values that exists.
 abbrev pub or_else : {X : Type 0} → Option X → Option X → Option X
 or_else None y = y
 or_else (Some x) y = Some x

@@ -1,4 +1,4 @@
-//! Why there is no list of functions.
+//! Why no list of functions is returned.
 
 ghost use Rattle.std.specs.Prelude.{◌≡◌};
 ghost use Rattle.wasm_file.specs.declared.answer.WasmAnswer.TheVariants.{Bad, NoMemory as OutOfMemory};
@@ -7,7 +7,7 @@ use size_core::{BadFile, NoMemory};
 use std::alloc::AllocFailed;
 use thiserror::Error;
 
-/// Why there is no list of functions.
+/// Why no list of functions is returned.
 #[derive(Clone, Copy, Debug, PartialEq, Eq, Error)]
 pub enum WasmAnswer {
     /// An import or a body can't be read.

@@ -1,19 +1,19 @@
-//! Functions that have bodies.
+//! Functions with bodies.
 
-/// A function that has a body (WebAssembly core 2.0, 5.5.13 Code Section).
+/// A function with a body (WebAssembly core 2.0, 5.5.13 Code Section).
 #[derive(Clone, Copy, Debug)]
 pub struct Body<'a> {
-    /// Its index: the imported functions have the first ones.
+    /// Its function index. Imported functions come first.
     pub index: u32,
-    /// The file offset of the body's size.
+    /// The file offset of the size field of the body.
     pub place: u64,
-    /// The bytes of the size and of the body.
+    /// The bytes of the size field and of the body.
     pub len: u64,
-    /// Its name, if the module has one for it.
+    /// Its name, if the module has one.
     pub name: Option<&'a [u8]>,
 }
 
-/// Where a body lies in the file, with its size.
+/// The file range of a body with its size field.
 #[derive(Clone, Copy, Debug, PartialEq, Eq)]
 pub struct Extent {
     pub place: u64,

@@ -12,9 +12,9 @@ ghost use Rattle.wasm_file.specs.Steps.{or_else};
 
 use crate::answer::WasmAnswer;
 use crate::body::{Body, Extent};
+use crate::function_names::FunctionNames;
 use crate::imports::bad_wasm;
 use crate::names::some_name;
-use crate::pairs::FunctionNames;
 use crate::reads::{number, piece};
 use crate::sections::WasmSections;
 use byte_cursor::Cursor;
@@ -22,7 +22,7 @@ use size_core::NoMemory;
 use std::alloc::Global;
 use std::collections::HashMap;
 
-/// The contents of the first section with this id.
+/// Returns the contents of the first section with this id.
 pub fn first_with<'a>(sections: WasmSections<'a>, id: u8) -> Option<Cursor<'a>>
     ensures { result ≡ first_with id sections.entry }
 {
@@ -34,8 +34,12 @@ pub fn first_with<'a>(sections: WasmSections<'a>, id: u8) -> Option<Cursor<'a>>
     None
 }
 
-/// Keeps a name for an index that has none yet.
-fn keep<'a>(table: &mut HashMap<u32, &'a [u8]>, index: u32, name: &'a [u8]) -> Result<(), NoMemory>
+/// Adds a name for an index that has none yet.
+fn add_name<'a>(
+    table: &mut HashMap<u32, &'a [u8]>,
+    index: u32,
+    name: &'a [u8],
+) -> Result<(), NoMemory>
     ensures { OnOk result ((k : ℕ)
         → option_copied (get nat_eq table.new k)
         ≡ or_else (option_copied (get nat_eq table.old k)) (if index == k then Some name.now else None)) }
@@ -47,7 +51,7 @@ fn keep<'a>(table: &mut HashMap<u32, &'a [u8]>, index: u32, name: &'a [u8]) -> R
     Ok(())
 }
 
-/// The names by index: that of the first pair of each.
+/// Returns the names by index. Where an index has several, the first one counts.
 fn name_table<'a>(
     alloc: Global,
     names: FunctionNames<'a>,
@@ -56,12 +60,12 @@ fn name_table<'a>(
 {
     let mut table = HashMap::new(alloc);
     for (index, name) in names {
-        keep(&mut table, index, name)?;
+        add_name(&mut table, index, name)?;
     }
     Ok(table)
 }
 
-/// The name of an index in the table: none where it is empty.
+/// Returns the name of an index in the table. `None` where the name is empty.
 fn name_at<'a>(table: &HashMap<u32, &'a [u8]>, index: u32) -> Option<&'a [u8]>
     ensures { option_copied result ≡ some_name (option_copied (get nat_eq table.now index)) }
 {
@@ -71,9 +75,9 @@ fn name_at<'a>(table: &HashMap<u32, &'a [u8]>, index: u32) -> Option<&'a [u8]>
     }
 }
 
-/// The body at the cursor's place, which is passed.
+/// Reads a body.
 #[tactic(auto, unfolding(crate::specs::Functions::body_at), using(crate::proofs::NameLemmas::piece_forward))]
-fn extent(cursor: &mut Cursor) -> Option<Extent>
+fn read_extent(cursor: &mut Cursor) -> Option<Extent>
     ensures { MatchOption result
         (body_at cursor.old ≡ None)
         (λ e. IsRead (body_at cursor.old) cursor.old e cursor.new) }
@@ -86,8 +90,8 @@ fn extent(cursor: &mut Cursor) -> Option<Extent>
     })
 }
 
-/// So many bodies from the cursor's place on, with the indices from a first one on and their names. BadWasm at
-/// the first that can't be read.
+/// Reads `count` bodies. They get the function indices from `first` on, and their names. BadWasm at the
+/// first body that can't be read.
 #[tactic(auto, using(crate::proofs::RecordLemmas::fault_end, crate::proofs::RecordLemmas::fault_here, crate::proofs::RecordLemmas::values_end))]
 fn numbered<'a>(
     alloc: Global,
@@ -105,7 +109,7 @@ fn numbered<'a>(
     let mut bodies = Vec::new(alloc);
     for i in 0..count {
         let place = rest.place();
-        match extent(&mut rest) {
+        match read_extent(&mut rest) {
             Some(extent) => {
                 let index = first + i;
                 bodies.push(Body {
@@ -121,8 +125,8 @@ fn numbered<'a>(
     Ok(bodies)
 }
 
-/// The bodies of a Code section's contents, none where there is no such section. BadWasm where the count or a
-/// body can't be read.
+/// Returns the bodies of a Code section, and none where there is no such section. BadWasm where the count
+/// or a body can't be read.
 #[tactic(auto, unfolding(crate::specs::Functions::bodies_in, crate::specs::Records::vector, crate::specs::Records::fault_in, crate::specs::Records::values_in))]
 pub fn numbered_bodies<'a>(
     alloc: Global,

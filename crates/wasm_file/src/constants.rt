@@ -1,46 +1,46 @@
-//! The numbers of the standard that are told apart (WebAssembly core 2.0, 5.5.2 Sections, 5.5.5 Import
+//! The constants of the standard that are used here (WebAssembly core 2.0, 5.5.2 Sections, 5.5.5 Import
 //! Section, 5.5.16 Modules and 7.4.1 Name Section).
 
 /// The version of the binary format.
 pub const VERSION: u32 = 1;
 
-/// A section with a name and contents of its own kind.
+/// A custom section, which has a name.
 pub const CUSTOM: u8 = 0;
 
-/// The types of functions.
+/// The function types.
 pub const TYPE: u8 = 1;
 
-/// What is imported.
+/// The imports.
 pub const IMPORT: u8 = 2;
 
-/// The types of the functions that have bodies.
+/// The types of the functions with bodies.
 pub const FUNCTION: u8 = 3;
 
-/// Tables.
+/// The tables.
 pub const TABLE: u8 = 4;
 
-/// Memories.
+/// The memories.
 pub const MEMORY: u8 = 5;
 
-/// Globals.
+/// The globals.
 pub const GLOBAL: u8 = 6;
 
-/// What is exported.
+/// The exports.
 pub const EXPORT: u8 = 7;
 
-/// The function that is called first.
+/// The start function.
 pub const START: u8 = 8;
 
-/// What tables begin with.
+/// The element segments, which initialize tables.
 pub const ELEMENT: u8 = 9;
 
 /// The bodies of functions.
 pub const CODE: u8 = 10;
 
-/// What memories begin with.
+/// The data segments, which initialize memories.
 pub const DATA: u8 = 11;
 
-/// How many pieces of data there are.
+/// The number of data segments.
 pub const DATA_COUNT: u8 = 12;
 
 /// An imported function.
@@ -55,5 +55,5 @@ pub const MEMORY_IMPORT: u8 = 2;
 /// An imported global.
 pub const GLOBAL_IMPORT: u8 = 3;
 
-/// The subsection of a section of names that has those of functions.
+/// The subsection of a name section that has the names of functions.
 pub const FUNCTION_NAMES: u8 = 1;

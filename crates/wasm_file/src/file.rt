@@ -1,4 +1,4 @@
-//! A module that was opened.
+//! An opened module.
 
 ghost use Rattle.std.specs.Prelude.{◌≡◌, ◌≤◌, ◌<◌, ◌^◌, length, MatchResult, OnOk};
 ghost use Rattle.std.specs.Option.{option_copied};
@@ -13,13 +13,13 @@ use crate::code::{first_with, numbered_bodies};
 use crate::constants::{CODE, IMPORT, VERSION};
 use crate::imports::function_imports;
 use crate::names::{function_names, name_in};
-use crate::sections::{WasmSections, sections_are_there};
+use crate::sections::{WasmSections, check_sections};
 use byte_cursor::{Cursor, Order, u32_at};
 use size_core::{BadFile, Fault};
 use std::alloc::Global;
 use std::marker::Model;
 
-/// A module whose checks hold.
+/// A module that passed all checks.
 #[derive(Drop)]
 pub struct WasmFile<'a> {
     file: &'a [u8],
@@ -36,9 +36,9 @@ impl<'a> Model for WasmFile<'a> {
     ghost invariant = { λ w. IsOpened w.file.now };
 }
 
-/// The version is the one that is read.
+/// Checks the version.
 #[tactic(auto, unfolding(crate::specs::Module::version_checks))]
-fn version_is_known(file: &[u8]) -> Result<(), BadFile>
+fn check_version(file: &[u8]) -> Result<(), BadFile>
     ensures value { result ≡ first_of (version_checks file.now) }
     ensures headed { OnOk result (8 ≤ length file.now) }
 {
@@ -52,7 +52,7 @@ fn version_is_known(file: &[u8]) -> Result<(), BadFile>
     Err(BadFile { fault, offset: 4 })
 }
 
-/// The place of the first section.
+/// Returns a cursor at the first section.
 fn start_of<'a>(file: &'a [u8]) -> Cursor<'a>
     requires small { length file.now < 2 ^ 32 }
     requires headed { 8 ≤ length file.now }
@@ -64,10 +64,11 @@ fn start_of<'a>(file: &'a [u8]) -> Cursor<'a>
 }
 
 impl<'a> WasmFile<'a> {
-    /// Opens a module of fewer than 2^32 bytes. These are checked in turn, and the first fault is the answer:
-    /// the version at 4 (Truncated, BadHeader), and of each section at its id's place that its size has an end
-    /// (Truncated) and is a number below 2^32 in at most five bytes (BadLeb), and that its contents lie in the
-    /// file (SectionPastEnd). The magic number at 0 is left to whoever tells the kinds of files apart.
+    /// Opens a module of fewer than 2^32 bytes. The checks come in this order, and the first fault is
+    /// returned: the version at offset 4 (Truncated, BadHeader), and for each section, with the file offset
+    /// of its id, that its size field has an end (Truncated) and is a number below 2^32 in at most five
+    /// bytes (BadLeb), and that its contents lie in the file (SectionPastEnd). The caller has checked the
+    /// magic number at offset 0.
     #[tactic(auto, using(crate::proofs::ModuleLemmas::opened_is, crate::proofs::ModuleLemmas::means_opened))]
     pub fn parse(file: &'a [u8]) -> Result<WasmFile<'a>, BadFile>
         requires { length file.now < 2 ^ 32 }
@@ -76,12 +77,12 @@ impl<'a> WasmFile<'a> {
             (λ _. AllHold (module_checks file.now))
             (IsFirstFault (module_checks file.now)) }
     {
-        version_is_known(file)?;
-        sections_are_there(start_of(file))?;
+        check_version(file)?;
+        check_sections(start_of(file))?;
         Ok(WasmFile { file })
     }
 
-    /// The whole file.
+    /// Returns the bytes of the whole file.
     pub fn bytes(&self) -> &'a [u8]
         ensures value { result.now ≡ self.now }
         ensures small { length self.now < 2 ^ 32 }
@@ -89,8 +90,8 @@ impl<'a> WasmFile<'a> {
         self.file
     }
 
-    /// The sections in order, repeated ones and those of unknown ids among them. They borrow the file's bytes
-    /// alone.
+    /// Returns all sections in file order, also repeated ones and those with unknown ids. The iterator
+    /// borrows only the bytes of the file.
     #[tactic(auto, unfolding(crate::specs::Sections::to_come))]
     pub fn sections(&self) -> WasmSections<'a>
         ensures value { result ≡ sections_of self.now }
@@ -99,9 +100,9 @@ impl<'a> WasmFile<'a> {
         WasmSections::new(start_of(self.file))
     }
 
-    /// The name of a function: that of the first pair of its index among the names of functions of the first
-    /// custom section `name`. None where there is no such pair, where the name is empty, and where the section's
-    /// names of functions can't all be read.
+    /// Returns the name of a function: that of the first pair with its index, in the function names of the
+    /// first custom section `name` (WebAssembly core 2.0, 7.4.1 Name Section). `None` where there is no
+    /// such pair, where the name is empty, and where one of the function names can't be read.
     #[tactic(auto, unfolding(crate::specs::Functions::name_of))]
     pub fn name_of(&self, index: u32) -> Option<&'a [u8]>
         ensures { option_copied result ≡ name_of self.now index }
@@ -109,10 +110,10 @@ impl<'a> WasmFile<'a> {
         name_in(function_names(self.sections()), index)
     }
 
-    /// The functions that have bodies, in the order of the first Code section. The imported functions have the
-    /// first indices. BadWasm where the first Import section's count or one of its imports can't be read, and
-    /// then where the first Code section's count or one of its bodies can't: a count at its section's contents,
-    /// an import or a body at its own place.
+    /// Returns the functions with bodies, in the order of the first Code section. Imported functions have
+    /// the first indices. BadWasm where the count or an import of the first Import section can't be read,
+    /// and then where the count or a body of the first Code section can't be read. The fault has the file
+    /// offset of the section's contents for a count, and that of the import or body otherwise.
     #[tactic(auto, using(crate::proofs::FunctionLemmas::bad_imports, crate::proofs::FunctionLemmas::good_imports))]
     pub fn functions(&self, alloc: Global) -> Result<Vec<Body<'a>>, WasmAnswer>
         ensures value { Answers result (functions_of self.now) }

@@ -12,9 +12,10 @@ use crate::reads::{byte, long_number, name, number};
 use byte_cursor::Cursor;
 use size_core::{BadFile, Fault};
 
-/// Limits: a flag and the least size, and the greatest one where bit 0 of the flag is set.
+/// Skips limits: a flag and the minimum, and the maximum where bit 0 of the flag is set (WebAssembly core
+/// 2.0, 5.3.7 Limits).
 #[tactic(auto, unfolding(crate::specs::Imports::behind_limits))]
-fn limits(cursor: &mut Cursor) -> Option<()>
+fn skip_limits(cursor: &mut Cursor) -> Option<()>
     ensures { MatchOption result
         (behind_limits cursor.old.bytes cursor.old.at ≡ None)
         (λ _. IsPassed cursor.old (behind_limits cursor.old.bytes cursor.old.at) cursor.new) }
@@ -27,9 +28,9 @@ fn limits(cursor: &mut Cursor) -> Option<()>
     Some(())
 }
 
-/// What an import of a kind asks.
+/// Skips the description of an import of this kind.
 #[tactic(auto, unfolding(crate::specs::Imports::behind_description))]
-fn description(cursor: &mut Cursor, kind: u8) -> Option<()>
+fn skip_description(cursor: &mut Cursor, kind: u8) -> Option<()>
     ensures { MatchOption result
         (behind_description cursor.old.bytes kind cursor.old.at ≡ None)
         (λ _. IsPassed cursor.old (behind_description cursor.old.bytes kind cursor.old.at) cursor.new) }
@@ -41,9 +42,9 @@ fn description(cursor: &mut Cursor, kind: u8) -> Option<()>
         }
         TABLE_IMPORT => {
             byte(cursor)?;
-            limits(cursor)
+            skip_limits(cursor)
         }
-        MEMORY_IMPORT => limits(cursor),
+        MEMORY_IMPORT => skip_limits(cursor),
         GLOBAL_IMPORT => {
             byte(cursor)?;
             byte(cursor)?;
@@ -53,9 +54,9 @@ fn description(cursor: &mut Cursor, kind: u8) -> Option<()>
     }
 }
 
-/// An import: whether it is a function.
+/// Reads an import, and returns whether it is a function.
 #[tactic(auto, unfolding(crate::specs::Imports::import_at))]
-fn import(cursor: &mut Cursor) -> Option<bool>
+fn read_import(cursor: &mut Cursor) -> Option<bool>
     ensures { MatchOption result
         (import_at cursor.old ≡ None)
         (λ is_function. IsRead (import_at cursor.old) cursor.old is_function cursor.new) }
@@ -63,18 +64,18 @@ fn import(cursor: &mut Cursor) -> Option<bool>
     name(cursor)?;
     name(cursor)?;
     let kind = byte(cursor)?;
-    description(cursor, kind)?;
+    skip_description(cursor, kind)?;
     Some(kind == FUNCTION_IMPORT)
 }
 
-/// 1 where it holds, and else 0.
+/// Returns 1 for true, and 0 for false.
 fn one_if(holds: bool) -> u32
     ensures { result ≡ (if holds then 1 else 0) }
 {
     if holds { 1 } else { 0 }
 }
 
-/// How many of so many imports from the cursor's place on are functions. BadWasm at the first that can't be
+/// Returns how many of the next `count` imports are functions. BadWasm at the first import that can't be
 /// read.
 #[tactic(auto, using(crate::proofs::RecordLemmas::fault_end, crate::proofs::RecordLemmas::fault_here, crate::proofs::RecordLemmas::fault_later, crate::proofs::RecordLemmas::values_end, crate::proofs::RecordLemmas::values_next))]
 fn count_functions(cursor: Cursor, count: u32) -> Result<u32, BadFile>
@@ -85,7 +86,7 @@ fn count_functions(cursor: Cursor, count: u32) -> Result<u32, BadFile>
     let mut found = 0;
     for i in 0..count {
         let place = rest.place();
-        match import(&mut rest) {
+        match read_import(&mut rest) {
             Some(is_function) => found += one_if(is_function),
             None => return Err(bad_wasm(place)),
         }
@@ -93,8 +94,8 @@ fn count_functions(cursor: Cursor, count: u32) -> Result<u32, BadFile>
     Ok(found)
 }
 
-/// How many functions are imported, by the contents of the Import section: none where there is no such
-/// section. BadWasm where the count or an import can't be read.
+/// Returns the number of imported functions of an Import section, and 0 where there is no such section.
+/// BadWasm where the count or an import can't be read.
 #[tactic(auto, unfolding(crate::specs::Imports::imports_in, crate::specs::Records::vector, crate::specs::Records::fault_in, crate::specs::Records::values_in))]
 pub fn function_imports(section: Option<Cursor>) -> Result<u32, BadFile>
     ensures { result ≡ checked (checks_of (imports_in section.entry)) (function_count (imports_in section.entry)) }
@@ -109,7 +110,7 @@ pub fn function_imports(section: Option<Cursor>) -> Result<u32, BadFile>
     }
 }
 
-/// What can't be read at a place.
+/// Returns the fault BadWasm at file offset `place`.
 pub fn bad_wasm(place: u64) -> BadFile
     ensures { result ≡ record { fault = BadWasm; offset = place } }
 {

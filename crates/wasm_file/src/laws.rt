@@ -1,4 +1,4 @@
-//! Laws of the definitions: each is the contract of a function that does nothing.
+//! Laws of the definitions. Each law is the contract of a function with an empty body.
 
 ghost use Rattle.std.specs.Prelude.{◌≡◌, ◌∷◌, []};
 ghost use Rattle.wasm_file.specs.Laws.{BodiesFollow, BodiesHaveNames, SectionsEnd, SectionsFollow, SectionsGoOn, SectionsStop};
@@ -9,9 +9,9 @@ use crate::constants::{
     VERSION,
 };
 
-/// A law: the numbers of the standard (WebAssembly core 2.0, 5.5.2 Sections, 5.5.5 Import Section, 5.5.16 Modules and
-/// 7.4.1 Name Section).
-pub fn numbers_of_the_standard()
+/// A law: the constants of the standard (WebAssembly core 2.0, 5.5.2 Sections, 5.5.5 Import Section, 5.5.16
+/// Modules and 7.4.1 Name Section).
+pub fn standard_numbers()
     ensures version { VERSION ≡ 1 }
     ensures sections { CUSTOM ∷ TYPE ∷ IMPORT ∷ FUNCTION ∷ TABLE ∷ MEMORY ∷ GLOBAL ∷ EXPORT ∷ START
         ∷ ELEMENT ∷ CODE ∷ DATA ∷ DATA_COUNT ∷ []
@@ -20,8 +20,8 @@ pub fn numbers_of_the_standard()
     ensures names { FUNCTION_NAMES ≡ 1 }
 {}
 
-/// A law: sections are read one behind the other, up to the end of the file or a fault, so that a section
-/// stands behind the lengths of those before it.
+/// A law: each section begins where the one before it ends, up to the end of the file or the first fault.
+/// So the offset of a section is 8 plus the lengths of the sections before it.
 pub fn sections_follow_one_another()
     ensures more { SectionsGoOn }
     ensures fault { SectionsStop }
@@ -29,7 +29,7 @@ pub fn sections_follow_one_another()
     ensures places { SectionsFollow }
 {}
 
-/// A law: the functions that have bodies have the indices behind the imported ones, and their names.
+/// A law: functions with bodies have the indices after those of the imported functions, and their names.
 pub fn bodies_follow_the_imports()
     ensures indices { BodiesFollow }
     ensures names { BodiesHaveNames }

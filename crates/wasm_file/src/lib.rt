@@ -1,5 +1,5 @@
-//! WebAssembly modules: their sections, and the functions that have bodies with their names (WebAssembly
-//! core 2.0, chapter 5 and 7.4.1 Name Section). A file is borrowed, and only the list of functions takes
+//! WebAssembly modules: their sections, and the functions with bodies and their names (WebAssembly core
+//! 2.0, chapter 5 and 7.4.1 Name Section). The file is borrowed, and only the list of functions allocates
 //! memory.
 #![tactic(auto)]
 
@@ -8,10 +8,10 @@ mod body;
 mod code;
 mod constants;
 mod file;
+mod function_names;
 mod imports;
 mod laws;
 mod names;
-mod pairs;
 mod reads;
 mod section;
 mod sections;
@@ -24,9 +24,6 @@ pub use constants::{
     VERSION,
 };
 pub use file::WasmFile;
-pub use laws::{bodies_follow_the_imports, numbers_of_the_standard, sections_follow_one_another};
+pub use laws::{bodies_follow_the_imports, sections_follow_one_another, standard_numbers};
 pub use section::WasmSection;
 pub use sections::WasmSections;
-
-#[cfg(test)]
-mod tests;

@@ -6,12 +6,12 @@ ghost use Rattle.wasm_file.specs.Names.{custom_named, function_names, is_name, n
 ghost use Rattle.wasm_file.specs.Records.{IsRead};
 
 use crate::constants::FUNCTION_NAMES;
-use crate::pairs::{FunctionNames, pairs_in};
+use crate::function_names::{FunctionNames, pairs_in};
 use crate::reads::{byte, name, piece};
 use crate::sections::WasmSections;
 use byte_cursor::Cursor;
 
-/// Whether this is the name.
+/// Returns whether there is a name and it is the wanted one.
 fn is_name(name: Option<&[u8]>, wanted: &[u8]) -> bool
     ensures { result ≡ is_name (option_copied name.entry) wanted.now }
 {
@@ -21,8 +21,8 @@ fn is_name(name: Option<&[u8]>, wanted: &[u8]) -> bool
     }
 }
 
-/// The contents of the first custom section of this name.
-fn custom_named<'a>(sections: WasmSections<'a>, wanted: &[u8]) -> Option<Cursor<'a>>
+/// Returns the contents of the first custom section with this name.
+fn find_custom_section<'a>(sections: WasmSections<'a>, wanted: &[u8]) -> Option<Cursor<'a>>
     ensures { result ≡ custom_named wanted.now sections.entry }
 {
     for section in sections {
@@ -33,7 +33,7 @@ fn custom_named<'a>(sections: WasmSections<'a>, wanted: &[u8]) -> Option<Cursor<
     None
 }
 
-/// A subsection: its id and its contents.
+/// Reads a subsection, and returns its id and its contents.
 #[tactic(auto, unfolding(crate::specs::Names::subsection_at))]
 fn next_subsection<'a>(cursor: &mut Cursor<'a>) -> Option<(u8, Cursor<'a>)>
     ensures { MatchOption result
@@ -45,9 +45,9 @@ fn next_subsection<'a>(cursor: &mut Cursor<'a>) -> Option<(u8, Cursor<'a>)>
     Some((kind, contents))
 }
 
-/// The contents of the first subsection with this id, from the cursor's place on.
+/// Returns the contents of the first subsection with this id, from the cursor's position on.
 #[tactic(auto, using(crate::proofs::NameLemmas::found_here, crate::proofs::NameLemmas::found_later, crate::proofs::NameLemmas::found_none, crate::proofs::NameLemmas::smaller))]
-fn subsection<'a>(cursor: Cursor<'a>, id: u8) -> Option<Cursor<'a>>
+fn find_subsection<'a>(cursor: Cursor<'a>, id: u8) -> Option<Cursor<'a>>
     ensures { result ≡ subsection_from id cursor.entry }
 {
     let mut rest = cursor;
@@ -63,25 +63,25 @@ fn subsection<'a>(cursor: Cursor<'a>, id: u8) -> Option<Cursor<'a>>
     }
 }
 
-/// The names of functions in a custom section.
+/// Returns the contents of the function names subsection of a custom section.
 #[tactic(auto, unfolding(crate::specs::Names::subsection_of_names))]
-fn subsection_of_names<'a>(section: Option<Cursor<'a>>) -> Option<Cursor<'a>>
+fn find_name_subsection<'a>(section: Option<Cursor<'a>>) -> Option<Cursor<'a>>
     ensures { result ≡ subsection_of_names section.entry }
 {
     let mut contents = section?;
     name(&mut contents)?;
-    subsection(contents, FUNCTION_NAMES)
+    find_subsection(contents, FUNCTION_NAMES)
 }
 
-/// The pairs of indices and names of a module with these sections.
+/// Returns the function names of a module with these sections, as pairs of index and name.
 #[tactic(auto, unfolding(crate::specs::Names::function_names))]
 pub fn function_names<'a>(sections: WasmSections<'a>) -> FunctionNames<'a>
     ensures { result ≡ function_names sections.entry }
 {
-    pairs_in(subsection_of_names(custom_named(sections, b"name")))
+    pairs_in(find_name_subsection(find_custom_section(sections, b"name")))
 }
 
-/// The name of a function: none where it is empty.
+/// Returns the name of a function. `None` where the name is empty.
 pub fn name_in<'a>(names: FunctionNames<'a>, index: u32) -> Option<&'a [u8]>
     ensures { option_copied result ≡ name_in names.entry index }
 {
@@ -93,7 +93,7 @@ pub fn name_in<'a>(names: FunctionNames<'a>, index: u32) -> Option<&'a [u8]>
     None
 }
 
-/// A name that isn't empty.
+/// Returns the name. `None` where it is empty.
 pub fn some_name<'a>(name: &'a [u8]) -> Option<&'a [u8]>
     ensures { option_copied result ≡ some_name (Some name.now) }
 {

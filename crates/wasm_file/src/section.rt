@@ -16,17 +16,17 @@ use size_core::{BadFile, Fault};
 pub struct WasmSection<'a> {
     /// The file offset of its id.
     pub place: u64,
-    /// Its bytes from the id to the end of its contents.
+    /// Its length in bytes, from the id to the end of its contents.
     pub len: u64,
-    /// What it holds, as a number of the standard.
+    /// Its id.
     pub id: u8,
-    /// The name of a custom section, if it can be read in the contents.
+    /// The name of a custom section, where it can be read.
     pub name: Option<&'a [u8]>,
-    /// What stands behind the id and the size.
+    /// The bytes after the id and the size field.
     pub contents: Cursor<'a>,
 }
 
-/// The name with which the contents of a custom section begin.
+/// Returns the name at the start of the contents of a custom section.
 #[tactic(auto, unfolding(crate::specs::Sections::section_name))]
 fn section_name<'a>(id: u8, contents: &Cursor<'a>) -> Option<&'a [u8]>
     requires { contents.now.at ≡ 0 }
@@ -38,8 +38,8 @@ fn section_name<'a>(id: u8, contents: &Cursor<'a>) -> Option<&'a [u8]>
     name(&mut contents.fork())
 }
 
-/// The size of the contents of the section at a place. Truncated where it has no end, and BadLeb where it is
-/// no number below 2^32 in at most five bytes.
+/// Returns the size of the contents of the section at file offset `place`. Truncated where the size field
+/// has no end, and BadLeb where it isn't a number below 2^32 in at most five bytes.
 #[tactic(auto, unfolding(crate::specs::Sections::size_at, crate::specs::Numbers::number_at))]
 fn section_size(cursor: &mut Cursor, place: u64) -> Result<u32, BadFile>
     ensures { MatchResult result
@@ -65,7 +65,7 @@ fn section_size(cursor: &mut Cursor, place: u64) -> Result<u32, BadFile>
     })
 }
 
-/// The section at the cursor's place, which is passed.
+/// Reads a section.
 #[tactic(auto, unfolding(crate::specs::Sections::section_at, crate::specs::Sections::size_at))]
 pub fn read_section<'a>(cursor: &mut Cursor<'a>) -> Result<WasmSection<'a>, BadFile>
     requires whole { cursor.old.base ≡ 0 }

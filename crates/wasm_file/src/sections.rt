@@ -1,4 +1,4 @@
-//! The sections of a module, one after another.
+//! The sections of a module, as an iterator.
 
 ghost use Rattle.std.specs.Prelude.{◌≡◌, [], ◌∷◌, MatchOption};
 ghost use Rattle.std.specs.Iterator.{YieldsFirstBy, item_count};
@@ -10,9 +10,9 @@ use byte_cursor::Cursor;
 use size_core::BadFile;
 use std::marker::Model;
 
-/// Each section from the cursor's place on can be read.
+/// Checks that each section can be read, from the cursor's position on.
 #[tactic(auto, using(crate::proofs::SectionLemmas::fault_end, crate::proofs::SectionLemmas::fault_here, crate::proofs::SectionLemmas::fault_later, crate::proofs::SectionLemmas::found_forward))]
-pub fn sections_are_there(cursor: Cursor) -> Result<(), BadFile>
+pub fn check_sections(cursor: Cursor) -> Result<(), BadFile>
     requires { cursor.base ≡ 0 }
     ensures { result ≡ are_there cursor.entry }
 {
@@ -23,7 +23,7 @@ pub fn sections_are_there(cursor: Cursor) -> Result<(), BadFile>
     Ok(())
 }
 
-/// The section at the cursor's place, which is passed. `None` where none is left.
+/// Reads the next section. `None` where none is left.
 #[tactic(auto, using(crate::proofs::SectionLemmas::section_end, crate::proofs::SectionLemmas::section_next, crate::proofs::SectionLemmas::fault_here, crate::proofs::SectionLemmas::still_there))]
 fn next_section<'a>(cursor: &mut Cursor<'a>) -> Option<WasmSection<'a>>
     requires { AreThere cursor.old }
@@ -41,7 +41,8 @@ fn next_section<'a>(cursor: &mut Cursor<'a>) -> Option<WasmSection<'a>>
     }
 }
 
-/// The sections of a module that are still to come, in order. They borrow the file's bytes alone.
+/// The sections of a module that `next` has not returned yet, in file order. They borrow only the bytes of
+/// the file.
 #[derive(Drop)]
 pub struct WasmSections<'a> {
     cursor: Cursor<'a>,
@@ -59,7 +60,7 @@ impl<'a> Model for WasmSections<'a> {
 }
 
 impl<'a> WasmSections<'a> {
-    /// The sections from the cursor's place on.
+    /// Returns the sections from the cursor's position on.
     pub(crate) fn new(cursor: Cursor<'a>) -> WasmSections<'a>
         requires { AreThere cursor }
         ensures { result ≡ to_come cursor.entry }
@@ -75,7 +76,7 @@ impl<'a> Iterator for WasmSections<'a> {
 
     ghost remaining = { item_count (λ s. s) };
 
-    /// The next section, and `None` where none is left.
+    /// Returns the next section, or `None` after the last.
     fn next(&mut self) -> Option<WasmSection<'a>> {
         next_section(&mut self.cursor)
     }

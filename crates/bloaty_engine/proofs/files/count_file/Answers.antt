@@ -9,22 +9,22 @@ use Rattle.bloaty_engine.proofs.files.count_file.Goals as goal
 
 pub returns-in-Ok-clause-ended : goal.returns-in-Ok-clause-ended
 returns-in-Ok-clause-ended g c = λ lengths room.
-    let within = counted-within c.args.limits.now c.args.plan.now.sources c.args.number lengths c.args.total.now.mapped c.args.name.now c.args.file.now c.requires.fits room in
-    rw within (ok-viewed c.args.number _ (rw c.as_str.ensures at c.in-Ok.ensures.answer))
+    let within = counted-within c.args.run.now.limits c.args.plan.now.sources c.args.file.number lengths c.args.total.now.mapped c.args.file.name.now c.args.file.bytes.now c.requires.fits room in
+    rw within (ok-viewed c.args.file.number _ (rw c.as_str-name.ensures at c.in-Ok.ensures.answer))
 
 pub returns-in-Ok-clause-counted : goal.returns-in-Ok-clause-counted
 returns-in-Ok-clause-counted g c = λ lengths files f room at has.
-    let within = counted-within c.args.limits.now c.args.plan.now.sources c.args.number lengths c.args.total.now.mapped c.args.name.now c.args.file.now c.requires.fits room in
-    let view : viewed c.args.total.now.mapped c.args.limits.now.claims c.args.name.now c.args.file.now c.args.plan.now.sources ≡ Ok f = viewed-ok c.args.number _ f (sym within ∙ at) in
-    let len = view-len c.args.total.now.mapped c.args.limits.now.claims c.args.name.now c.args.file.now c.args.plan.now.sources f view in
+    let within = counted-within c.args.run.now.limits c.args.plan.now.sources c.args.file.number lengths c.args.total.now.mapped c.args.file.name.now c.args.file.bytes.now c.requires.fits room in
+    let view : viewed c.args.total.now.mapped c.args.run.now.limits.claims c.args.file.name.now c.args.file.bytes.now c.args.plan.now.sources ≡ Ok f = viewed-ok c.args.file.number _ f (sym within ∙ at) in
+    let len = view-len c.args.total.now.mapped c.args.run.now.limits.claims c.args.file.name.now c.args.file.bytes.now c.args.plan.now.sources f view in
     counted-one (filter_test c.args.plan.now.filter) (length c.args.plan.now.sources) files f c.args.total.now c.profile_file.new.total has c.in-Ok.ensures.depth
-    (c.in-Ok.ensures.lengths ∙ ap (λ n. c.args.total.now.lengths + n) (sym len)) ((rw c.as_str.ensures at c.in-Ok.ensures.mapped) f view)
-    (λ test. (rw c.as_str.ensures at c.in-Ok.ensures.file) f test view) (λ test. (rw c.as_str.ensures at c.in-Ok.ensures.vm) f test view)
+    (c.in-Ok.ensures.lengths ∙ ap (λ n. c.args.total.now.lengths + n) (sym len)) ((rw c.as_str-name.ensures at c.in-Ok.ensures.mapped) f view)
+    (λ test. (rw c.as_str-name.ensures at c.in-Ok.ensures.file) f test view) (λ test. (rw c.as_str-name.ensures at c.in-Ok.ensures.vm) f test view)
 
 pub returns-clause-ended : goal.returns-clause-ended
 returns-clause-ended g c = λ lengths room.
-    let within = counted-within c.args.limits.now c.args.plan.now.sources c.args.number lengths c.args.total.now.mapped c.args.name.now c.args.file.now c.requires.fits room in
-    rw (c.end_at.ensures, within) (ends-viewed c.args.number c.in-Err.answer _ (rw c.as_str.ensures at c.in-Err.ensures.answer))
+    let within = counted-within c.args.run.now.limits c.args.plan.now.sources c.args.file.number lengths c.args.total.now.mapped c.args.file.name.now c.args.file.bytes.now c.requires.fits room in
+    rw (c.end_at.ensures, within) (ends-viewed c.args.file.number c.in-Err.answer _ (rw c.as_str-name.ensures at c.in-Err.ensures.answer))
 
 pub returns-clause-short : goal.returns-clause-short
-returns-clause-short g c = λ i e. end-short c.args.number c.in-Err.answer i (sym c.end_at.ensures ∙ err-same _ _ e)
+returns-clause-short g c = λ i e. end-short c.args.file.number c.in-Err.answer i (sym c.end_at.ensures ∙ err-same _ _ e)

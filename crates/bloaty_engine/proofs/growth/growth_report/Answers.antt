@@ -1,10 +1,23 @@
-use Rattle.std.proofs.Common.{Err, ap}
+use Rattle.std.proofs.Common.{[], sym, refl}
+use Rattle.std.proofs.lemmas.List.{append-nil}
 use Rattle.std.proofs.lemmas.Result.{err_from_is_err_and}
-use Rattle.file_profile.proofs.MapLemmas.{err-same}
+use Rattle.bloaty_engine.specs.Steps.{batch_of, batch_reading}
+use Rattle.bloaty_engine.proofs.StepLemmas.{same-all, stops, then-no-memory, then-ok}
 use Rattle.bloaty_engine.proofs.growth.growth_report.Goals as goal
 
-pub returns-in_err-base-clause-failed : goal.returns-in_err-base-clause-failed
-returns-in_err-base-clause-failed g c =
+pub returns-in_err-base-clause-files : goal.returns-in_err-base-clause-files
+returns-in_err-base-clause-files g c =
     let p = err_from_is_err_and c.from_residual.result c.from_residual.ensures.1 in
-    let failed = rw c.file_count-before.ensures at c.in_err-base.ensures.failed in
-    rw (p.1, p.2) (λ k e. failed k (ap Err (err-same _ _ e)))
+    let q = batch_reading c.args.run.now.limits (batch_of c.args.tally.now.files c.args.tally.now.bytes c.args.run.now.options.bases) in
+    rw (p.1, p.2) (stops g.F.Files q q [] c.in_err-base.field-0.0 c.args.files.now c.count_files.new.files (sym (append-nil q.names)) (same-all q) c.in_err-base.ensures.files)
+
+pub returns-in_err-growth_of-clause-files : goal.returns-in_err-growth_of-clause-files
+returns-in_err-growth_of-clause-files g c =
+    let p = err_from_is_err_and c.from_residual-in_err-growth_of.result c.from_residual-in_err-growth_of.ensures.1 in
+    let q = batch_reading c.args.run.now.limits (batch_of c.args.tally.now.files c.args.tally.now.bytes c.args.run.now.options.bases) in
+    rw (p.1, p.2) (then-no-memory g.F.Files q q [] c.in_ok-base.base c.args.files.now c.count_files.new.files (sym (append-nil q.names)) c.in_ok-base.ensures.files)
+
+pub returns-clause-files : goal.returns-clause-files
+returns-clause-files g c =
+    let q = batch_reading c.args.run.now.limits (batch_of c.args.tally.now.files c.args.tally.now.bytes c.args.run.now.options.bases) in
+    then-ok g.F.Files q q [] c.in_ok-base.base c.in_ok-growth_of.field-0 c.args.files.now c.count_files.new.files (sym (append-nil q.names)) refl c.in_ok-base.ensures.files

@@ -12,7 +12,7 @@ returns-in_err-rewrites-clause-cause g c =
     let names = c.args.options.now.sources in
     let known : IsOk (chosen_sources c.args.custom.now names) = rw c.in_ok-choices.ensures.chosen (search rules) in
     let read : IfSome c.args.options.now.filter IsPattern = rw c.as_ref.ensures.value at c.in_ok-filter.ensures.read in
-    rw (p.1, p.2) (cause-rewrites names c.args.options.now.filter c.args.custom.now known read _ _ _ _ c.filter_of.ensures.rises _ c.in_err-rewrites.ensures.cause)
+    rw (p.1, p.2) (cause-rewrites names c.args.options.now.filter c.args.custom.now known read _ _ _ _ c.filter_of.ensures.patterns.rises _ c.in_err-rewrites.ensures.cause)
 
 pub returns-clause-plan : goal.returns-clause-plan
 returns-clause-plan g c =

@@ -3,6 +3,7 @@ use Rattle.std.proofs.Common.{◌≡◌, ◌+◌, Some, length, slice_get, refl,
 use Rattle.std.proofs.lemmas.Option.{slice_get_read}
 use Rattle.std.proofs.lemmas.Result.{err_from_is_err_and}
 use Rattle.bloaty_engine.proofs.PlanLemmas.{cause-more, lists-more, number-more, read-more}
+use Rattle.bloaty_engine.proofs.StepLemmas.{plan-stops}
 use Rattle.bloaty_engine.proofs.planning.rewrites_of.Goals as goal
 
 pub returns-in_err-made-clause-cause : goal.returns-in_err-made-clause-cause
@@ -14,10 +15,10 @@ returns-in_err-made-clause-cause g c =
     let inv = c.loop-source.invariant in
     rw (p.1, p.2) (cause-more c.args.custom.now c.loop-source.source-index x at c.loop-source.first _ _ _ _ inv.number inv.read (omega (arith, inv.count)) _ c.in_err-made.ensures.cause)
 
-pub returns-in_err-made-clause-uncounted : goal.returns-in_err-made-clause-uncounted
-returns-in_err-made-clause-uncounted g c =
+pub returns-in_err-made-clause-patterns : goal.returns-in_err-made-clause-patterns
+returns-in_err-made-clause-patterns g c =
     let p = err_from_is_err_and c.from_residual.result c.from_residual.ensures.1 in
-    rw (p.1, p.2) (λ q. c.in_err-made.ensures.uncounted q ∙ c.loop-source.invariant.count)
+    rw (p.1, p.2) (plan-stops g.P.Patterns c.in_err-made.field-0.0 c.args.patterns.now c.loop-source.patterns c.rewrites_from.new.patterns c.loop-source.invariant.last c.loop-source.invariant.count c.in_err-made.ensures.patterns)
 
 pub loop-source-preserved : goal.loop-source-preserved
 loop-source-preserved g c =
@@ -31,6 +32,6 @@ loop-source-preserved g c =
       number = number-more c.args.custom.now c.loop-source.source-index x at c.loop-source.first c.in-Some.next inv.number next;
       same = rw (inv.same, made.same) (lists-more c.args.custom.now c.loop-source.source-index x at);
       read = read-more c.args.custom.now c.loop-source.source-index x at inv.read made.read;
-      last = made.kept ∙ inv.last;
-      count = made.uncounted refl ∙ inv.count;
+      last = made.patterns.kept ∙ inv.last;
+      count = made.patterns.sound refl ∙ inv.count;
     })

@@ -5,10 +5,7 @@ use Rattle.bloaty_engine.proofs.report.report_over_files.Goals as goal
 pub returns-in-None-clause-found : goal.returns-in-None-clause-found
 returns-in-None-clause-found g c =
     let e = c.report_of_files.ensures.counted in
-    (e.0, e.1, rw (no-debug-names c.args.options.now c.in-None.is) e.2, counting-found c.args.limits.now c.args.plan.now.sources e.0 c.args.options.now c.requires.no_place c.in-None.is c.report_of_files.result e.3)
+    (e.0, (e.1.0, rw (no-debug-names c.args.run.now.options c.in-None.is) e.1.1), counting-found c.args.run.now.limits c.args.plan.now.sources e.0 c.args.run.now.options c.requires.no_place c.in-None.is c.report_of_files.result e.2)
 
-pub returns-in-None-clause-asked : goal.returns-in-None-clause-asked
-returns-in-None-clause-asked g c = rw (no-debug-names c.args.options.now c.in-None.is) c.report_of_files.ensures.asked
-
-pub returns-in-None-clause-all : goal.returns-in-None-clause-all
-returns-in-None-clause-all g c = rw (no-debug-names c.args.options.now c.in-None.is) c.report_of_files.ensures.all
+pub returns-in-None-clause-files : goal.returns-in-None-clause-files
+returns-in-None-clause-files g c = rw (no-debug-names c.args.run.now.options c.in-None.is) c.report_of_files.ensures.files

@@ -1,17 +1,10 @@
--- A configuration that isn't named isn't read, and one that is too long was read up to its limit.
-use Rattle.std.proofs.Common.{Err, sym, ap}
+-- A configuration that isn't named isn't read.
+use Rattle.std.proofs.Common.{◌≡◌, ◌+◌, ◌∷◌, [], Some, Err, sym, ap, ◌∙◌}
 use Rattle.std.proofs.lemmas.List.{append-nil}
 use Rattle.std.proofs.lemmas.Result.{err_from_is_err_and}
-use Rattle.file_profile.proofs.MapLemmas.{err-same}
-use Rattle.bloaty_engine.proofs.TakenLemmas.{over-config}
+use Rattle.bloaty_engine.specs.Reading.{config_names, reading_for, reading_from}
+use Rattle.bloaty_engine.proofs.StepLemmas.{config-part, reads-as, stops, then-no-memory, then-ok, then-unread, unread-ok}
 use Rattle.bloaty_engine.proofs.request.customs_of.Goals as goal
 
-pub returns-in_default-clause-asked : goal.returns-in_default-clause-asked
-returns-in_default-clause-asked g c = rw c.in_default.is (sym (append-nil (g.F.Files.asked c.args.files.now)))
-
-pub returns-in_err-text-clause-long : goal.returns-in_err-text-clause-long
-returns-in_err-text-clause-long g c =
-    let p = err_from_is_err_and c.from_residual.result c.from_residual.ensures.1 in
-    rw (p.1, p.2) (λ i e.
-    let long = c.in_err-text.ensures.long i (ap Err (err-same _ _ e)) in
-    over-config c.args.limits.now c.args.options.now.synth (g.F.Files.held c.args.files.now) c.as_str.result.now c.config_limit.result (g.F.Files.taken c.args.files.now) (g.F.Files.taken c.read_file.new.files) i long.0 c.config_limit.ensures long.1)
+pub returns-in_default-clause-files : goal.returns-in_default-clause-files
+returns-in_default-clause-files g c = unread-ok g.F.Files (reading_for c.args.run.now.limits c.args.run.now.options (config_names c.args.run.now.options.config)) _ c.args.files.now (ap config_names c.in_default.is)

@@ -1,13 +1,33 @@
--- An end is that of the report.
-use Rattle.std.proofs.Common.{Err, ap}
+-- A run ends before its report, or it writes it.
+use Rattle.std.proofs.Common.{Err, Ok, ap}
+use Rattle.bloaty_engine.specs.Reading.{run_reading}
 use Rattle.bloaty_engine.proofs.ReadLemmas.{done-is-no-end}
+use Rattle.bloaty_engine.proofs.RunLemmas.{run-ends, run-writes}
+use Rattle.bloaty_engine.proofs.StepLemmas.{builds-ended, not-done, run-ended, written-builds, written-reads}
 use Rattle.bloaty_engine.proofs.run.answer.Goals as goal
 
-pub returns-in-Err-clause-failed : goal.returns-in-Err-clause-failed
-returns-in-Err-clause-failed g c = λ i e. c.in-Err.ensures.failed i (ap Err e)
+pub returns-in-Err-clause-run : goal.returns-in-Err-clause-run
+returns-in-Err-clause-run g c =
+    let e = c.in-Err.ensures.run in
+    run-ends (g.F.Files.held c.args.files.now) c.args.run.now.limits (g.P.Patterns.last_refused c.report.new.patterns) c.args.run.now.options e.0 e.1 (g.O.Sink.written c.args.out.now) c.in-Err.end e.2
 
-pub returns-in-Err-clause-long : goal.returns-in-Err-clause-long
-returns-in-Err-clause-long g c = λ i e. c.in-Err.ensures.long i (ap Err e)
+pub returns-in-Ok-clause-run : goal.returns-in-Ok-clause-run
+returns-in-Ok-clause-run g c =
+    let e = c.in-Ok.ensures.run in
+    run-writes (g.F.Files.held c.args.files.now) c.args.run.now.limits (g.P.Patterns.last_refused c.report.new.patterns) c.args.run.now.options e.0 e.1 (g.O.Sink.written c.args.out.now) (g.O.Sink.written c.write.new.out) c.in-Ok.text c.write.result e.2
+    c.write.ensures.other (rw c.deref.ensures.value at c.write.ensures.done) (rw c.deref.ensures.value at c.write.ensures.part)
 
-pub returns-in-Err-clause-all : goal.returns-in-Err-clause-all
-returns-in-Err-clause-all g c = λ e. absurd (done-is-no-end _ e c.in-Err.ensures.run.2.2)
+pub returns-in-Err-clause-files : goal.returns-in-Err-clause-files
+returns-in-Err-clause-files g c =
+    run-ended g.F.Files (run_reading c.args.run.now.limits (Ok c.args.run.now.options)) c.in-Err.end c.args.files.now c.report.new.files (not-done c.in-Err.end (λ e. done-is-no-end _ e c.in-Err.ensures.run.2.2)) c.in-Err.ensures.files
+
+pub returns-in-Ok-clause-files : goal.returns-in-Ok-clause-files
+returns-in-Ok-clause-files g c =
+    written-reads g.F.Files (run_reading c.args.run.now.limits (Ok c.args.run.now.options)) c.in-Ok.text c.write.result c.args.files.now c.report.new.files c.write.ensures.other c.in-Ok.ensures.files
+
+pub returns-in-Err-clause-patterns : goal.returns-in-Err-clause-patterns
+returns-in-Err-clause-patterns g c =
+    builds-ended g.P.Patterns c.in-Err.end c.args.patterns.now c.report.new.patterns (not-done c.in-Err.end (λ e. done-is-no-end _ e c.in-Err.ensures.run.2.2)) c.in-Err.ensures.patterns
+
+pub returns-in-Ok-clause-patterns : goal.returns-in-Ok-clause-patterns
+returns-in-Ok-clause-patterns g c = written-builds g.P.Patterns c.in-Ok.text c.write.result c.args.patterns.now c.report.new.patterns c.write.ensures.other c.in-Ok.ensures.patterns

@@ -1,4 +1,4 @@
--- The sheet ends with all claims on addresses alone, or there were more than the limit.
+-- In the end the sheet has all claims on addresses, or there are more than the limit.
 use Rattle.std.proofs.Common.{◌∙◌, sym, ap}
 use Rattle.std.specs.Prelude.{Ok}
 use Rattle.claim_sheet.proofs.LoopLemmas.{addresses_kept, same_address_limit, too_many_addresses}

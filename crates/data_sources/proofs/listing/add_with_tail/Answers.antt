@@ -1,8 +1,13 @@
--- The records, and what stands behind them.
+-- The records, and the claims that follow them.
+use Rattle.std.proofs.Common.{◌∙◌, rules}
 use Rattle.claim_sheet.proofs.LoopLemmas.{joined_claims}
 use Rattle.data_sources.specs.Sources.{with_tail}
 use Rattle.data_sources.proofs.listing.add_with_tail.Goals as goal
 
-pub returns-clause-made : goal.returns-clause-made
+pub returns : goal.returns
 unfolding with_tail
-returns-clause-made c = joined_claims c.args.sheet.now c.add_records.new.sheet c.add_behind.new.sheet _ _ c.in_ok-add_records.ensures.made c.in_ok-add_behind.ensures.made
+returns c = record {
+  made = joined_claims c.args.sheet.now c.add_records.new.sheet c.add_parts.new.sheet _ _ c.in_ok-add_records.ensures.made c.in_ok-add_parts.ensures.made;
+  bad = λ bad e. search rules;
+  kept = c.add_parts.ensures.kept ∙ c.add_records.ensures.kept;
+}

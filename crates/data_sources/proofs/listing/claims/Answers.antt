@@ -1,4 +1,4 @@
--- The sheet ends with all claims, or there were more than the limit.
+-- In the end the sheet has all claims, or there are more than the limit.
 use Rattle.std.proofs.Common.{◌∙◌, sym, ap}
 use Rattle.std.specs.Prelude.{Ok}
 use Rattle.claim_sheet.proofs.LoopLemmas.{all_kept, same_limit, too_many}

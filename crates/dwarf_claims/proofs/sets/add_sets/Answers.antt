@@ -10,10 +10,14 @@ use Rattle.dwarf_claims.specs.SetClaims.{set_claims}
 use Rattle.dwarf_claims.specs.Tables.{shown_units}
 use Rattle.dwarf_claims.proofs.sets.add_sets.Goals as goal
 
-pub returns-in_err-add_set-clause-bad : goal.returns-in_err-add_set-clause-bad
-returns-in_err-add_set-clause-bad c =
+pub returns-in_err-add_set : goal.returns-in_err-add_set
+returns-in_err-add_set c =
     let p = err_from_is_err_and c.from_residual.result c.from_residual.ensures.1 in
     let f = set_claims (shown_units c.args.units.now) in
-    rw (p.1, p.2) (λ bad e. bad_read c.args.sheet.now _ bad (sym c.loop-set.invariant.rest
-    ∙ ap (λ (sets : List (Result AddressSet BadFile)). adding_read c.loop-set.sheet (read_list f sets)) c.in-Some.ensures.steps
-    ∙ read_list_stops f c.loop-set.sheet c.in-Some.set c.next.new.self bad (c.in_err-add_set.ensures.bad bad e)))
+    rw (p.1, p.2) record {
+      made = tt;
+      kept = c.in_err-add_set.ensures.kept ∙ c.loop-set.invariant.kept;
+      bad = λ bad e. bad_read c.args.sheet.now _ bad (sym c.loop-set.invariant.rest
+          ∙ ap (λ (sets : List (Result AddressSet BadFile)). adding_read c.loop-set.sheet (read_list f sets)) c.in-Some.ensures.steps
+          ∙ read_list_stops f c.loop-set.sheet c.in-Some.set c.next.new.self bad (c.in_err-add_set.ensures.bad bad e));
+    }

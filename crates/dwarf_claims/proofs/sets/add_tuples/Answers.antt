@@ -10,5 +10,8 @@ loop-tuple-preserved c = record {
   kept = c.add_tuple.ensures.kept ∙ c.loop-tuple.invariant.kept;
 }
 
-pub returns-clause-made : goal.returns-clause-made
-returns-clause-made c = sym (left_ends (tuple_claim c.args.label.now c.args.size) c.loop-tuple.sheet c.loop-tuple.tuple-iterator c.in-None.ensures.steps.0) ∙ c.loop-tuple.invariant.rest
+pub returns : goal.returns
+returns c = record {
+  made = sym (left_ends (tuple_claim c.args.label.now c.args.size) c.loop-tuple.sheet c.loop-tuple.tuple-iterator c.in-None.ensures.steps.0) ∙ c.loop-tuple.invariant.rest;
+  kept = c.loop-tuple.invariant.kept;
+}

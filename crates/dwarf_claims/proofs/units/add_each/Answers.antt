@@ -15,19 +15,23 @@ use Rattle.dwarf_claims.proofs.units.add_each.Goals as goal
 pub loop-unit-preserved : goal.loop-unit-preserved
 loop-unit-preserved c =
     let f = handed_claims c.args.sections.now in record {
-      rest = read_list_goes f c.loop-unit.sheet c.add_handed.new.sheet c.in-Some.unit c.next.new.self c.in_ok-add_handed.ensures.made
+      rest = read_list_goes f c.loop-unit.sheet c.add_item.new.sheet c.in-Some.unit c.next.new.self c.in_ok-add_item.ensures.adds.made
           ∙ ap (λ (units : List (Result DwarfUnit BadFile)). adding_read c.loop-unit.sheet (read_list f units)) (sym c.in-Some.ensures.steps)
           ∙ c.loop-unit.invariant.rest;
-      labels = kept_goes (labelled c.args.sections.now) (shown_units c.loop-unit.units.items) (shown_units c.add_handed.new.units.items) c.in-Some.unit c.next.new.self c.loop-unit.unit-iterator c.in-Some.ensures.steps c.in_ok-add_handed.ensures.labels
+      labels = kept_goes (labelled c.args.sections.now) (shown_units c.loop-unit.units.items) (shown_units c.add_item.new.units.items) c.in-Some.unit c.next.new.self c.loop-unit.unit-iterator c.in-Some.ensures.steps c.in_ok-add_item.ensures.labels
           ∙ c.loop-unit.invariant.labels;
-      table = c.add_handed.ensures.table;
-      kept = c.add_handed.ensures.kept ∙ c.loop-unit.invariant.kept;
+      last = c.add_item.ensures.last;
+      kept = c.add_item.ensures.adds.kept ∙ c.loop-unit.invariant.kept;
     }
 
-pub returns-in_err-add_handed-clause-bad : goal.returns-in_err-add_handed-clause-bad
-returns-in_err-add_handed-clause-bad c =
+pub returns-in_err-add_item-clause-adds : goal.returns-in_err-add_item-clause-adds
+returns-in_err-add_item-clause-adds c =
     let p = err_from_is_err_and c.from_residual.result c.from_residual.ensures.1 in
     let f = handed_claims c.args.sections.now in
-    rw (p.1, p.2) (λ bad e. bad_read c.args.sheet.now _ bad (sym c.loop-unit.invariant.rest
-    ∙ ap (λ (units : List (Result DwarfUnit BadFile)). adding_read c.loop-unit.sheet (read_list f units)) c.in-Some.ensures.steps
-    ∙ read_list_stops f c.loop-unit.sheet c.in-Some.unit c.next.new.self bad (c.in_err-add_handed.ensures.bad bad (same_stop _ _ _ _ e))))
+    rw (p.1, p.2) record {
+      made = tt;
+      kept = c.in_err-add_item.ensures.adds.kept ∙ c.loop-unit.invariant.kept;
+      bad = λ bad e. bad_read c.args.sheet.now _ bad (sym c.loop-unit.invariant.rest
+          ∙ ap (λ (units : List (Result DwarfUnit BadFile)). adding_read c.loop-unit.sheet (read_list f units)) c.in-Some.ensures.steps
+          ∙ read_list_stops f c.loop-unit.sheet c.in-Some.unit c.next.new.self bad (c.in_err-add_item.ensures.adds.bad bad (same_stop _ _ _ _ e)));
+    }

@@ -1,4 +1,4 @@
--- The next entry is gathered, or there is none.
+-- The next entry is collected, or there is none.
 use Rattle.std.proofs.Common.{◌∙◌, ◌-◌, ◌+◌, map, arith}
 use Rattle.dwarf_lines.specs.FormattedTables.{formatted_entry}
 use Rattle.dwarf_lines.specs.Tables.{items_of, many_from, shown}

@@ -1,4 +1,4 @@
--- The next entry is gathered, or there is none.
+-- The next entry is collected, or there is none.
 use Rattle.std.proofs.Common.{sym, ◌∙◌, ◌-◌, ◌+◌, map, arith}
 use Rattle.dwarf_lines.specs.PlainTables.{plain_from, plain_table}
 use Rattle.dwarf_lines.specs.Tables.{items_of, shown}

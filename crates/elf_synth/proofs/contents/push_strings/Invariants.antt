@@ -1,4 +1,4 @@
--- The names as far as the loop has come.
+-- The names that the loop has written.
 use Rattle.std.proofs.Common.{◌≡◌, ◌++◌, ◌-◌}
 use Rattle.std.specs.List.{flat_map, range_with_len}
 use Rattle.elf_synth.specs.Contents.{function_name}

@@ -1,4 +1,4 @@
--- The symbols as far as the loop has come.
+-- The symbols that the loop has written.
 use Rattle.std.proofs.Common.{◌≡◌, ◌++◌, ◌-◌}
 use Rattle.std.specs.List.{flat_map, range_with_len}
 use Rattle.elf_synth.specs.Contents.{function_symbol}

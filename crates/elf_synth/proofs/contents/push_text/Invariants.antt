@@ -1,4 +1,4 @@
--- The text as far as the loop has come.
+-- The code that the loop has written.
 use Rattle.std.proofs.Common.{◌≡◌, ◌++◌, ◌%◌, map}
 use Rattle.std.specs.List.{range_with_len}
 use Rattle.elf_synth.proofs.contents.push_text.Given as goal

@@ -1,4 +1,4 @@
--- The next section isn't the one.
+-- The next section doesn't have the name.
 use Rattle.std.proofs.Common.{◌∙◌, List, sym}
 use Rattle.std.proofs.lemmas.List.Elements.{All-rest}
 use Rattle.macho_file.specs.Shown.{section_shown}

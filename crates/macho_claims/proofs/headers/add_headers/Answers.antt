@@ -9,12 +9,15 @@ use Rattle.claim_sheet.proofs.SheetLemmas.{adding_more}
 use Rattle.macho_claims.specs.Claims.{commands_reach, header_claims, header_reach}
 use Rattle.macho_claims.proofs.headers.add_headers.Goals as goal
 
-pub returns-clause-made : goal.returns-clause-made
+pub returns : goal.returns
 unfolding header_claims
-returns-clause-made c =
-    let first = c.in_ok-add.ensures.made ∙ ap (λ (r : Reach). adding c.args.sheet.now (claim_on r (codes "[Mach-O Header]"))) c.header_reach.ensures in
+returns c =
+    let first = c.in_ok-add.ensures.adds.made ∙ ap (λ (r : Reach). adding c.args.sheet.now (claim_on r (codes "[Mach-O Header]"))) c.header_reach.ensures in
     let next = claim_on (commands_reach c.args.file.now) (codes "[Mach-O Load Commands]") in
-    on_ok_weaker c.add-2.result (λ last. last
-    ∙ ap (λ (r : Reach). adding c.add.new.self (claim_on r (codes "[Mach-O Load Commands]"))) c.commands_reach.ensures
-    ∙ ap (λ (t : Sheet). adding t next) first
-    ∙ adding_more c.args.sheet.now (claim_on (header_reach c.args.file.now) (codes "[Mach-O Header]")) next) c.add-2.ensures.made
+    record {
+      made = on_ok_weaker c.add-2.result (λ last. last
+          ∙ ap (λ (r : Reach). adding c.add.new.self (claim_on r (codes "[Mach-O Load Commands]"))) c.commands_reach.ensures
+          ∙ ap (λ (t : Sheet). adding t next) first
+          ∙ adding_more c.args.sheet.now (claim_on (header_reach c.args.file.now) (codes "[Mach-O Header]")) next) c.add-2.ensures.adds.made;
+      kept = c.add-2.ensures.adds.kept ∙ c.add.ensures.adds.kept;
+    }

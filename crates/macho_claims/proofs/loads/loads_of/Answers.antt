@@ -1,4 +1,4 @@
--- The next segment gives its load.
+-- The load of the next segment is pushed.
 use Rattle.std.proofs.Common.{◌∙◌, ◌++◌, List, ap, sym}
 use Rattle.std.proofs.lemmas.List.Elements.{All-rest}
 use Rattle.macho_file.specs.Shown.{segment_shown}

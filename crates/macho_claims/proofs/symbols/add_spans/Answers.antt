@@ -1,4 +1,4 @@
--- The next span gives its claim.
+-- The claim of the next span is added.
 use Rattle.std.proofs.Common.{◌∙◌}
 use Rattle.macho_file.specs.Shown.{span_shown}
 use Rattle.macho_claims.specs.SymbolClaims.{span_claim}

@@ -5,7 +5,7 @@ use Rattle.report_rows.specs.Rows.{has_shown}
 use Rattle.report_rows.specs.Tables.{first_labels}
 use Rattle.report_rows.proofs.groups.groups_of.Given as goal
 
--- the labels of the groups so far and those of the rest are all
+-- The labels of the groups so far and those of the rest are all.
 abbrev pub invariant-loop-from : goal.invariant-loop-from
 invariant-loop-from l =
     let all = map (λ r. r.now) l.rows in

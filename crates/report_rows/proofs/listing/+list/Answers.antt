@@ -11,7 +11,7 @@ use Rattle.report_rows.proofs.LevelLemmas.{block, block-more, rows-more, rows-no
 use Rattle.report_rows.proofs.ListLemmas.{part-of}
 use Rattle.report_rows.proofs.listing.+list.Goals as goal
 
--- the group that stands for one past the end
+-- The default group, for an index past the end.
 abbrev any : Group
 any = record { key = record { 0 = 0 }; from = 0; to = 0; kind = Label; vm = 0; file = 0 }
 

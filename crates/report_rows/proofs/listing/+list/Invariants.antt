@@ -7,7 +7,7 @@ use Rattle.report_rows.proofs.listing.+list.Given as goal
 abbrev pub decreases-list : goal.decreases-list
 decreases-list l = l.depth - l.level
 
--- the rows of the groups so far
+-- The rows of the groups so far.
 abbrev pub invariant-loop-group : goal.invariant-loop-group
 invariant-loop-group l =
     l.out ≡ l.initial.out ++ flat_map (λ (e : Entry). row_of l.level e ∷ listing l.options (l.depth - (l.level + 1)) (l.level + 1) e.below) (map (group_entry l.level (map (λ r. r.now) l.rows)) (take l.group-index l.group-items))

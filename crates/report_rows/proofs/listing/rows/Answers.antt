@@ -19,7 +19,7 @@ tree-requires c =
     let all : seen c.as_slice.result.now ≡ rollup.rows = ap seen c.as_slice.ensures.value ∙ (c.loop-i.invariant ∙ take_all c.loop-i.i rollup.rows (omega (arith, c.len-i-end.ensures.count))) in
     subst (λ n. IsPart n 0 (seen c.as_slice.result.now)) (sym c.depth.ensures) (is_part rollup.depth rollup.lengths rollup.mapped rollup.rows (seen c.as_slice.result.now) c.len-i-end.ensures.totals all)
 
--- all rows are read, and they are a part
+-- All rows are read, and they are a part.
 part : (c : goal.After-drop-all-2) → IsPart c.depth.result 0 (seen c.as_slice.result.now)
 part c =
     let rollup = c.args.rollup.now in

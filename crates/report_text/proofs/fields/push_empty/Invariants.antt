@@ -1,6 +1,6 @@
 use Rattle.std.proofs.Common.{◌≡◌, ◌++◌, [], map, replicate}
 use Rattle.report_text.proofs.fields.push_empty.Given as goal
 
--- the empty fields so far
+-- The empty fields so far.
 abbrev pub invariant-loop-field : goal.invariant-loop-field
 invariant-loop-field l = map (λ f. f.now) l.fields.items ≡ map (λ f. f.now) l.initial.fields.items ++ replicate l._field []

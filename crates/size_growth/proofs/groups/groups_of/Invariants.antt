@@ -6,7 +6,7 @@ use Rattle.size_growth.specs.Rows.{is_child, label_entry}
 use Rattle.size_growth.specs.Runs.{runs, table_at}
 use Rattle.size_growth.proofs.groups.groups_of.Given as goal
 
--- the entries of the groups so far and those of the rest are all
+-- The entries of the groups so far and those of the rest are all.
 abbrev pub invariant-loop-from : goal.invariant-loop-from
 invariant-loop-from l = record {
   entries : map (group_entry l.level l.paths) l.groups.items ++ filter (is_child l.options) (map label_entry (runs (table_at l.level (drop l.from l.paths))))

@@ -11,7 +11,7 @@ use Rattle.report_rows.proofs.LevelLemmas.{block, block-more, rows-more, rows-no
 use Rattle.size_growth.proofs.ListLemmas.{deep-at, part-of}
 use Rattle.size_growth.proofs.listing.+list.Goals as goal
 
--- the item that stands for one past the end
+-- The default item, for an index past the end.
 abbrev any : Item
 any = record { key = 0; kind = Label; from = 0; to = 0; sizes = no_sizes }
 

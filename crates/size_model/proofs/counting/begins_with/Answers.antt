@@ -11,7 +11,7 @@ equal : (b : Bool) → not b ≡ false → b ≡ true
 equal true e = refl
 equal false e = cc
 
--- whether two labels that are read agree
+-- Whether two labels agree.
 compared : (q q' p p' : List ℕ) (b : Bool) → q' ≡ q → p' ≡ p → bytes_eq q' p' ≡ b → bytes_eq q p ≡ b
 compared q q' p p' b e f h = sym (ap (λ x. bytes_eq x p') e ∙ ap (bytes_eq q) f) ∙ h
 

@@ -1,4 +1,4 @@
--- The next body gives its claim.
+-- The claim of the next body is added.
 use Rattle.std.proofs.Common.{◌∙◌}
 use Rattle.wasm_file.specs.Shown.{body}
 use Rattle.claim_sheet.proofs.ListLemmas.{shown_goes}

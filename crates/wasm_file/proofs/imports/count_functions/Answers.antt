@@ -19,7 +19,7 @@ loop-i-preserved c =
     let n = c.args.count - c.loop-i.i in
     let m = c.args.count - (c.loop-i.i + 1) in
     let w = c.loop-i.rest in
-    let next = c.import.new.cursor in
+    let next = c.read_import.new.cursor in
     let one : n ≡ m + 1 = omega arith in
     let few = at_most_one _ _ c.one_if-found.ensures in (
       sym (fault_later import_at n m w _ next one c.in-Some.ensures) ∙ c.loop-i.invariant.0,

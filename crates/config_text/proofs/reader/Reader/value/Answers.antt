@@ -1,7 +1,7 @@
 use Rattle.std.proofs.Common.{rules, true, false, ◌≡◌, ap, sym, ◌∙◌}
 use Rattle.std.proofs.lemmas.Result.{err_from_is_err_and}
 use Rattle.config_text.specs.Tokens.{Place, ahead}
-use Rattle.config_text.specs.Config.{sources_behind}
+use Rattle.config_text.specs.Config.{sources_after_value}
 use Rattle.config_text.specs.Grammar.{with_value}
 use Rattle.config_text.proofs.TokenLemmas.{value_missing}
 use Rattle.config_text.proofs.ReadLemmas.{colon_passed, value_fails, value_given}
@@ -11,7 +11,7 @@ pub returns-then-not-is_at_quote-clause-value : goal.returns-then-not-is_at_quot
 returns-then-not-is_at_quote-clause-value c field d =
     let passed : c.mark.result ≡ true = search rules in
     let other : c.is_at_quote.result ≡ false = search rules in
-    rw c.syntax-then-not-is_at_quote.ensures
+    rw c.syntax_error-then-not-is_at_quote.ensures
     (colon_passed c.args.self.now c.mark.new.self c.skip_gap.new.self c.mark.result c.mark.ensures.passes passed c.skip_gap.ensures.same field d
     ∙ value_missing field d c.skip_gap.new.self c.skip_gap.ensures.begins (sym c.is_at_quote.ensures ∙ other))
 
@@ -27,4 +27,4 @@ returns-clause-value c field d =
     let passed : c.mark.result ≡ true = search rules in
     colon_passed c.args.self.now c.mark.new.self c.skip_gap.new.self c.mark.result c.mark.ensures.passes passed c.skip_gap.ensures.same field d
     ∙ value_given c.skip_gap.new.self c.strings.new.self c.in_ok-bytes.bytes.items c.in_ok-bytes.ensures.ok field d
-    ∙ ap (λ (p : Place). sources_behind (ahead c.strings.new.self) field (with_value field d p.at c.in_ok-bytes.bytes.items)) (sym c.self.view_is)
+    ∙ ap (λ (p : Place). sources_after_value (ahead c.strings.new.self) field (with_value field d p.at c.in_ok-bytes.bytes.items)) (sym c.self.view_is)

@@ -8,7 +8,7 @@ use Rattle.dual_map.specs.Ranges.{all_offsets}
 use Rattle.dual_map.proofs.BaseLemmas.{pieces_bound, ok_more, file_cut, file_few, file_few_by, length-offsets}
 use Rattle.dual_map.proofs.base.Base.file_map.Goals as goal
 
--- what was pushed
+-- The ranges that were pushed.
 all : (c : goal.After-drop-ranges-2) → c.as_slice.result.now ≡ all_offsets c.self.inside.file_len c.self.inside.to_file c.args.unmapped c.args.claims.now
 all c =
     (c.as_slice.ensures.value ∙ (rw c.from.ensures at c.in_ok-push_some.ensures.value ∙ rw (drop_all c.loop-claim.claim-index c.args.claims.now c.loop-claim-test.false) at c.loop-claim.invariant.ranges))

@@ -8,7 +8,7 @@ use Rattle.dual_map.specs.Way.{position_at, no_load}
 use Rattle.dual_map.proofs.LoadLemmas.{CoversAddress, first_covers_at, load_at, place_none}
 use Rattle.dual_map.proofs.base.Base.to_file.Goals as goal
 
--- the load of a label that was found
+-- The load of a label that was found.
 covers : (len : ℕ) (ls : List Load) (ps : List Piece) (x q r i : ℕ) (d : Load) → IsCut (load_of_position ls) ps → x ≡ position_at (q, r) → r < 2 ^ 64 → Some i ≡ label_in ps x → CoversAddress len ls q r i (get_or ls i d)
 covers len ls ps x q r i d c e h found = first_covers_at len ls q r i d (sym (found ∙ load_at ls ps x q r c e h))
 

@@ -10,7 +10,7 @@ use Rattle.dual_map.proofs.base.Base.to_vm.Goals as goal
 label_in-from : (ps : List Piece) (x y : ℕ) (found : Option ℕ) → x ≡ y → label_in ps y ≡ found → label_in ps x ≡ found
 label_in-from ps x y found e h = ap (label_in ps) e ∙ h
 
--- the load of a label that was found
+-- The load of a label that was found.
 covers : (len : ℕ) (ls : List Load) (o i : ℕ) (d : Load) (found : Option ℕ) → Some i ≡ found → found ≡ load_of_offset len ls o → d ≡ get_or ls i d → CoversOffset len ls o i d
 covers len ls o i d found e l g = subst (λ k. CoversOffset len ls o i k) (sym g) (first_covers_offset len ls o i d (sym (e ∙ l)))
 

@@ -8,7 +8,7 @@ use Rattle.dual_map.specs.Ranges.{all_positions}
 use Rattle.dual_map.proofs.BaseLemmas.{pieces_bound, ok_more, vm_cut, vm_few, vm_few_by, length-positions}
 use Rattle.dual_map.proofs.base.Base.vm_map.Goals as goal
 
--- what was pushed
+-- The ranges that were pushed.
 all : (c : goal.After-drop-ranges-2) → c.as_slice.result.now ≡ all_positions c.self.inside.to_memory c.self.inside.in_memory c.args.unmapped c.args.claims.now
 all c =
     c.as_slice.ensures.value ∙ (c.in_ok-carry.ensures.value ∙ rw (drop_all c.loop-claim.claim-index c.args.claims.now c.loop-claim-test.false) at c.loop-claim.invariant.ranges)

@@ -8,4 +8,4 @@ pub invariant_of-result : goal.invariant_of-result
 invariant_of-result c = rw c.fork-pairs.ensures (passed_is_ok (many_from pair_from c.in_ok-count.count c.u8_from.new.cursor) c.pass_pairs.new.cursor c.in_ok-pass_pairs.ensures)
 
 pub returns : goal.returns
-returns c = rw (c.fork-pairs.ensures, c.copied.ensures) (format_is c.args.sections.now c.args.shape.now c.args.cursor.now c.u8_from.new.cursor c.pass_pairs.new.cursor c.in_ok-count.count c.in_ok-count.ensures c.in_ok-pass_pairs.ensures)
+returns c = rw (c.fork-pairs.ensures, c.copy_sections.ensures) (format_is c.args.sections.now c.args.shape.now c.args.cursor.now c.u8_from.new.cursor c.pass_pairs.new.cursor c.in_ok-count.count c.in_ok-count.ensures c.in_ok-pass_pairs.ensures)

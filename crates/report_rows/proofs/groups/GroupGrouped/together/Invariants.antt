@@ -2,7 +2,7 @@ use Rattle.std.proofs.Common.{◌≡◌, take}
 use Rattle.std.specs.List.{sum_by}
 use Rattle.report_rows.proofs.groups.GroupGrouped.together.Given as goal
 
--- the sizes of the groups so far
+-- The sizes of the groups so far.
 abbrev pub invariant-loop-group : goal.invariant-loop-group
 invariant-loop-group l = record {
   vm : l.vm ≡ sum_by (λ g. g.vm) (take l.group-index l.left);

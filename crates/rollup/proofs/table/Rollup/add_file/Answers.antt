@@ -11,7 +11,7 @@ use Rattle.rollup.specs.Counted.{file_counted, vm_counted}
 use Rattle.rollup.specs.Rows.{AreMerged}
 use Rattle.rollup.specs.Sizes.{IsEntry, row_of}
 use Rattle.rollup.proofs.OneFile.{file-le, vm-le}
-use Rattle.rollup.proofs.Merging.{alone_fits, merged_from, moved_fits}
+use Rattle.rollup.proofs.Merging.{alone_fits, merged_moved, moved_fits}
 use Rattle.rollup.proofs.Totalling.{fit_together, file_added, vm_added, new_totals}
 use Rattle.rollup.proofs.table.Rollup.add_file.Goals as goal
 
@@ -24,60 +24,60 @@ new_rows-requires-clause-below g c = λ k d lt. (c.in_ok-sizes.ensures.entries (
 pub new_rows-requires-clause-fits : goal.new_rows-requires-clause-fits
 new_rows-requires-clause-fits g c =
     let es = c.in_ok-sizes.sizes in
-    alone_fits c.self.inside.rows.items (map (row_of c.args.pool.now) es)
-    (fit_together c.args.pool.now c.self.inside.rows.items es c.self.inside.depth c.self.inside.lengths c.self.inside.mapped c.args.file_len (mapped_count c.args.base.now.loads) c.self.invariant
+    alone_fits c.self.inside.rows (map (row_of c.args.pool.now) es)
+    (fit_together c.args.pool.now c.self.inside.rows es c.self.inside.depth c.self.inside.lengths c.self.inside.mapped c.args.file_len (mapped_count c.args.base.now.loads) c.self.invariant
     (omega (arith, c.in_ok-sizes.ensures.file (λ _. true), file-le (λ _. true) (option_copied c.args.passes) c.args.maps.now c.args.base.now.len, c.requires.len))
     (omega (arith, c.in_ok-sizes.ensures.vm (λ _. true), vm-le (λ _. true) (option_copied c.args.passes) c.args.maps.now c.args.base.now.loads))
     (omega (arith, c.from.ensures, c.from-2.ensures, c.if-lengths-gt-MOST.false)) (omega (arith, c.from-3.ensures, c.mapped_size.ensures, c.if-mapped-gt-MOST.false)))
 
-pub merge-requires-clause-fits : goal.merge-requires-clause-fits
-merge-requires-clause-fits g c =
+pub add-requires-clause-fits : goal.add-requires-clause-fits
+add-requires-clause-fits g c =
     let es = c.in_ok-sizes.sizes in
-    moved_fits c.self.inside.rows.items (map (row_of c.args.pool.now) es) c.in_ok-new.new.items c.in_ok-new.ensures.same
-    (fit_together c.args.pool.now c.self.inside.rows.items es c.self.inside.depth c.self.inside.lengths c.self.inside.mapped c.args.file_len (mapped_count c.args.base.now.loads) c.self.invariant
+    moved_fits c.self.inside.rows (map (row_of c.args.pool.now) es) c.in_ok-new.new.items c.in_ok-new.ensures.same
+    (fit_together c.args.pool.now c.self.inside.rows es c.self.inside.depth c.self.inside.lengths c.self.inside.mapped c.args.file_len (mapped_count c.args.base.now.loads) c.self.invariant
     (omega (arith, c.in_ok-sizes.ensures.file (λ _. true), file-le (λ _. true) (option_copied c.args.passes) c.args.maps.now c.args.base.now.len, c.requires.len))
     (omega (arith, c.in_ok-sizes.ensures.vm (λ _. true), vm-le (λ _. true) (option_copied c.args.passes) c.args.maps.now c.args.base.now.loads))
     (omega (arith, c.from.ensures, c.from-2.ensures, c.if-lengths-gt-MOST.false)) (omega (arith, c.from-3.ensures, c.mapped_size.ensures, c.if-mapped-gt-MOST.false)))
 
-pub merge-requires-clause-ordered : goal.merge-requires-clause-ordered
-merge-requires-clause-ordered g c = c.self.invariant.ordered
+pub add-requires-clause-ordered : goal.add-requires-clause-ordered
+add-requires-clause-ordered g c = c.self.invariant.ordered
 
 pub returns-clause-file : goal.returns-clause-file
 returns-clause-file g c = λ test.
     let es = c.in_ok-sizes.sizes in
-    let old : c.self.inside.rows.items ≡ c.args.self.now.rows = ap (λ (t : Totals). t.rows) c.self.view_is in
-    let merged : AreMerged c.self.inside.rows.items (map (row_of c.args.pool.now) es) c.merge.new.rows.items =
-    merged_from c.self.inside.rows.items (map (row_of c.args.pool.now) es) c.in_ok-new.new.items c.merge.new.rows.items c.in_ok-new.ensures.same c.in_ok-merge.ensures.ok in
-    file_added c.args.pool.now c.self.inside.rows.items es test c.merge.new.rows.items merged
-    ∙ (ap (λ k. file_where test c.self.inside.rows.items + k) (c.in_ok-sizes.ensures.file (λ ns. test (map (text_of c.args.pool.now) ns)) ∙ ap (file_counted (λ ns. test (map (text_of c.args.pool.now) ns)) (option_copied c.args.passes) c.args.maps.now) c.requires.len)
+    let old : c.self.inside.rows ≡ c.args.self.now.rows = ap (λ (t : Totals). t.rows) c.self.view_is in
+    let merged : AreMerged c.self.inside.rows (map (row_of c.args.pool.now) es) c.add.new.self =
+    merged_moved c.self.inside.rows (map (row_of c.args.pool.now) es) c.in_ok-new.new.items c.add.new.self c.in_ok-new.ensures.same c.in_ok-add.ensures.ok in
+    file_added c.args.pool.now c.self.inside.rows es test c.add.new.self merged
+    ∙ (ap (λ k. file_where test c.self.inside.rows + k) (c.in_ok-sizes.ensures.file (λ ns. test (map (text_of c.args.pool.now) ns)) ∙ ap (file_counted (λ ns. test (map (text_of c.args.pool.now) ns)) (option_copied c.args.passes) c.args.maps.now) c.requires.len)
     ∙ ap (λ rows. file_where test rows + file_counted (λ ns. test (map (text_of c.args.pool.now) ns)) (option_copied c.args.passes) c.args.maps.now c.args.file_len) old)
 
 pub returns-clause-vm : goal.returns-clause-vm
 returns-clause-vm g c = λ test.
     let es = c.in_ok-sizes.sizes in
-    let old : c.self.inside.rows.items ≡ c.args.self.now.rows = ap (λ (t : Totals). t.rows) c.self.view_is in
-    let merged : AreMerged c.self.inside.rows.items (map (row_of c.args.pool.now) es) c.merge.new.rows.items =
-    merged_from c.self.inside.rows.items (map (row_of c.args.pool.now) es) c.in_ok-new.new.items c.merge.new.rows.items c.in_ok-new.ensures.same c.in_ok-merge.ensures.ok in
-    vm_added c.args.pool.now c.self.inside.rows.items es test c.merge.new.rows.items merged
-    ∙ (ap (λ k. vm_where test c.self.inside.rows.items + k) (c.in_ok-sizes.ensures.vm (λ ns. test (map (text_of c.args.pool.now) ns)))
+    let old : c.self.inside.rows ≡ c.args.self.now.rows = ap (λ (t : Totals). t.rows) c.self.view_is in
+    let merged : AreMerged c.self.inside.rows (map (row_of c.args.pool.now) es) c.add.new.self =
+    merged_moved c.self.inside.rows (map (row_of c.args.pool.now) es) c.in_ok-new.new.items c.add.new.self c.in_ok-new.ensures.same c.in_ok-add.ensures.ok in
+    vm_added c.args.pool.now c.self.inside.rows es test c.add.new.self merged
+    ∙ (ap (λ k. vm_where test c.self.inside.rows + k) (c.in_ok-sizes.ensures.vm (λ ns. test (map (text_of c.args.pool.now) ns)))
     ∙ ap (λ rows. vm_where test rows + vm_counted (λ ns. test (map (text_of c.args.pool.now) ns)) (option_copied c.args.passes) c.args.maps.now c.args.base.now.loads) old)
 
 pub invariant_of-self : goal.invariant_of-self
-invariant_of-self g c = subst (λ rows. IsTotals c.self.inside.depth rows c.self.inside.lengths c.self.inside.mapped) (sym c.in_err-merge.ensures.err) c.self.invariant
+invariant_of-self g c = subst (λ rows. IsTotals c.self.inside.depth rows c.self.inside.lengths c.self.inside.mapped) (sym c.in_err-add.ensures.err) c.self.invariant
 
 pub invariant_of-self-2 : goal.invariant_of-self-2
 invariant_of-self-2 g c =
     let es = c.in_ok-sizes.sizes in
     let pool = c.args.pool.now in
-    let new = c.merge.new.rows.items in
-    let merged : AreMerged c.self.inside.rows.items (map (row_of pool) es) c.merge.new.rows.items =
-    merged_from c.self.inside.rows.items (map (row_of pool) es) c.in_ok-new.new.items c.merge.new.rows.items c.in_ok-new.ensures.same c.in_ok-merge.ensures.ok in
+    let new = c.add.new.self in
+    let merged : AreMerged c.self.inside.rows (map (row_of pool) es) c.add.new.self =
+    merged_moved c.self.inside.rows (map (row_of pool) es) c.in_ok-new.new.items c.add.new.self c.in_ok-new.ensures.same c.in_ok-add.ensures.ok in
     let depth : length c.args.maps.now ≡ c.self.inside.depth = c.requires.depth ∙ sym (ap (λ (t : Totals). t.depth) c.self.view_is) in
     let all : All (IsEntry c.self.inside.depth (length pool)) es = subst (λ k. All (IsEntry k (length pool)) es) depth (c.in_ok-sizes.ensures.entries (length pool) c.requires.labels) in
     let lengths : c.from.result + c.from-2.result ≡ c.self.inside.lengths + c.args.file_len = omega (arith, c.from.ensures, c.from-2.ensures) in
     let mapped : c.from-3.result + c.mapped_size.result ≡ c.self.inside.mapped + mapped_count c.args.base.now.loads = omega (arith, c.from-3.ensures, c.mapped_size.ensures) in
     subst (λ k. IsTotals c.self.inside.depth new k (c.from-3.result + c.mapped_size.result)) (sym lengths) (subst (λ k. IsTotals c.self.inside.depth new (c.self.inside.lengths + c.args.file_len) k) (sym mapped)
-    (new_totals pool c.self.inside.rows.items es c.self.inside.depth c.self.inside.lengths c.self.inside.mapped c.args.file_len (mapped_count c.args.base.now.loads) (length pool) new c.self.invariant all merged
+    (new_totals pool c.self.inside.rows es c.self.inside.depth c.self.inside.lengths c.self.inside.mapped c.args.file_len (mapped_count c.args.base.now.loads) (length pool) new c.self.invariant all merged
     (omega (arith, c.in_ok-sizes.ensures.file (λ _. true), file-le (λ _. true) (option_copied c.args.passes) c.args.maps.now c.args.base.now.len, c.requires.len))
     (omega (arith, c.in_ok-sizes.ensures.vm (λ _. true), vm-le (λ _. true) (option_copied c.args.passes) c.args.maps.now c.args.base.now.loads))
     (omega (arith, lengths, c.if-lengths-gt-MOST.false)) (omega (arith, mapped, c.if-mapped-gt-MOST.false))))

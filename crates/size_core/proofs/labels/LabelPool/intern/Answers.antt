@@ -1,4 +1,4 @@
--- A label that the look-up finds, and one that goes last.
+-- A label that the look-up finds, and one that is appended.
 use Rattle.std.proofs.Common.{rules, ◌≡◌, sym}
 use Rattle.size_core.proofs.LabelLemmas.{had, added}
 use Rattle.size_core.proofs.labels.LabelPool.intern.Goals as goal

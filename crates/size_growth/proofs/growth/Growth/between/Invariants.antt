@@ -3,7 +3,7 @@ use Rattle.size_growth.specs.Between.{Stands}
 use Rattle.size_growth.specs.Merged.{left, merged}
 use Rattle.size_growth.proofs.growth.Growth.between.Given as goal
 
--- the paths so far and those that are left are all
+-- The paths so far and those that are left are all.
 abbrev pub invariant-loop-at : goal.invariant-loop-at
 invariant-loop-at l = record {
   all : l.paths.items ++ left l.new.rows l.base.rows l.at ≡ merged l.new.rows l.base.rows;

@@ -1,7 +1,0 @@
-use Rattle.std.proofs.Common.{map, drop}
-use Rattle.report_rows.specs.Trees.{AreLevels}
-use Rattle.report_text.proofs.tests.is_tree.Given as goal
-
--- the rows so far are as they should be
-abbrev pub invariant-loop-i : goal.invariant-loop-i
-invariant-loop-i g l = AreLevels l.depth l.highest (map g.R.ReportRow.as_row (drop l.i l.rows)) → AreLevels l.depth 0 (map g.R.ReportRow.as_row l.rows)

@@ -1,0 +1,279 @@
+//! Debug sections (DWARF 2 to 5), whose offsets have 4 bytes.
+
+use crate::image::{Section, part};
+use crate::lines::Program;
+use crate::numbers::{Class, Numbers, Order};
+use std::alloc::{AllocError, Global};
+
+/// Attributes of a unit's root (DWARF 5, section 7.5.4).
+pub const DW_AT_NAME: u8 = 0x03;
+
+pub const DW_AT_STMT_LIST: u8 = 0x10;
+
+pub const DW_AT_LOW_PC: u8 = 0x11;
+
+pub const DW_AT_HIGH_PC: u8 = 0x12;
+
+pub const DW_AT_RANGES: u8 = 0x55;
+
+/// A value in the form of its name (DWARF 5, section 7.5.5).
+#[derive(Clone, Copy)]
+pub enum Value<'a> {
+    Addr(u64),
+    Data4(u32),
+    Text(&'a [u8]),
+    Strp(u32),
+    SecOffset(u32),
+    Addrx(u8),
+    Rnglistx(u8),
+    Strx1(u8),
+}
+
+impl Value<'_> {
+    // DW_FORM_addr, DW_FORM_data4, DW_FORM_string, and so on.
+    fn form(&self) -> u8 {
+        match self {
+            Value::Addr(_) => 0x01,
+            Value::Data4(_) => 0x06,
+            Value::Text(_) => 0x08,
+            Value::Strp(_) => 0x0e,
+            Value::SecOffset(_) => 0x17,
+            Value::Addrx(_) => 0x1b,
+            Value::Rnglistx(_) => 0x23,
+            Value::Strx1(_) => 0x25,
+        }
+    }
+
+    fn put(&self, numbers: &mut Numbers) -> Result<(), AllocError> {
+        match self {
+            Value::Addr(x) => numbers.address(*x),
+            Value::Data4(x) | Value::Strp(x) | Value::SecOffset(x) => numbers.word(*x),
+            Value::Text(text) => numbers.name(text),
+            Value::Addrx(x) | Value::Rnglistx(x) | Value::Strx1(x) => numbers.text(&[*x]),
+        }
+    }
+}
+
+/// A value that is an offset into another section: before DWARF 4 there is no form for it alone.
+pub fn offset_value(version: u16, offset: u32) -> Value<'static> {
+    if version < 4 {
+        Value::Data4(offset)
+    } else {
+        Value::SecOffset(offset)
+    }
+}
+
+/// The name of a unit: the offset of a string, and from DWARF 5 on its index.
+pub fn name_value(version: u16, offset: u32, index: u8) -> Value<'static> {
+    if version < 5 {
+        Value::Strp(offset)
+    } else {
+        Value::Strx1(index)
+    }
+}
+
+/// An address, and from DWARF 5 on its index.
+pub fn address_value(version: u16, address: u64, index: u8) -> Value<'static> {
+    if version < 5 {
+        Value::Addr(address)
+    } else {
+        Value::Addrx(index)
+    }
+}
+
+/// The first range list of a file, and from DWARF 5 on its index.
+pub fn ranges_value(version: u16) -> Value<'static> {
+    if version < 5 {
+        offset_value(version, 0)
+    } else {
+        Value::Rnglistx(0)
+    }
+}
+
+/// An entry of a range list (DWARF 5, section 7.25), whose numbers are below 128.
+#[derive(Clone, Copy)]
+pub enum Entry {
+    BaseAddressx(u8),
+    StartxLength(u8, u8),
+    OffsetPair(u8, u8),
+    StartLength(u64, u8),
+    EndOfList,
+}
+
+/// The debug sections of a file whose least byte comes first, as they grow.
+#[derive(Drop)]
+pub struct Debug {
+    alloc: Global,
+    class: Class,
+    info: Numbers,
+    abbrev: Numbers,
+    strings: Numbers,
+    str_offsets: Numbers,
+    addresses: Numbers,
+    ranges: Numbers,
+    rnglists: Numbers,
+    sets: Numbers,
+    lines: Numbers,
+}
+
+fn empty(alloc: Global, class: Class) -> Numbers {
+    Numbers::new(alloc, class, Order::Little)
+}
+
+// A declaration of code 1, a compile unit without children, which ends its table.
+fn put_declaration(abbrev: &mut Numbers, root: &[(u8, Value<'_>)]) -> Result<(), AllocError> {
+    abbrev.text(&[1, 0x11, 0])?;
+    for (attribute, value) in root {
+        abbrev.text(&[*attribute, value.form()])?;
+    }
+    abbrev.text(&[0, 0, 0])
+}
+
+impl Debug {
+    pub fn new(alloc: Global, class: Class) -> Debug {
+        Debug {
+            alloc,
+            class,
+            info: empty(alloc, class),
+            abbrev: empty(alloc, class),
+            strings: empty(alloc, class),
+            str_offsets: empty(alloc, class),
+            addresses: empty(alloc, class),
+            ranges: empty(alloc, class),
+            rnglists: empty(alloc, class),
+            sets: empty(alloc, class),
+            lines: empty(alloc, class),
+        }
+    }
+
+    /// A unit with these values at its root, whose table of abbreviations is its own. It gives the unit's offset.
+    pub fn unit(&mut self, version: u16, root: &[(u8, Value<'_>)]) -> Result<u32, AllocError> {
+        let offset = self.info.len();
+        let mut unit = empty(self.alloc, self.class);
+        unit.half(version)?;
+        if version < 5 {
+            unit.word(self.abbrev.len())?;
+            unit.text(&[self.class.address_size()])?;
+        } else {
+            unit.text(&[1, self.class.address_size()])?;
+            unit.word(self.abbrev.len())?;
+        }
+        unit.text(&[1])?;
+        for (_, value) in root {
+            value.put(&mut unit)?;
+        }
+        put_declaration(&mut self.abbrev, root)?;
+        self.info.counted(&unit.bytes)?;
+        Ok(offset)
+    }
+
+    /// A set of addresses, each with a length, of the unit at an offset.
+    pub fn set(&mut self, unit: u32, tuples: &[(u64, u64)]) -> Result<(), AllocError> {
+        let mut set = empty(self.alloc, self.class);
+        set.half(2)?;
+        set.word(unit)?;
+        set.text(&[self.class.address_size(), 0, 0, 0, 0, 0])?;
+        for (address, len) in tuples {
+            set.address(*address)?;
+            set.address(*len)?;
+        }
+        set.address(0)?;
+        set.address(0)?;
+        self.sets.counted(&set.bytes)
+    }
+
+    /// Strings one after the other.
+    pub fn strings(&mut self, strings: &[&[u8]]) -> Result<(), AllocError> {
+        for string in strings {
+            self.strings.name(string)?;
+        }
+        Ok(())
+    }
+
+    /// A table of the offsets of strings.
+    pub fn string_offsets(&mut self, offsets: &[u32]) -> Result<(), AllocError> {
+        let mut table = empty(self.alloc, self.class);
+        table.half(5)?;
+        table.half(0)?;
+        for offset in offsets {
+            table.word(*offset)?;
+        }
+        self.str_offsets.counted(&table.bytes)
+    }
+
+    /// A table of addresses.
+    pub fn addresses(&mut self, addresses: &[u64]) -> Result<(), AllocError> {
+        let mut table = empty(self.alloc, self.class);
+        table.half(5)?;
+        table.text(&[self.class.address_size(), 0])?;
+        for address in addresses {
+            table.address(*address)?;
+        }
+        self.addresses.counted(&table.bytes)
+    }
+
+    /// Pairs of addresses, which (0, 0) ends.
+    pub fn pairs(&mut self, pairs: &[(u64, u64)]) -> Result<(), AllocError> {
+        for (begin, end) in pairs {
+            self.ranges.address(*begin)?;
+            self.ranges.address(*end)?;
+        }
+        self.ranges.address(0)?;
+        self.ranges.address(0)
+    }
+
+    // An entry of a range list.
+    fn put_entry(&self, list: &mut Numbers, entry: Entry) -> Result<(), AllocError> {
+        match entry {
+            Entry::EndOfList => list.text(&[0]),
+            Entry::BaseAddressx(index) => list.text(&[1, index]),
+            Entry::StartxLength(index, len) => list.text(&[3, index, len]),
+            Entry::OffsetPair(begin, end) => list.text(&[4, begin, end]),
+            Entry::StartLength(start, len) => {
+                list.text(&[7])?;
+                list.address(start)?;
+                list.text(&[len])
+            }
+        }
+    }
+
+    /// A range list, after a table whose one offset is its own.
+    pub fn list(&mut self, entries: &[Entry]) -> Result<(), AllocError> {
+        let mut list = empty(self.alloc, self.class);
+        list.half(5)?;
+        list.text(&[self.class.address_size(), 0])?;
+        list.word(1)?;
+        list.word(4)?;
+        for entry in entries {
+            self.put_entry(&mut list, *entry)?;
+        }
+        self.rnglists.counted(&list.bytes)
+    }
+
+    /// A line program.
+    pub fn program(&mut self, program: &Program<'_>) -> Result<(), AllocError> {
+        let bytes = program.bytes(self.alloc, self.class)?;
+        self.lines.counted(&bytes)
+    }
+
+    /// The sections that have bytes, for an ELF file. The first one is `.debug_info`.
+    pub fn sections(&self) -> Result<Vec<Section<'_>>, AllocError> {
+        let mut sections = Vec::new(self.alloc);
+        for (name, numbers) in [
+            (b".debug_info".as_slice(), &self.info),
+            (b".debug_abbrev", &self.abbrev),
+            (b".debug_str", &self.strings),
+            (b".debug_str_offsets", &self.str_offsets),
+            (b".debug_addr", &self.addresses),
+            (b".debug_ranges", &self.ranges),
+            (b".debug_rnglists", &self.rnglists),
+            (b".debug_aranges", &self.sets),
+            (b".debug_line", &self.lines),
+        ] {
+            if !numbers.bytes.is_empty() {
+                sections.push(part(name, &numbers.bytes))?;
+            }
+        }
+        Ok(sections)
+    }
+}

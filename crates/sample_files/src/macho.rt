@@ -1,0 +1,193 @@
+//! Mach-O files (Apple's `mach-o/loader.h` and `mach-o/nlist.h`).
+
+use crate::image::patched;
+use crate::numbers::{Class, Numbers, Order};
+use std::alloc::{AllocError, Global};
+
+/// What a file's header says.
+#[derive(Clone, Copy)]
+pub struct MachoHead {
+    pub class: Class,
+    pub order: Order,
+    /// MH_OBJECT is 1, MH_EXECUTE 2, MH_DYLIB 6, MH_DSYM 10.
+    pub kind: u32,
+}
+
+/// A section, with the names of its segment and its own.
+#[derive(Clone, Copy)]
+pub struct MachoSection<'a> {
+    pub segment: &'a [u8],
+    pub name: &'a [u8],
+    pub addr: u64,
+    pub size: u64,
+    pub offset: u32,
+    /// S_ZEROFILL is 1.
+    pub flags: u32,
+}
+
+/// A segment, with its sections.
+#[derive(Clone, Copy)]
+pub struct MachoSegment<'a> {
+    pub name: &'a [u8],
+    pub vaddr: u64,
+    pub memsz: u64,
+    pub offset: u64,
+    pub filesz: u64,
+    pub access: u32,
+    pub sections: &'a [MachoSection<'a>],
+}
+
+/// A load command.
+#[derive(Clone, Copy)]
+pub enum Command<'a> {
+    Segment(MachoSegment<'a>),
+    /// LC_SYMTAB: offset and count of the symbols, offset and size of the strings.
+    Symbols([u32; 4]),
+    /// LC_DYSYMTAB: offset and count of the indirect symbols.
+    Indirect([u32; 2]),
+    /// LC_DYLD_INFO_ONLY: offsets and sizes of five parts.
+    DyldInfo([u32; 10]),
+    /// LC_CODE_SIGNATURE: offset and size.
+    Signature([u32; 2]),
+    /// LC_UUID: each of its bytes.
+    Uuid(u8),
+}
+
+/// A symbol: the offset of its name, its type, the number of its section from 1 on, and its value.
+pub type MachoSymbol = (u32, u8, u8, u64);
+
+// A name in a field of 16 bytes.
+fn put_name(numbers: &mut Numbers, name: &[u8]) -> Result<(), AllocError> {
+    numbers.text(name)?;
+    numbers.zeros(16usize.saturating_sub(name.len()))
+}
+
+fn put_words(numbers: &mut Numbers, words: &[u32]) -> Result<(), AllocError> {
+    for word in words {
+        numbers.word(*word)?;
+    }
+    Ok(())
+}
+
+fn put_section(
+    numbers: &mut Numbers,
+    class: Class,
+    s: &MachoSection<'_>,
+) -> Result<(), AllocError> {
+    put_name(numbers, s.name)?;
+    put_name(numbers, s.segment)?;
+    numbers.address(s.addr)?;
+    numbers.address(s.size)?;
+    put_words(numbers, &[s.offset, 0, 0, 0, s.flags, 0, 0])?;
+    if class == Class::Bits64 {
+        numbers.word(0)?;
+    }
+    Ok(())
+}
+
+fn put_segment(
+    numbers: &mut Numbers,
+    class: Class,
+    s: &MachoSegment<'_>,
+) -> Result<(), AllocError> {
+    let (kind, len, section) = match class {
+        Class::Bits32 => (0x01, 56, 68u32),
+        Class::Bits64 => (0x19, 72, 80u32),
+    };
+    let count = u32::try_from(s.sections.len()).unwrap_or(0);
+    numbers.word(kind)?;
+    numbers.word(count.wrapping_mul(section).wrapping_add(len))?;
+    put_name(numbers, s.name)?;
+    numbers.address(s.vaddr)?;
+    numbers.address(s.memsz)?;
+    numbers.address(s.offset)?;
+    numbers.address(s.filesz)?;
+    put_words(numbers, &[s.access, s.access, count, 0])?;
+    for section in s.sections {
+        put_section(numbers, class, section)?;
+    }
+    Ok(())
+}
+
+fn put_command(
+    numbers: &mut Numbers,
+    class: Class,
+    command: &Command<'_>,
+) -> Result<(), AllocError> {
+    match command {
+        Command::Segment(segment) => put_segment(numbers, class, segment),
+        Command::Symbols(fields) => {
+            put_words(numbers, &[0x02, 24])?;
+            put_words(numbers, fields)
+        }
+        Command::Indirect(fields) => {
+            put_words(numbers, &[0x0b, 80])?;
+            numbers.zeros(48)?;
+            put_words(numbers, fields)?;
+            numbers.zeros(16)
+        }
+        Command::DyldInfo(fields) => {
+            put_words(numbers, &[0x8000_0022, 48])?;
+            put_words(numbers, fields)
+        }
+        Command::Signature(fields) => {
+            put_words(numbers, &[0x1d, 16])?;
+            put_words(numbers, fields)
+        }
+        Command::Uuid(byte) => {
+            put_words(numbers, &[0x1b, 24])?;
+            numbers.text(&[*byte; 16])
+        }
+    }
+}
+
+/// A table of symbols.
+pub fn macho_symbols(
+    alloc: Global,
+    head: MachoHead,
+    symbols: &[MachoSymbol],
+) -> Result<Vec<u8>, AllocError> {
+    let mut table = Numbers::new(alloc, head.class, head.order);
+    for (name, kind, section, value) in symbols {
+        table.word(*name)?;
+        table.text(&[*kind, *section])?;
+        table.half(0)?;
+        table.address(*value)?;
+    }
+    Ok(table.bytes)
+}
+
+/// A file of so many bytes: its header, the commands, and zeros after them, with these bytes at these offsets.
+pub fn macho_file(
+    alloc: Global,
+    head: MachoHead,
+    commands: &[Command<'_>],
+    len: usize,
+    parts: &[(usize, &[u8])],
+) -> Result<Vec<u8>, AllocError> {
+    let mut body = Numbers::new(alloc, head.class, head.order);
+    for command in commands {
+        put_command(&mut body, head.class, command)?;
+    }
+    let mut file = Numbers::new(alloc, head.class, head.order);
+    let (magic, machine) = match head.class {
+        Class::Bits32 => (0xfeed_face, 12),
+        Class::Bits64 => (0xfeed_facf, 0x0100_000c),
+    };
+    let count = u32::try_from(commands.len()).unwrap_or(0);
+    put_words(
+        &mut file,
+        &[magic, machine, 0, head.kind, count, body.len(), 0],
+    )?;
+    if head.class == Class::Bits64 {
+        file.word(0)?;
+    }
+    file.text(&body.bytes)?;
+    let made = file.bytes.len();
+    file.zeros(len.saturating_sub(made))?;
+    let mut bytes = file.bytes;
+    for (place, part) in parts {
+        bytes = patched(bytes, *place, part);
+    }
+    Ok(bytes)
+}

@@ -1,0 +1,12 @@
+//! Tests of the claims of ELF files and of WebAssembly modules, of the sheet that collects claims, and of the data
+//! sources that choose among them.
+#![tactic(auto)]
+
+#[cfg(test)]
+mod elf;
+#[cfg(test)]
+mod sheet;
+#[cfg(test)]
+mod sources;
+#[cfg(test)]
+mod wasm;

@@ -1,0 +1,9 @@
+//! Tests of the readers of debug information: abbreviations, compile units, and ranges of addresses.
+#![tactic(auto)]
+
+#[cfg(test)]
+mod abbreviations;
+#[cfg(test)]
+mod ranges;
+#[cfg(test)]
+mod units;

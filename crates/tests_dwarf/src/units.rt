@@ -1,0 +1,388 @@
+//! Headers of units, their roots, and the names and addresses of these.
+
+ghost use Rattle.std.specs.Prelude.{◌<◌, length};
+
+use byte_cursor::{Cursor, Order};
+use dwarf_abbrev::{Abbrevs, Content, UnitShape, Value};
+use dwarf_units::{DwarfUnit, Root, Sections, Units};
+use size_core::{BadFile, Fault};
+
+/// Sections of these bytes, whose offsets in the file begin at 1,000 and 2,000; the others are made up.
+fn sections<'a>(info: &'a [u8], declared: &'a [u8]) -> Sections<'a>
+    requires info { length info.now < 1000 }
+    requires declared { length declared.now < 1000 }
+{
+    Sections {
+        order: Order::Little,
+        info: Cursor::new(1000, info),
+        abbrev: Cursor::new(2000, declared),
+        strings: Cursor::new(3000, b"x\0ab\0cd"),
+        line_strings: Cursor::new(4000, b"q\0lm\0"),
+        str_offsets: Cursor::new(5000, b"hhhhhhhh\x02\0\0\0\x05\0\0\0\x02\0\0"),
+        addresses: Cursor::new(6000, b"hhhhhhhh\x11\x22\x33\x44\x55\x66\x77\x88\x99\xaa"),
+        ranges: Cursor::new(0, b""),
+        rnglists: Cursor::new(0, b""),
+        aranges: Cursor::new(0, b""),
+        lines: Cursor::new(0, b""),
+    }
+}
+
+/// What a unit has: its offset and length, its version and type, the size of an address, whether it is
+/// wide, the offset of its abbreviations, and how many bytes its body has.
+type Told = ((u64, u64), (u16, u8), (u8, bool), (u64, u64));
+
+fn told(unit: Option<Result<DwarfUnit<'_>, BadFile>>) -> Option<Result<Told, (Fault, u64)>> {
+    match unit? {
+        Ok(unit) => {
+            let shape = unit.shape;
+            Some(Ok((
+                (unit.offset, unit.len),
+                (shape.version, unit.kind),
+                (shape.address, shape.wide),
+                (unit.abbrev_offset, unit.body.left()),
+            )))
+        }
+        Err(bad) => Some(Err((bad.fault, bad.offset))),
+    }
+}
+
+#[test]
+fn headers_of_units(rt: HostRuntime) {
+    for (info, want) in [
+        (
+            b"\x08\0\0\0\x02\0\x10\0\0\0\x04b".as_slice(),
+            Some(Ok(((0, 12), (2, 1), (4, false), (16, 1)))),
+        ),
+        (
+            b"\xff\xff\xff\xff\x0b\0\0\0\0\0\0\0\x03\0\x10\0\0\0\0\0\0\0\x02".as_slice(),
+            Some(Ok(((0, 23), (3, 1), (2, true), (16, 0)))),
+        ),
+        (
+            b"\x09\0\0\0\x05\0\x01\x08\x10\0\0\0b".as_slice(),
+            Some(Ok(((0, 13), (5, 1), (8, false), (16, 1)))),
+        ),
+        (
+            b"\x09\0\0\0\x05\0\x03\x08\x10\0\0\0b".as_slice(),
+            Some(Ok(((0, 13), (5, 3), (8, false), (16, 1)))),
+        ),
+        (
+            b"\x11\0\0\0\x05\0\x04\x08\x10\0\0\0iiiiiiiib".as_slice(),
+            Some(Ok(((0, 21), (5, 4), (8, false), (16, 1)))),
+        ),
+        (
+            b"\x11\0\0\0\x05\0\x05\x08\x10\0\0\0iiiiiiiib".as_slice(),
+            Some(Ok(((0, 21), (5, 5), (8, false), (16, 1)))),
+        ),
+        (
+            b"\x15\0\0\0\x05\0\x02\x04\x10\0\0\0ssssssssoooob".as_slice(),
+            Some(Ok(((0, 25), (5, 2), (4, false), (16, 1)))),
+        ),
+        (
+            b"\xff\xff\xff\xff\x1d\0\0\0\0\0\0\0\x05\0\x06\x04\x10\0\0\0\0\0\0\0ssssssssoooooooob".as_slice(),
+            Some(Ok(((0, 41), (5, 6), (4, true), (16, 1)))),
+        ),
+        // Skipped: without a version, of versions 1 and 6, of a type 7, and before another unit.
+        (b"\0\0\0\0".as_slice(), None),
+        (b"\x01\0\0\0\x05".as_slice(), None),
+        (b"\x08\0\0\0\x01\0\x10\0\0\0\x04b".as_slice(), None),
+        (b"\x08\0\0\0\x06\0\x10\0\0\0\x04b".as_slice(), None),
+        (b"\x03\0\0\0\x05\0\x07".as_slice(), None),
+        (
+            b"\x01\0\0\0\x05\x07\0\0\0\x04\0\x10\0\0\0\x08".as_slice(),
+            Some(Ok(((5, 11), (4, 1), (8, false), (16, 0)))),
+        ),
+        // Headers that don't fit, or have another size of an address.
+        (
+            b"\x02\0\0\0\x05\0".as_slice(),
+            Some(Err((Fault::BadUnit, 1000))),
+        ),
+        (
+            b"\x06\0\0\0\x04\0\x10\0\0\0".as_slice(),
+            Some(Err((Fault::BadUnit, 1000))),
+        ),
+        (
+            b"\x07\0\0\0\x04\0\x10\0\0\0\x03".as_slice(),
+            Some(Err((Fault::BadUnit, 1000))),
+        ),
+        (
+            b"\x13\0\0\0\x05\0\x02\x04\x10\0\0\0ssssssssooo".as_slice(),
+            Some(Err((Fault::BadUnit, 1000))),
+        ),
+        // Lengths that pass the section's end, and that aren't whole.
+        (
+            b"\x08\0\0\0\x02\0\x10\0\0\0\x04".as_slice(),
+            Some(Err((Fault::BadUnit, 1000))),
+        ),
+        (
+            b"\0\0\0\0\x08\0\0".as_slice(),
+            Some(Err((Fault::Truncated, 1004))),
+        ),
+    ] {
+        assert!(rt; info.len() < 100);
+        let sections = sections(info, b"");
+        let mut units = Units::new(&sections);
+        assert_eq!(rt; told(units.next()), want, "{info:?}");
+        assert_eq!(rt; told(units.next()), None, "{info:?}");
+    }
+}
+
+/// A unit of DWARF 4 with 4 bytes an address and this body, at the file offset 1,000.
+fn unit<'a>(body: &'a [u8], abbrev_offset: u64) -> DwarfUnit<'a>
+    requires { length body.now < 100 }
+{
+    DwarfUnit {
+        place: 1000,
+        len: 11 + body.len() as u64,
+        offset: 0,
+        shape: UnitShape {
+            version: 4,
+            wide: false,
+            address: 4,
+            order: Order::Little,
+        },
+        kind: 1,
+        abbrev_offset,
+        body: Cursor::new(1011, body),
+    }
+}
+
+/// Code 1 has a name in the unit twice, a low address, a high one of a byte, and three bases; code 2 an indirect value.
+const ABBREV: &[u8] =
+    b"\x01\x11\0\x03\x08\x03\x08\x11\x01\x12\x0b\x72\x17\x73\x17\x74\x17\0\0\x02\x11\0\x03\x16\0\0\0";
+
+#[test]
+fn values_of_a_root(rt: HostRuntime) {
+    let sections = sections(b"", ABBREV);
+    let unit = unit(
+        b"\x01ab\0cd\0\x01\x02\x03\x04\x05\x06\0\0\0\x07\0\0\0\x08\0\0\0",
+        0,
+    );
+    let Ok(mut table) = Abbrevs::at(&sections.abbrev, 0, 1000) else {
+        panic!(rt; "the table has no fault");
+    };
+    let Ok(root) = unit.root_in(&mut table) else {
+        panic!(rt; "the values have no fault");
+    };
+    assert_eq!(rt;
+        (root.place, root.table_place, root.table_len),
+        (1000, 2000, 27)
+    );
+    assert!(rt; root.name_text(&sections) == Ok(Some(b"ab".as_slice())));
+    let Some(low) = root.low else {
+        panic!(rt; "the root has a low address");
+    };
+    assert_eq!(rt; root.address(&low, &sections), Ok(Some(0x4030201)));
+    let Some(high) = root.high else {
+        panic!(rt; "the root has a high address");
+    };
+    assert_eq!(rt; root.address(&high, &sections), Ok(None));
+    assert_eq!(rt; (low.place, high.place), (1018, 1022));
+    for (base, offset) in [(root.str_base, 6), (root.addr_base, 7), (root.list_base, 8)] {
+        let Some(base) = base else {
+            panic!(rt; "the root has three bases");
+        };
+        assert!(rt; base.content == Content::SecOffset(offset));
+    }
+    assert!(rt; root.ranges.is_none() && root.lines.is_none());
+}
+
+#[test]
+fn roots_by_one_table(rt: HostRuntime) {
+    let named = b"\x01ab\0cd\0\x01\x02\x03\x04\x05\x06\0\0\0\x07\0\0\0\x08\0\0\0".as_slice();
+    let sections = sections(b"", ABBREV);
+    let Ok(mut table) = Abbrevs::at(&sections.abbrev, 0, 1000) else {
+        panic!(rt; "the table has no fault");
+    };
+    for (body, has_low) in [
+        (named, true),
+        (b"\x02\x0b\x07".as_slice(), false),
+        (named, true),
+        (named, true),
+    ] {
+        let Ok(root) = unit(body, 0).root_in(&mut table) else {
+            panic!(rt; "the values have no fault");
+        };
+        assert_eq!(rt; root.low.is_some(), has_low);
+    }
+}
+
+#[test]
+fn roots_with_a_fault(rt: HostRuntime) {
+    for (body, abbrev_offset, want) in [
+        (b"".as_slice(), 0, None),
+        (b"\0".as_slice(), 0, None),
+        (b"\x02\x0b\x07".as_slice(), 0, None),
+        (b"\0".as_slice(), 27, Some((Fault::OffsetOutside, 1000))),
+        (b"\0".as_slice(), 23, Some((Fault::Truncated, 2027))),
+        (b"\x80".as_slice(), 0, Some((Fault::Truncated, 1011))),
+        (b"\x03".as_slice(), 0, Some((Fault::BadAbbrev, 1000))),
+        (b"\x02".as_slice(), 0, Some((Fault::Truncated, 1012))),
+        (
+            b"\x02\x16\x0b\x07".as_slice(),
+            0,
+            Some((Fault::UnknownForm, 1012)),
+        ),
+        (
+            b"\x01ab\0cd\0\x01\x02\x03\x04\x05\x06\0\0".as_slice(),
+            0,
+            Some((Fault::Truncated, 1023)),
+        ),
+    ] {
+        assert!(rt; body.len() < 100);
+        let sections = sections(b"", ABBREV);
+        let found = match unit(body, abbrev_offset).root(&sections) {
+            Ok(_) => None,
+            Err(bad) => Some((bad.fault, bad.offset)),
+        };
+        assert_eq!(rt; found, want, "{body:?}");
+    }
+}
+
+/// The root of a unit of DWARF 5 with this name and this base of both tables.
+fn root<'a>(name: Content<'a>, base: Content<'a>) -> Root<'a> {
+    let base = Some(Value {
+        place: 8,
+        content: base,
+    });
+    Root {
+        place: 1000,
+        shape: UnitShape {
+            version: 5,
+            wide: false,
+            address: 8,
+            order: Order::Little,
+        },
+        table_place: 2000,
+        table_len: 1,
+        name: Some(Value {
+            place: 7,
+            content: name,
+        }),
+        low: None,
+        high: None,
+        ranges: None,
+        lines: None,
+        str_base: base,
+        addr_base: base,
+        list_base: None,
+    }
+}
+
+#[test]
+fn names_and_addresses(rt: HostRuntime) {
+    let sections = sections(b"", b"");
+    let absent = Content::Other;
+    for (content, base, name, address) in [
+        (
+            Content::Text(b"zz"),
+            absent,
+            Ok(Some(b"zz".as_slice())),
+            Ok(None),
+        ),
+        (
+            Content::StrOffset(2),
+            absent,
+            Ok(Some(b"ab".as_slice())),
+            Ok(None),
+        ),
+        (
+            Content::LineStrOffset(2),
+            absent,
+            Ok(Some(b"lm".as_slice())),
+            Ok(None),
+        ),
+        (
+            Content::StrIndex(0),
+            absent,
+            Ok(Some(b"ab".as_slice())),
+            Ok(None),
+        ),
+        (
+            Content::StrIndex(1),
+            absent,
+            Err(Fault::BadString),
+            Ok(None),
+        ),
+        (
+            Content::StrIndex(2),
+            absent,
+            Err(Fault::OffsetOutside),
+            Ok(None),
+        ),
+        (
+            Content::StrIndex(u64::MAX),
+            absent,
+            Err(Fault::OffsetOutside),
+            Ok(None),
+        ),
+        (
+            Content::StrIndex(0),
+            Content::SecOffset(12),
+            Err(Fault::BadString),
+            Ok(None),
+        ),
+        (
+            Content::StrIndex(0),
+            Content::Constant(12),
+            Ok(Some(b"ab".as_slice())),
+            Ok(None),
+        ),
+        (
+            Content::StrOffset(7),
+            absent,
+            Err(Fault::OffsetOutside),
+            Ok(None),
+        ),
+        (
+            Content::LineStrOffset(5),
+            absent,
+            Err(Fault::OffsetOutside),
+            Ok(None),
+        ),
+        (Content::Constant(2), absent, Ok(None), Ok(None)),
+        (Content::Address(9), absent, Ok(None), Ok(Some(9))),
+        (
+            Content::AddrIndex(0),
+            absent,
+            Ok(None),
+            Ok(Some(0x8877_6655_4433_2211)),
+        ),
+        (
+            Content::AddrIndex(1),
+            absent,
+            Ok(None),
+            Err(Fault::OffsetOutside),
+        ),
+        (
+            Content::AddrIndex(1),
+            Content::SecOffset(1),
+            Ok(None),
+            Ok(Some(0x9988_7766_5544_3322)),
+        ),
+    ] {
+        let root = root(content, base);
+        let name = name.map_err(|fault| BadFile { fault, offset: 7 });
+        assert!(rt; root.name_text(&sections) == name, "{content:?}");
+        let value = Value { place: 7, content };
+        let address = address.map_err(|fault| BadFile { fault, offset: 7 });
+        assert_eq!(rt; root.address(&value, &sections), address, "{content:?}");
+    }
+}
+
+/// The name of the first unit. It outlives the sections that are made of the file's bytes, and not these bytes.
+fn first_name<'a>(info: &'a [u8], declared: &'a [u8]) -> Option<&'a [u8]>
+    requires info { length info.now < 1000 }
+    requires declared { length declared.now < 1000 }
+{
+    let sections = sections(info, declared);
+    let unit = Units::new(&sections).next()?.ok()?;
+    let root = unit.root(&sections).ok()?;
+    root.name_text(&sections).ok()?
+}
+
+#[test]
+fn names_borrow_the_file(rt: HostRuntime) {
+    let info = b"\x0b\0\0\0\x04\0\0\0\0\0\x08\x01ab\0";
+    let name = first_name(info, b"\x01\x11\0\x03\x08\0\0\0");
+    assert!(rt; name == Some(b"ab".as_slice()));
+}

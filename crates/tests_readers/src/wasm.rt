@@ -1,0 +1,196 @@
+//! Sections, functions and names of WebAssembly modules.
+
+ghost use Rattle.std.specs.Prelude.{◌<◌, ◌^◌, length};
+
+use size_core::{BadFile, Fault};
+use std::alloc::Global;
+use std::test::Fail;
+use wasm_file::{WasmAnswer, WasmFile};
+
+/// Three imported functions, one with a body, and a section of names that is cut short.
+const MODULE: [u8; 55] =
+    *b"\0asm\x01\0\0\0\x01\x04\x01\x60\0\0\x02\x13\x03\x01m\x01f\0\0\x01m\x01f\0\0\x01m\x01f\0\0\x03\x02\x01\0\x0a\x04\x01\x02\0\x0b\0\x08\x04name\x01\x05\x01";
+
+/// Imports of each kind, two of them functions, at 11, 17, 26, 33 and 40; three bodies at 49, 52 and 55 and a
+/// byte after them; and the names `imp` of 0, `a` and `b` of 2, none and `c` of 3, between two other
+/// subsections, of which the last is cut short.
+const NAMED: [u8; 92] =
+    *b"\0asm\x01\0\0\0\x02\x24\x05\x01m\x01f\0\0\x01m\x01t\x01\x70\x01\x01\x02\x01m\x01m\x02\0\x01\x01m\x01g\x03\x7f\0\x01m\x01h\0\0\x0a\x0b\x03\x02\0\x0b\x02\0\x0b\x02\0\x0b\xff\0\x1f\x04name\0\x02\x01m\x01\x11\x05\0\x03imp\x02\x01a\x02\x01b\x03\0\x03\x01c\x02\x7f\0";
+
+/// The fault of opening a module.
+fn fault_of(file: &[u8]) -> Option<BadFile>
+    requires { length file.now < 2 ^ 32 }
+{
+    WasmFile::parse(file).err()
+}
+
+fn bad(fault: Fault, offset: u64) -> Option<BadFile> {
+    Some(BadFile { fault, offset })
+}
+
+// Modules, and their faults with the offsets.
+const MODULE_FAULTS: [(&[u8], Option<(Fault, u64)>); 7] = [
+    (b"\0asm\x01\0\0\0", None),
+    (b"\0asm\x02\0\0\0", Some((Fault::BadHeader, 4))),
+    (b"\0asm\x01\0\0\x01", Some((Fault::BadHeader, 4))),
+    (
+        b"\0asm\x01\0\0\0\x01\xff\xff\xff\xff\x1f",
+        Some((Fault::BadLeb, 8)),
+    ),
+    (b"\0asm\x01\0\0\0\x01\x80", Some((Fault::Truncated, 8))),
+    // Five bytes may spell a size, and six may not.
+    (b"\0asm\x01\0\0\0\x63\x81\x80\x80\x80\0\x07", None),
+    (
+        b"\0asm\x01\0\0\0\x63\x81\x80\x80\x80\x80\0\x07",
+        Some((Fault::BadLeb, 8)),
+    ),
+];
+
+#[test]
+fn faults_of_modules(rt: HostRuntime) {
+    for &(file, want) in &MODULE_FAULTS {
+        assert!(rt; file.len() < 100);
+        let want = want.map(|(fault, offset)| BadFile { fault, offset });
+        assert_eq!(rt; fault_of(file), want, "{file:?}");
+    }
+}
+
+/// The fault of the first `n` bytes of the module with three imports.
+fn fault_of_cut(n: usize) -> Option<BadFile> {
+    match n {
+        0..8 => bad(Fault::Truncated, 4),
+        8 | 14 | 35 | 39 | 45 | 55 => None,
+        9 | 15 | 36 | 40 | 46 => bad(Fault::Truncated, n as u64 - 1),
+        10..14 => bad(Fault::SectionPastEnd, 8),
+        16..35 => bad(Fault::SectionPastEnd, 14),
+        37..39 => bad(Fault::SectionPastEnd, 35),
+        41..45 => bad(Fault::SectionPastEnd, 39),
+        _ => bad(Fault::SectionPastEnd, 45),
+    }
+}
+
+#[test]
+fn faults_of_cut_modules(rt: HostRuntime) {
+    for n in 0..56 {
+        assert_eq!(rt; fault_of(&MODULE[..n]), fault_of_cut(n), "{n} bytes");
+    }
+}
+
+#[test]
+fn sections_come_in_order(rt: HostRuntime) {
+    let Ok(module) = WasmFile::parse(&MODULE) else {
+        panic!(rt; "the module has no fault");
+    };
+    assert!(rt; module.bytes() == MODULE.as_slice());
+    let mut sections = module.sections();
+    for (id, place, len, first) in [
+        (1, 8, 6, 0x01),
+        (2, 14, 21, 0x03),
+        (3, 35, 4, 0x01),
+        (10, 39, 6, 0x01),
+        (0, 45, 10, 0x04),
+    ] {
+        let Some(section) = sections.next() else {
+            panic!(rt; "five sections stand there");
+        };
+        assert_eq!(rt; (section.id, section.place, section.len), (id, place, len));
+        assert_eq!(rt; section.name.is_some(), id == 0);
+        let mut contents = section.contents;
+        assert_eq!(rt; contents.place(), place + 2);
+        assert_eq!(rt; contents.u8(), Ok(first));
+    }
+    assert!(rt; sections.next().is_none());
+}
+
+/// The name of a module's first section. It outlives the module that was opened, and not the file's bytes.
+fn first_name<'a>(file: &'a [u8]) -> Option<&'a [u8]>
+    requires { length file.now < 2 ^ 32 }
+{
+    let module = WasmFile::parse(file).ok()?;
+    module.sections().next()?.name
+}
+
+#[test]
+fn names_borrow_the_file(rt: HostRuntime) {
+    let name = first_name(b"\0asm\x01\0\0\0\0\x03\x02ab");
+    assert!(rt; name == Some(b"ab".as_slice()));
+}
+
+/// The fault of a module's functions.
+fn fault_of_functions(alloc: Global, file: &[u8]) -> Result<Option<WasmAnswer>, BadFile>
+    requires { length file.now < 2 ^ 32 }
+{
+    Ok(WasmFile::parse(file)?.functions(alloc).err())
+}
+
+#[test]
+fn faults_of_functions(rt: HostRuntime) {
+    let mut many = MODULE;
+    many[16] = 127;
+    let mut unknown = NAMED;
+    unknown[30] = 4;
+    let mut long = NAMED;
+    long[55] = 127;
+    let mut both = unknown;
+    both[55] = 127;
+    for (file, want) in [
+        (MODULE.as_slice(), None),
+        (NAMED.as_slice(), None),
+        (many.as_slice(), Some(35)),
+        (unknown.as_slice(), Some(26)),
+        (long.as_slice(), Some(55)),
+        (both.as_slice(), Some(26)),
+        (b"\0asm\x01\0\0\0\x02\0", Some(10)),
+        (b"\0asm\x01\0\0\0\x0a\0", Some(10)),
+    ] {
+        assert!(rt; file.len() < 100);
+        let want = want.map(|offset| {
+            WasmAnswer::Bad(BadFile {
+                fault: Fault::BadWasm,
+                offset,
+            })
+        });
+        assert_eq!(rt; fault_of_functions(rt.alloc(), file), Ok(want), "{file:?}");
+    }
+}
+
+#[test]
+fn functions_have_indices_and_names(rt: HostRuntime) -> Result<(), Fail> {
+    for (file, count, j, index, place, name) in [
+        (MODULE.as_slice(), 1, 0, 3, 42, None),
+        (NAMED.as_slice(), 3, 0, 2, 49, Some(b"a".as_slice())),
+        (NAMED.as_slice(), 3, 1, 3, 52, None),
+        (NAMED.as_slice(), 3, 2, 4, 55, None),
+    ] {
+        assert!(rt; file.len() < 100);
+        let functions = WasmFile::parse(file)?.functions(rt.alloc())?;
+        assert_eq!(rt; functions.len(), count);
+        assert!(rt; j < functions.len());
+        let function = functions[j];
+        assert_eq!(rt;
+            (function.index, function.place, function.len),
+            (index, place, 3)
+        );
+        assert!(rt; function.name == name, "{index}");
+    }
+    Ok(())
+}
+
+#[test]
+fn names_of_functions(rt: HostRuntime) {
+    let mut more = NAMED;
+    more[72] = 6;
+    for (file, index, want) in [
+        (&NAMED, 0, Some(b"imp".as_slice())),
+        (&NAMED, 1, None),
+        (&NAMED, 2, Some(b"a".as_slice())),
+        (&NAMED, 3, None),
+        // One pair more than there are names nothing.
+        (&more, 0, None),
+    ] {
+        let Ok(module) = WasmFile::parse(file) else {
+            panic!(rt; "the module has no fault");
+        };
+        assert!(rt; module.name_of(index) == want, "{index}");
+    }
+}

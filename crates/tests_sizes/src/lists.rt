@@ -1,0 +1,61 @@
+//! Labels, limits, lists, and the counter of steps.
+
+ghost use Rattle.std.specs.Prelude.{◌≡◌, ◌<◌};
+
+use size_core::{Bytes, FULL, LabelPool, Names, Path, Source, Steps, Text};
+use std::marker::Brand;
+use std::sync::ledger::{Blank, Ledger};
+use std::test::Fail;
+
+#[test]
+fn labels_keep_their_numbers(rt: HostRuntime) -> Result<(), Fail> {
+    let mut pool = LabelPool::new(rt.alloc());
+    assert_eq!(rt; pool.intern(b".text")?, 0);
+    assert_eq!(rt; pool.intern(b"")?, 1);
+    assert_eq!(rt; pool.intern(b".text")?, 0);
+    assert_eq!(rt; pool.len(), 2);
+    assert!(rt; pool.get(1) == b"".as_slice());
+    Ok(())
+}
+
+#[test]
+fn limits_of_the_program(rt: HostRuntime) {
+    assert_eq!(rt; FULL.file, 1_073_741_824);
+    assert_eq!(rt; FULL.total, 2_147_483_648);
+    assert_eq!(rt; FULL.claims, 16_777_216);
+}
+
+#[test]
+fn lists_hold_copies(rt: HostRuntime) -> Result<(), Fail> {
+    let alloc = rt.alloc();
+    let mut names = Names::new(alloc);
+    names.push(Text::of(alloc, "sections")?.copy()?)?;
+    assert_eq!(rt; names.len(), 1);
+    assert_eq!(rt; names.get(0).as_str(), "sections");
+    assert_eq!(rt;
+        Source::named(names.get(0).as_slice()),
+        Some(Source::Sections)
+    );
+    let mut path = Path::new(alloc);
+    path.push(Bytes::of(alloc, b"\xff")?.copy()?)?;
+    assert_eq!(rt; path.len(), 1);
+    assert!(rt; path.get(0).as_slice() == b"\xff".as_slice());
+    Ok(())
+}
+
+// Counts to two, and says how many bytes the counter takes.
+fn bytes_of_counter<L: Ledger>(blank: Blank) -> usize
+    requires name { blank.name ≡ L.name }
+    requires parts { blank.parts ≡ L.parts }
+    requires some { 0 < blank.parts }
+{
+    let mut steps = Steps::<L>::begin(blank);
+    steps.tick();
+    steps.tick();
+    size_of::<Steps<L>>()
+}
+
+#[test]
+fn steps_take_no_bytes(rt: HostRuntime) {
+    assert_eq!(rt; bytes_of_counter::<Brand>(Blank::new(1)), 0);
+}

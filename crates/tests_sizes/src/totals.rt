@@ -1,0 +1,332 @@
+//! Totals of files, beside worked rows and beside the plain definition.
+
+ghost use Rattle.std.specs.Prelude.{◌≡◌, ◌+◌, ◌^◌, ◌<◌, ◌≤◌, IfOk, OnErr, All, IsTrue, length};
+ghost use Rattle.std.specs.Option.{ForSome, option_copied};
+ghost use Rattle.size_model.specs.Loads.{IsLoad};
+ghost use Rattle.dual_map.specs.Layout.{IsOver, LabelsBelow};
+
+use dual_map::{Base, DualMap};
+use rollup::{Rollup, RollupAnswer};
+use size_core::{Bytes, Claim, LabelPool, List, Load, NoMemory, Path, Side, Span, Steps};
+use size_model::{FileView, LabelTest, LabelledClaim, SourceView, file_size_in, vm_size_in};
+use std::alloc::Global;
+use std::marker::Brand;
+use std::process::Abort;
+use std::sync::ledger::{Blank, Ledger};
+use std::test::Fail;
+
+const LABELS: [&str; 9] = [
+    "[Unmapped]",
+    "[ELF Header]",
+    "[ELF Program Headers]",
+    ".text",
+    ".shstrtab",
+    "[ELF Section Headers]",
+    "LOAD #0 [RX]",
+    "b",
+    "a",
+];
+
+fn claim(side: Side, vm: (u64, u64), file: (u64, u64), label: usize) -> Claim {
+    Claim {
+        side,
+        vm: Span {
+            space: 0,
+            start: vm.0,
+            len: vm.1,
+        },
+        file: Span {
+            space: 0,
+            start: file.0,
+            len: file.1,
+        },
+        label,
+    }
+}
+
+fn sections() -> [Claim; 5] {
+    [
+        claim(Side::File, (0, 0), (0, 64), 1),
+        claim(Side::File, (0, 0), (64, 56), 2),
+        claim(Side::Both, (0x40_0078, 16), (120, 16), 3),
+        claim(Side::File, (0, 0), (136, 17), 4),
+        claim(Side::File, (0, 0), (160, 192), 5),
+    ]
+}
+
+fn segments() -> [Claim; 2] {
+    [
+        claim(Side::Both, (0x40_0000, 136), (0, 136), 6),
+        claim(Side::File, (0, 0), (160, 192), 5),
+    ]
+}
+
+fn pool_of(rt: &impl Abort, alloc: Global) -> Result<LabelPool, Fail>
+    ensures { IfOk result (λ pool. length pool ≡ 9) }
+{
+    let mut pool = LabelPool::new(alloc);
+    for label in &LABELS {
+        pool.intern(label.as_bytes())?;
+    }
+    assert_eq!(rt; pool.len(), 9);
+    Ok(pool)
+}
+
+// The maps of data sources, whose labels are numbers below 9.
+fn maps_of(
+    rt: &impl Abort,
+    alloc: Global,
+    base: &Base,
+    sources: &[&[Claim]],
+) -> Result<Vec<DualMap>, Fail>
+    ensures count { IfOk result (λ maps. length maps.items ≡ length sources.now) }
+    ensures over { IfOk result (λ maps. All (IsOver base.now) maps.items) }
+    ensures labels { IfOk result (λ maps. All (LabelsBelow 9) maps.items) }
+{
+    let mut maps = Vec::new(alloc);
+    for claims in sources {
+        all_below(rt, claims);
+        maps.push(DualMap::build(alloc, base, base.len(), claims, 0)?)?;
+    }
+    Ok(maps)
+}
+
+fn all_below(rt: &impl Abort, claims: &[Claim])
+    ensures { All (λ c. c.label < 9) claims.now }
+{
+    for claim in claims {
+        assert!(rt; claim.label < 9);
+    }
+}
+
+fn loads_of(alloc: Global, memsz: u64) -> Result<Vec<Load>, NoMemory>
+    requires { memsz ≤ 2 ^ 62 }
+    ensures { IfOk result (λ loads. All IsLoad loads.items) }
+{
+    let mut loads = Vec::new(alloc);
+    loads.push(Load {
+        space: 0,
+        vaddr: 0x40_0000,
+        memsz,
+        offset: 0,
+        filesz: 136,
+    })?;
+    Ok(loads)
+}
+
+fn add<L: Ledger>(
+    rollup: &mut Rollup,
+    base: &Base,
+    maps: &[DualMap],
+    pool: &LabelPool,
+    marks: Option<&[bool]>,
+    blank: Blank,
+) -> Result<(), RollupAnswer>
+    requires name { blank.name ≡ L.name }
+    requires parts { blank.parts ≡ L.parts }
+    requires some { 0 < blank.parts }
+    requires depth { length maps.now ≡ rollup.old.depth }
+    requires over { All (IsOver base.now) maps.now }
+    requires labels { All (LabelsBelow (length pool.now)) maps.now }
+    requires marks { ForSome (option_copied marks) (λ m. length m ≡ length pool.now) }
+    ensures depth { rollup.new.depth ≡ rollup.old.depth }
+{
+    let mut steps = Steps::<L>::begin(blank);
+    rollup.add_file(base, base.len(), maps, pool, marks, &mut steps)
+}
+
+// Adds a file of one load.
+fn adds(
+    rt: &impl Abort,
+    alloc: Global,
+    rollup: &mut Rollup,
+    len: u64,
+    memsz: u64,
+    sources: &[&[Claim]],
+    marks: Option<&[bool]>,
+) -> Result<Option<RollupAnswer>, Fail>
+    requires len { len < 2 ^ 63 }
+    requires memsz { memsz ≤ 2 ^ 62 }
+    requires depth { length sources.now ≡ rollup.old.depth }
+    requires marks { ForSome (option_copied marks) (λ m. length m ≡ 9) }
+    ensures depth { rollup.new.depth ≡ rollup.old.depth }
+{
+    let pool = pool_of(rt, alloc)?;
+    let loads = loads_of(alloc, memsz)?;
+    let base = Base::from_loads(alloc, len, loads.as_slice())?;
+    let maps = maps_of(rt, alloc, &base, sources)?;
+    let added = add::<Brand>(rollup, &base, maps.as_slice(), &pool, marks, Blank::new(1));
+    Ok(added.err())
+}
+
+// A path with its VM size and its file size.
+type Row<'a> = (&'a [&'a str], u64, u64);
+
+fn has_path(rt: &impl Abort, path: &Path, labels: &[&str]) {
+    assert_eq!(rt; path.len(), labels.len());
+    for (i, label) in labels.iter().enumerate() {
+        assert!(rt; i < path.len());
+        assert_eq!(rt; path.get(i).as_slice(), label.as_bytes());
+    }
+}
+
+fn has_rows(rt: &impl Abort, rollup: &Rollup, rows: &[Row<'_>]) {
+    assert_eq!(rt; rollup.len(), rows.len());
+    for (i, &(labels, vm, file)) in rows.iter().enumerate() {
+        assert!(rt; i < rollup.len());
+        let row = rollup.row(i);
+        has_path(rt, &row.path, labels);
+        assert_eq!(rt; (row.vm, row.file), (vm, file), "row {i}");
+    }
+}
+
+const SECTION_ROWS: [Row<'static>; 6] = [
+    (&[".shstrtab"], 0, 17),
+    (&[".text"], 16, 16),
+    (&["[ELF Header]"], 64, 64),
+    (&["[ELF Program Headers]"], 56, 56),
+    (&["[ELF Section Headers]"], 0, 192),
+    (&["[Unmapped]"], 0, 7),
+];
+
+#[test]
+fn a_file_is_added_by_sections(rt: HostRuntime) -> Result<(), Fail> {
+    let alloc = rt.alloc();
+    let mut rollup = Rollup::new(alloc, 1);
+    assert_eq!(rt; rollup.depth(), 1);
+    let claims = sections();
+    let answer = adds(&rt, alloc, &mut rollup, 352, 136, &[&claims], None)?;
+    assert_eq!(rt; answer, None);
+    has_rows(&rt, &rollup, &SECTION_ROWS);
+
+    // All labels but that of the code: it has no row.
+    let mut rollup = Rollup::new(alloc, 1);
+    let marks = [true, true, true, false, true, true, true, true, true];
+    let answer = adds(&rt, alloc, &mut rollup, 352, 136, &[&claims], Some(&marks))?;
+    assert_eq!(rt; answer, None);
+    let mut others = Vec::new(alloc);
+    for row in &SECTION_ROWS {
+        if row.2 != 16 {
+            others.push(*row)?;
+        }
+    }
+    has_rows(&rt, &rollup, others.as_slice());
+    Ok(())
+}
+
+#[test]
+fn files_add_up_by_paths_of_two(rt: HostRuntime) -> Result<(), Fail> {
+    let alloc = rt.alloc();
+    let mut rollup = Rollup::new(alloc, 2);
+    let sections = sections();
+    let segments = segments();
+    let sources: [&[Claim]; 2] = [&segments, &sections];
+    for memsz in [136, 136, 140] {
+        assert!(rt; rollup.depth() == 2 && memsz <= 140);
+        let answer = adds(&rt, alloc, &mut rollup, 352, memsz, &sources, None)?;
+        assert_eq!(rt; answer, None);
+    }
+    has_rows(
+        &rt,
+        &rollup,
+        &[
+            (&["LOAD #0 [RX]", ".text"], 48, 48),
+            (&["LOAD #0 [RX]", "[ELF Header]"], 192, 192),
+            (&["LOAD #0 [RX]", "[ELF Program Headers]"], 168, 168),
+            (&["[ELF Section Headers]", "[ELF Section Headers]"], 0, 576),
+            (&["[Unmapped]", ".shstrtab"], 0, 51),
+            (&["[Unmapped]", "[Unmapped]"], 4, 21),
+        ],
+    );
+    Ok(())
+}
+
+#[test]
+fn what_passes_the_limits_is_refused(rt: HostRuntime) -> Result<(), Fail> {
+    let alloc = rt.alloc();
+    let mut rollup = Rollup::new(alloc, 0);
+    let answer = adds(&rt, alloc, &mut rollup, 1 << 62, 1 << 62, &[], None)?;
+    assert_eq!(rt; answer, None);
+    let answer = adds(&rt, alloc, &mut rollup, 1 << 62, 1 << 62, &[], None)?;
+    assert_eq!(rt; answer, Some(RollupAnswer::TooManyBytes));
+    let answer = adds(&rt, alloc, &mut rollup, 352, 1 << 62, &[], None)?;
+    assert_eq!(rt; answer, Some(RollupAnswer::MappedTooLarge));
+    has_rows(&rt, &rollup, &[(&[], 1 << 62, 1 << 62)]);
+    Ok(())
+}
+
+// The label of the code.
+struct IsCode;
+
+impl LabelTest for IsCode {
+    ghost use Rattle.std.specs.Prelude.{codes};
+    ghost use Rattle.std.specs.Str.{bytes_eq};
+
+    ghost holds = { λ _ label. bytes_eq label (codes ".text") };
+
+    fn holds(&self, label: &[u8]) -> bool {
+        label == b".text".as_slice()
+    }
+}
+
+fn view_of(rt: &impl Abort, alloc: Global, claims: &[Claim]) -> Result<SourceView, Fail> {
+    let mut seen = List::new(alloc);
+    for claim in claims {
+        assert!(rt; claim.label < 9);
+        seen.push(LabelledClaim {
+            side: claim.side,
+            vm: claim.vm,
+            file: claim.file,
+            label: Bytes::of(alloc, LABELS[claim.label].as_bytes())?,
+        })?;
+    }
+    Ok(SourceView {
+        claims: seen,
+        unmapped: Bytes::of(alloc, LABELS[0].as_bytes())?,
+    })
+}
+
+// The plain program, which looks at each byte, counts the same.
+#[test]
+fn the_plain_program_counts_the_same(rt: HostRuntime) -> Result<(), Fail> {
+    let alloc = rt.alloc();
+    let sections = sections();
+    let segments = segments();
+    let mut file = FileView {
+        len: 352,
+        loads: List::new(alloc),
+        sources: List::new(alloc),
+    };
+    for load in &loads_of(alloc, 136)? {
+        file.loads.push(*load)?;
+    }
+    file.sources.push(view_of(&rt, alloc, &segments)?)?;
+    file.sources.push(view_of(&rt, alloc, &sections)?)?;
+    let marks = [false, false, false, true, false, false, false, false, false];
+    let mut all = Rollup::new(alloc, 2);
+    let mut code = Rollup::new(alloc, 2);
+    let sources: [&[Claim]; 2] = [&segments, &sections];
+    let answer = adds(&rt, alloc, &mut all, 352, 136, &sources, None)?;
+    assert_eq!(rt; answer, None);
+    let answer = adds(&rt, alloc, &mut code, 352, 136, &sources, Some(&marks))?;
+    assert_eq!(rt; answer, None);
+    assert_eq!(rt; (all.len(), code.len()), (6, 1));
+    agree(&rt, alloc, &all, &file, None)?;
+    agree(&rt, alloc, &code, &file, Some(&IsCode))
+}
+
+fn agree(
+    rt: &impl Abort,
+    alloc: Global,
+    rollup: &Rollup,
+    file: &FileView,
+    filter: Option<&IsCode>,
+) -> Result<(), Fail> {
+    for i in 0..rollup.len() {
+        let row = rollup.row(i);
+        assert_eq!(rt; file_size_in(alloc, filter, &row.path, file)?, row.file);
+        let vm = vm_size_in(alloc, filter, &row.path, file)?;
+        assert_eq!(rt; vm, u128::from(row.vm));
+    }
+    Ok(())
+}

@@ -1,0 +1,7 @@
+MEMORY { FLASH (rx) : ORIGIN = 0x08000000, LENGTH = 128K  RAM (rwx) : ORIGIN = 0x20000000, LENGTH = 20K }
+SECTIONS {
+  .text ORIGIN(FLASH) + SIZEOF_HEADERS : { KEEP(*(.vectors)) *(.text*) *(.rodata*) *(.config) } > FLASH
+  .init_array : { KEEP(*(.init_array*)) } > FLASH
+  .data : { *(.data*) *(.ramfunc) } > RAM AT > FLASH
+  .bss : { *(.bss*) *(COMMON) *(.noinit*) } > RAM
+}

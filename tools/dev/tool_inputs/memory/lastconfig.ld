@@ -1,0 +1,8 @@
+MEMORY { FLASH (rx) : ORIGIN = 0x08000000, LENGTH = 128K  RAM (rwx) : ORIGIN = 0x20000000, LENGTH = 20K }
+SECTIONS {
+  .text : { KEEP(*(.vectors)) *(.text*) *(.rodata*) } > FLASH
+  .init_array : { KEEP(*(.init_array*)) } > FLASH
+  .data : { *(.data*) *(.ramfunc) } > RAM AT > FLASH
+  .bss : { *(.bss*) *(COMMON) *(.noinit*) } > RAM
+  .config 0x0801fc00 : { KEEP(*(.config)) } > FLASH
+}

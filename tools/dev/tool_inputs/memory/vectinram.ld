@@ -1,0 +1,9 @@
+MEMORY { FLASH (rx) : ORIGIN = 0x08000000, LENGTH = 128K  RAM (rwx) : ORIGIN = 0x20000000, LENGTH = 20K }
+SECTIONS {
+  .boot : { KEEP(*(.config)) . = ALIGN(256); } > FLASH
+  .vectors : { KEEP(*(.vectors)) } > RAM AT > FLASH
+  .text : { *(.text*) *(.rodata*) } > FLASH
+  .init_array : { KEEP(*(.init_array*)) } > FLASH
+  .data : { *(.data*) *(.ramfunc) } > RAM AT > FLASH
+  .bss : { *(.bss*) *(COMMON) *(.noinit*) } > RAM
+}
