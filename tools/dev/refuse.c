@@ -1,4 +1,4 @@
-// Stands between a program and the C library, for tools/dev/refuse: it counts the program's calls, and has one of them fail
+// Is between a program and the C library, for tools/dev/refuse: it counts the program's calls, and has one of them fail
 // or come short. REFUSE has a word for the kind of call and its number, from 1 on; REFUSE_TELL has a file to which the
 // counts of all kinds are written at the end.
 #include <errno.h>
