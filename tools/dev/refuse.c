@@ -39,7 +39,7 @@ __attribute__((destructor)) static void tell(void) {
     }
 }
 
-// Counts a call, and tells whether it is the one.
+// Counts a call, and returns whether it is the one to refuse.
 static int is_refused(enum kind kind) {
     return ++counts[kind] == refused_number && (int)kind == refused_kind;
 }

@@ -1,4 +1,4 @@
-//! `bloaty`: what takes up space in a binary.
+//! The program `bloaty`: which parts of a binary take up its space.
 #![tactic(auto)]
 
 use bloaty_engine::bloaty;
@@ -9,7 +9,7 @@ use std::io::ErrorKind;
 use std::process::ExitCode;
 use std::{env, io};
 
-// The status if the system doesn't give the arguments, for another reason than running out of memory.
+// The exit status if the arguments can't be read, for a reason other than out of memory.
 const NO_WORDS: u8 = 7;
 
 // The arguments after the program's name.
@@ -21,7 +21,7 @@ fn words_of(rt: &HostRuntime) -> io::Result<Vec<String>> {
     Ok(words)
 }
 
-// The status if the arguments can't be had.
+// The exit status if the arguments can't be read.
 fn status_without_words(e: &io::Error) -> u8 {
     if e.kind() == ErrorKind::OutOfMemory {
         5

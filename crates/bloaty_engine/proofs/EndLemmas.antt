@@ -1,10 +1,10 @@
--- How a step ends a run, by how another one ends it.
+-- The end of a step from the end of another step.
 use Rattle.std.proofs.Common.{◌≡◌, ℕ, ◌<◌, List, length, Result, Ok, Err, refl}
 use Rattle.run_outcome.specs.declared.outcome.Outcome.{Outcome}
 use Rattle.run_outcome.specs.declared.outcome.Outcome.TheVariants.{Done, Usage, ReadFailed, TooLong, Config, UnknownSource, PatternSyntax, PatternTooBig, Bad, TooManyClaims, MappedTooLarge, NoMatch, PlaceOutside, WriteFailed, NoMemory}
 use Rattle.bloaty_engine.specs.Steps.{EndsBy, Finds}
 
--- where the one is decided as the other
+-- If both have the same result.
 pub ends-so : {X Y : Type 0} (old new : ℕ → Type 0) (decided : Result X Outcome) (found : Result Y Outcome) (end : Outcome) → ((i : ℕ) → end ≡ ReadFailed i → old i → new i)
     → (decided ≡ Err end → found ≡ Err end) → EndsBy old decided end → EndsBy new found end
 ends-so old new decided found Done at so e = so e
@@ -23,7 +23,7 @@ ends-so old new decided found PlaceOutside at so e = so e
 ends-so old new decided found WriteFailed at so e = so e
 ends-so old new decided found NoMemory at so e = tt
 
--- where a read ends it
+-- If the other step is a read.
 pub ends-read : {Y : Type 0} (new : ℕ → Type 0) (found : Result Y Outcome) (i limit : ℕ) (bytes : List ℕ) (end : Outcome) → ((j : ℕ) → end ≡ ReadFailed j → j ≡ i → new j)
     → (limit < length bytes → found ≡ Err (TooLong i)) → Finds i limit bytes (Err end) → EndsBy new found end
 ends-read new found i limit bytes Done at long e = absurd e

@@ -25,12 +25,12 @@ use Rattle.bloaty_engine.specs.Named.{AreHeld}
 use Rattle.file_profile.specs.Sources.{Chosen}
 use Rattle.bloaty_engine.specs.Steps.{Batch, EndsAs, EndsFiles, Finds, HasCounted, IsFileOf, Nowhere, batch_of, counted_batch}
 use Rattle.bloaty_engine.specs.Verdict.{◌>>=◌, counted_file, counted_from, end_at, file_limit, if_viewed, total_limit}
-use Rattle.file_profile.specs.Reasons.{of_file_alone, refused_as}
+use Rattle.file_profile.specs.Answers.{of_file_alone, refused_as}
 use Rattle.file_profile.specs.Views.{Answers, alone, if_opened, opened_viewed, viewed}
 use Rattle.file_profile.proofs.AloneLemmas.{ok-before}
 use Rattle.file_profile.proofs.LawLemmas.{of-viewed}
 use Rattle.bloaty_engine.proofs.EndLemmas.{ends-read, ends-so}
-use Rattle.bloaty_engine.proofs.ReadLemmas.{take-next, take-none}
+use Rattle.bloaty_engine.proofs.ReadLemmas.{take-length, take-next, take-none}
 
 -- One file.
 
@@ -40,7 +40,7 @@ below m n lt = grind (arith, nat_tests)
 not-below : (m n : ℕ) → n ≤ m → nat_lt m n ≡ false
 not-below m n le = grind (arith, nat_tests)
 
--- a file within the limits is what its bytes decide
+-- The result for a file within the limits depends on its bytes alone.
 pub counted-within : (limits : Limits) (sources : List Chosen) (i lengths mapped : ℕ) (name file : List ℕ) → length file ≤ file_limit limits → lengths + length file ≤ total_limit limits
     → counted_file limits sources i lengths mapped name file ≡ if_viewed i (viewed mapped limits.claims name file sources)
 unfolding counted_file
@@ -57,7 +57,7 @@ unfolding counted_file
 counted-long limits sources i lengths mapped name file lt le =
     long-choice (nat_lt (file_limit limits) (length file)) (nat_lt (total_limit limits) (lengths + length file)) (if_viewed i (viewed mapped limits.claims name file sources)) i (grind (arith, nat_tests))
 
--- how a file that isn't counted ends the run
+-- The outcome of a file that can't be counted.
 pub ends-viewed : (i : ℕ) (why : ProfileAnswer) (decided : Result FileView ProfileAnswer) → Answers (Err why) decided → EndsAs (Err (end_at i why)) (if_viewed i decided)
 ends-viewed i (profile.Bad bad) decided e = ap (if_viewed i) e
 ends-viewed i profile.TooManyClaims decided e = ap (if_viewed i) e
@@ -84,11 +84,11 @@ pub view-len : (mapped limit : ℕ) (name file : List ℕ) (sources : List Chose
 unfolding viewed
 view-len mapped limit name file sources f e = alone-len mapped limit name file sources (opened file) f refl e
 
--- a sum over one file more
+-- A sum over one more file.
 pub sum-more : (size : FileView → ℕ) (files : List FileView) (f : FileView) → sum_by size (files ++ f ∷ []) ≡ sum_by size files + size f
 sum-more size files f = sum_by-append size files (f ∷ []) ∙ ap (λ n. sum_by size files + n) (sum_by-cons size f [] ∙ omega arith)
 
--- a total counts one file more
+-- A total counts one more file.
 pub counted-one : (filter : Option (List ℕ → Bool)) (count : ℕ) (files : List FileView) (f : FileView) (old new : Totals) → HasCounted filter count files old
     → new.depth ≡ old.depth → new.lengths ≡ old.lengths + f.len → new.mapped ≡ old.mapped + mapped_count f.loads
     → ((test : List (List ℕ) → Bool) → file_where test new.rows ≡ file_where test old.rows + file_size_where filter test f)
@@ -106,7 +106,7 @@ counted-one filter count files f old new has depth lengths mapped file vm = reco
 pub none-counted : (filter : Option (List ℕ → Bool)) (count depth : ℕ) → depth ≡ count → HasCounted filter count [] (record { depth = depth; rows = []; lengths = 0; mapped = 0 })
 none-counted filter count depth is = record { depth = is; lengths = refl; mapped = refl; file = λ test. refl; vm = λ test. refl }
 
--- Files in a row.
+-- Several files, one after the other.
 
 abbrev lens : List FileView → ℕ
 lens files = sum_by (λ (f : FileView). f.len) files
@@ -126,7 +126,7 @@ ok-same : {X : Type 0} (x y : X) → ◌≡◌ {A = Result X Outcome} (Ok x) (Ok
 ok-same x y e = cc
 
 module _ (limits : Limits) (sources : List Chosen) (bytes : ℕ → List ℕ) where
-  -- files behind files that are counted
+  -- More files after files that are counted.
   pub counted-append : (i lengths mapped : ℕ) (names rest : List (List ℕ)) (fs : List FileView) → counted_from limits sources bytes i lengths mapped names ≡ Ok fs
       → counted_from limits sources bytes i lengths mapped (names ++ rest) ≡ (counted_from limits sources bytes (i + length names) (lengths + lens fs) (mapped + maps fs) rest >>= λ gs. Ok (fs ++ gs))
   counted-append i lengths mapped [] rest fs e =
@@ -178,7 +178,7 @@ same-counted limits sources old new i lengths mapped (n ∷ names) same =
 
 -- Bytes that are read.
 
--- bytes of files, the first of which has this number, as they hold them where they tell
+-- Files have some bytes: those that the files hold, if that is reported. The first file has number `first`.
 pub some-held : (held : Option Pairs) (first : ℕ) (names : List (List ℕ)) → (bytes : ℕ → List ℕ) × AreHeld held first names bytes
 some-held None first names = (λ j. [], tt)
 some-held (Some pairs) first names = (λ j. held-at pairs (slice_get names (j - first)), λ k name at. found pairs k name at)
@@ -203,7 +203,7 @@ set-other : (bytes : ℕ → List ℕ) (i j : ℕ) (b : List ℕ) → j < i → 
 unfolding set-at
 set-other bytes i j b lt = ap (λ t. cond t b (bytes j)) (let p : (j == i) ≡ false = grind (arith, nat_tests) in p)
 
--- the bytes so far and those of one file more
+-- The bytes so far and those of one more file.
 pub record Extends (held : Option Pairs) (first : ℕ) (names : List (List ℕ)) (old : ℕ → List ℕ) (i : ℕ) (b : List ℕ) : Type 0 where
   pub bytes : ℕ → List ℕ
   pub are : AreHeld held first names bytes
@@ -216,7 +216,7 @@ extended None first names old k name b are at is =
     record { bytes = set-at old (first + k) b; are = tt; here = set-same old (first + k) b; before = λ j lt. sym (set-other old (first + k) j b lt) }
 extended (Some pairs) first names old k name b are at is = record { bytes = old; are = are; here = are k name at ∙ sym is; before = λ j lt. refl }
 
--- the files of a batch before place k are counted
+-- The files of a batch before position k are counted.
 pub record AreCountedTo (held : Option Pairs) (limits : Limits) (sources : List Chosen) (filter : Option (List ℕ → Bool)) (batch : Batch) (k lengths : ℕ) (t : Totals) : Type 0 where
   pub bytes : ℕ → List ℕ
   pub are : AreHeld held batch.first batch.names bytes
@@ -225,17 +225,11 @@ pub record AreCountedTo (held : Option Pairs) (limits : Limits) (sources : List 
   pub has : HasCounted filter (length sources) files t
   pub lengths_are : lengths ≡ batch.before + t.lengths
 
-take-length : (names : List (List ℕ)) (k : ℕ) → k ≤ length names → length (take k names) ≡ k
-take-length [] zero le = refl
-take-length [] (suc k) le = absurd (omega arith)
-take-length (n ∷ names) zero le = refl
-take-length (n ∷ names) (suc k) le = omega (arith, take-length names k (omega arith))
-
 take-rest : (names : List (List ℕ)) (k : ℕ) (name : List ℕ) → slice_get names k ≡ Some name → take k names ++ name ∷ drop (suc k) names ≡ names
 take-rest names k name at = ap (λ ms. take k names ++ ms) (sym (drop-get names k name at)) ∙ take-append-drop k names
 
 module _ (held : Option Pairs) (limits : Limits) (sources : List Chosen) (filter : Option (List ℕ → Bool)) (batch : Batch) where
-  -- the files so far, with the bytes of one more
+  -- The files so far, with the bytes of one more.
   pub recounted : (k lengths : ℕ) (t : Totals) (b : List ℕ) (to : AreCountedTo held limits sources filter batch k lengths t) (more : Extends held batch.first batch.names to.bytes (batch.first + k) b)
       → k ≤ length batch.names → counted_from limits sources more.bytes batch.first batch.before 0 (take k batch.names) ≡ Ok to.files
   recounted k lengths t b to more le =
@@ -253,7 +247,7 @@ module _ (held : Option Pairs) (limits : Limits) (sources : List Chosen) (filter
       ∙ (ap (λ n. counted_from limits sources more.bytes (batch.first + k) n (0 + maps to.files) rest >>= λ gs. Ok (to.files ++ gs)) q
       ∙ ap (λ n. counted_from limits sources more.bytes (batch.first + k) lengths n rest >>= λ gs. Ok (to.files ++ gs)) r))
 
-  -- one file more is counted
+  -- One more file is counted.
   pub counted-next : (k lengths more_lengths : ℕ) (old new : Totals) (name b : List ℕ) (f : FileView) (to : AreCountedTo held limits sources filter batch k lengths old)
       (more : Extends held batch.first batch.names to.bytes (batch.first + k) b)
       → slice_get batch.names k ≡ Some name → k ≤ length batch.names → counted_file limits sources (batch.first + k) lengths old.mapped name b ≡ Ok f
@@ -269,7 +263,7 @@ module _ (held : Option Pairs) (limits : Limits) (sources : List Chosen) (filter
         lengths_are = lengths_are;
       }
 
-  -- the run ends at one file
+  -- The run ends at one file.
   pub counted-stop : (k lengths : ℕ) (t : Totals) (name b : List ℕ) (end : Outcome) (to : AreCountedTo held limits sources filter batch k lengths t)
       (more : Extends held batch.first batch.names to.bytes (batch.first + k) b)
       → slice_get batch.names k ≡ Some name → k ≤ length batch.names → counted_file limits sources (batch.first + k) lengths t.mapped name b ≡ Err end
@@ -282,7 +276,7 @@ module _ (held : Option Pairs) (limits : Limits) (sources : List Chosen) (filter
   ok-is (Ok y) x e = refl
   ok-is (Err y) x e = cc
 
-  -- how a run ends at a read
+  -- The run ends at a read.
   pub read-ends : (k lengths limit : ℕ) (t : Totals) (name b : List ℕ) (end : Outcome) (to : AreCountedTo held limits sources filter batch k lengths t)
       (more : Extends held batch.first batch.names to.bytes (batch.first + k) b)
       → slice_get batch.names k ≡ Some name → k < length batch.names → lengths ≤ total_limit limits → limit ≡ min (file_limit limits) (total_limit limits - lengths) → Finds (batch.first + k) limit b (Err end)
@@ -294,7 +288,7 @@ module _ (held : Option Pairs) (limits : Limits) (sources : List Chosen) (filter
         (λ over. counted-stop k lengths t name b (TooLong (batch.first + k)) to more at (omega arith) (counted-long limits sources (batch.first + k) lengths t.mapped name b (rw (← is) over) le)) e,
   )
 
-  -- how a run ends at a file that is read
+  -- The run ends at a file after reading it.
   pub count-ends : (k lengths : ℕ) (t : Totals) (name b : List ℕ) (end : Outcome) (to : AreCountedTo held limits sources filter batch k lengths t)
       (more : Extends held batch.first batch.names to.bytes (batch.first + k) b)
       → slice_get batch.names k ≡ Some name → k < length batch.names → EndsAs {X = FileView} (Err end) (counted_file limits sources (batch.first + k) lengths t.mapped name b)
@@ -323,12 +317,12 @@ module _ (held : Option Pairs) (limits : Limits) (sources : List Chosen) (filter
     lengths_are = omega arith;
   }
 
--- a step that went well gave something
+-- A step that succeeded has a value.
 pub ok-some : {X E : Type 0} (r : Result X E) → IsOk r → (x : X) × (r ≡ Ok x)
 ok-some (Ok x) ok = (x, refl)
 ok-some (Err e) ok = cc
 
--- The one made file.
+-- The only file, if it is synthetic.
 
 pub made-long : (limits : Limits) (sources : List Chosen) (name file : List ℕ) → min (file_limit limits) (total_limit limits) < length file
     → (counted_file limits sources 1 0 0 name file >>= λ f. (Ok [] >>= λ others. Ok (f ∷ others))) ≡ Err (TooLong 1)
@@ -346,6 +340,6 @@ made-ends limits sources filter name file end e =
     ends-so Nowhere (IsFileOf limits sources (batch_of 0 0 (name ∷ [])) (λ i. file)) (counted_file limits sources 1 0 0 name file) (counted_batch limits sources (λ i. file) (batch_of 0 0 (name ∷ []))) end (λ i same never. absurd never)
     (λ is. ap (λ r. r >>= λ g. (Ok [] >>= λ others. Ok (g ∷ others))) is) e
 
--- what may still be read is within the limit of all files
+-- The limit of the next read is within what is left of the limit of all files.
 pub min-within : (file total lengths limit : ℕ) → limit ≡ min file (total - lengths) → limit ≤ total - lengths
 min-within file total lengths limit e = grind arith

@@ -1,4 +1,4 @@
--- Bytes that a name holds, where the files tell.
+-- The bytes that a name holds, if the files report them.
 use Rattle.std.proofs.Common.{◌≡◌, ℕ, ◌+◌, ◌<◌, List, [], length, Option, None, Some, refl, arith}
 use Rattle.std.specs.Prelude.{replicate}
 use Rattle.std.proofs.lemmas.List.{length-replicate}
@@ -8,7 +8,7 @@ pub held-some : (held : Option Pairs) (name : List ℕ) → (bytes : List ℕ) �
 held-some None name = ([], tt)
 held-some (Some pairs) name = (held_bytes pairs name, refl)
 
--- where a read tells that there are more than the limit, there are such bytes
+-- If a read reports more bytes than the limit, there are such bytes.
 pub held-long : (held : Option Pairs) (name : List ℕ) (limit before now : ℕ) → IsLonger held name limit before now → (bytes : List ℕ) × (IsHeld held name bytes × (limit < length bytes))
 held-long None name limit before now longer =
     let zeros : List ℕ = replicate (limit + 1) 0 in

@@ -1,9 +1,9 @@
--- A run without a place and a debug file finds the sizes of its files, or their growth.
+-- A run without a location and a debug file reports the sizes of its files, or their growth.
 use Rattle.std.proofs.Common.{◌≡◌, ℕ, List, ◌++◌, None, Result, Ok, Err, ap, ◌∙◌}
 use Rattle.std.specs.Prelude.{Vec}
 use Rattle.std.specs.declared.alloc.Global.{Global}
 use Rattle.size_core.specs.declared.limits.Limits.{Limits}
-use Rattle.size_options.specs.declared.chosen.Options.{Options}
+use Rattle.size_options.specs.declared.run_options.Options.{Options}
 use Rattle.file_profile.specs.Sources.{Chosen}
 use Rattle.run_outcome.specs.declared.outcome.Outcome.{Outcome}
 use Rattle.run_outcome.specs.Names.{debug_names, file_names, other_names}

@@ -2,6 +2,7 @@ pub mod EndLemmas
 pub mod FileLemmas
 pub mod HeldLemmas
 pub mod KindLemmas
+pub mod LineLemmas
 pub mod PairLemmas
 pub mod PlaceLemmas
 pub mod PlanLemmas
@@ -11,3 +12,4 @@ pub mod RunLemmas
 pub mod SidesLemmas
 pub mod StepLemmas
 pub mod TakenLemmas
+pub mod UserLemmas

@@ -19,7 +19,7 @@ use Rattle.report_rows.specs.Rows.{row_tree}
 use Rattle.size_options.specs.Answers.{IsOneInput, IsPair}
 use Rattle.file_profile.specs.Counts.{filter_test}
 use Rattle.file_profile.proofs.MapLemmas.{err-same}
-use Rattle.size_options.specs.declared.chosen.Options.{Options}
+use Rattle.size_options.specs.declared.run_options.Options.{Options}
 use Rattle.run_outcome.specs.declared.outcome.Outcome.{Outcome}
 use Rattle.run_outcome.specs.declared.outcome.Outcome.TheVariants.{Done, Usage, ReadFailed, TooLong, Config, UnknownSource, PatternSyntax, PatternTooBig, Bad, TooManyClaims, MappedTooLarge, NoMatch, PlaceOutside, WriteFailed, NoMemory}
 use Rattle.bloaty_engine.specs.Named.{AreFiles, AreHeld}
@@ -62,11 +62,11 @@ ok-sound : (limits : Limits) (file : List ℕ) → length file ≤ file_limit li
 ok-sound limits file le total ok = rw (first-within limits file le total) ok
 
 module _ (limits : Limits) (file : List ℕ) (limit : ℕ) (is : limit ≡ min (file_limit limits) (total_limit limits)) where
-  -- a read that failed
+  -- A failed read.
   pub first-read : (end : Outcome) → Finds 1 limit file (Err end) → EndsFirst limits file (Err end)
   first-read end e = ends-read (λ i. i ≡ 1) (opened_first limits file) 1 limit file end (λ i same number. number) (λ over. first-long limits file (omega (arith, is, over))) e
 
-  -- a file whose format has a fault
+  -- A file whose format has a fault.
   module _ (few : length file ≤ limit) where
     same-first : opened_first limits file ≡ if_sound (opened file)
     same-first = first-within limits file (omega (arith, is, few)) (omega (arith, is, few))
@@ -87,7 +87,7 @@ module _ (limits : Limits) (sources : List Chosen) (filter : Option (List ℕ �
   after-first debug r e =
       ap (λ p. p >>= λ binary. cond (nat_lt (file_limit limits) (length debug) || nat_lt (total_limit limits) (length file + length debug)) (Err (TooLong 2)) (if_paired (pair_viewed 0 limits.claims name file debug sources))) e
 
-  -- the run ends at the first file
+  -- The run ends at the first file.
   pub pair-first : (debug : List ℕ) (end : Outcome) → EndsFirst limits file (Err end) → EndsPair limits sources filter name file debug (Err end)
   pair-first debug end e = ends-so (λ i. i ≡ 1) (IsOfPair limits file) (opened_first limits file) (counted_pair limits sources name file debug) end (λ i same number. (0, number, omega arith, tt)) (λ so. after-first debug (Err end) so) e
 
@@ -111,12 +111,12 @@ module _ (limits : Limits) (sources : List Chosen) (filter : Option (List ℕ �
         behind-first ∙ long-choice (nat_lt (file_limit limits) (length debug)) (nat_lt (total_limit limits) (length file + length debug)) _ 2 (grind (arith, nat_tests))
 
     module _ (limit : ℕ) (is : limit ≡ min (file_limit limits) (total_limit limits - length file)) where
-      -- a read of the debug file that failed
+      -- A failed read of the debug file.
       pub second-read : (end : Outcome) → Finds 2 limit debug (Err end) → EndsPair limits sources filter name file debug (Err end)
       second-read end e =
           ends-read (IsOfPair limits file) (counted_pair limits sources name file debug) 2 limit debug end (λ i same number. (1, omega (arith, number), omega arith, first)) (λ over. pair-long (omega (arith, is, over))) e
 
-      -- both were read
+      -- Both were read.
       module _ (few : length debug ≤ limit) (room : length file ≤ total_limit limits) where
         both-within : counted_pair limits sources name file debug ≡ if_paired (pair_viewed 0 limits.claims name file debug sources)
         both-within = pair-within (omega (arith, is, few)) (omega (arith, is, few, room))
@@ -126,7 +126,7 @@ module _ (limits : Limits) (sources : List Chosen) (filter : Option (List ℕ �
         pair-counted (Err end) e =
             ends-so Nowhere (IsOfPair limits file) (if_paired (pair_viewed 0 limits.claims name file debug sources)) (counted_pair limits sources name file debug) end (λ i same never. absurd never) (λ so. both-within ∙ so) e
 
--- what an answer about the pair ends
+-- The outcome of an answer about the pair.
 pub ends-paired : (limits : Limits) (sources : List Chosen) (filter : Option (List ℕ → Bool)) (name file debug : List ℕ) (why : PairAnswer)
     → PairAnswers (Err why) (pair_viewed 0 limits.claims name file debug sources) → EndsPaired limits sources filter name file debug (Err (end_of_pair why))
 ends-paired limits sources filter name file debug (pair.Bad i bad) e = ap if_paired e
@@ -139,7 +139,7 @@ pub ok-view : (r : Result FileView PairAnswer) → IsOk r → (f : FileView) × 
 ok-view (Ok f) ok = (f, refl)
 ok-view (Err e) ok = cc
 
--- no format's fault is that a file is too long, and no answer about the pair
+-- Neither a fault of a format nor an answer about the pair is the outcome that a file is too long.
 pub sound-short : (o : Result Binary BadFile) (i : ℕ) → if_sound o ≡ Err (TooLong i) → ⊥
 sound-short (Ok binary) i e = cc
 sound-short (Err bad) i e = cc
@@ -169,7 +169,7 @@ paired-not-long limits sources filter name file debug r e i is = paired-short (p
 
 -- The options of a pair.
 
--- the one file has a name
+-- The only file has a name.
 pub pair-named : (o : Options) → IsPair o → slice_get o.files 0 ≡ Some (first_name o)
 pair-named o is = by-synth o.synth is.not_made o.files is.one_file
   where
@@ -186,7 +186,7 @@ single [] name one at = absurd (omega (arith, one))
 single (n ∷ []) name one at = ap (λ m. m ∷ []) (same_Some n name at)
 single (n ∷ m ∷ names) name one at = absurd (omega (arith, one))
 
--- a file that is read has its bytes
+-- A file that is read has its bytes.
 pub one-held : (held : Option Pairs) (first : ℕ) (name bytes : List ℕ) (files : ℕ → List ℕ) → files (first + 0) ≡ bytes → IsHeld held name bytes → AreHeld held first (name ∷ []) files
 one-held None first name bytes files same held = tt
 one-held (Some pairs) first name bytes files same held = at-place
@@ -219,7 +219,7 @@ module _ (o : Options) (name debug : List ℕ) (is : IsPair o) (asked : o.debug 
   first-is : first_name o ≡ name
   first-is = ap (λ ns. unwrap_or (slice_get ns 0) []) front-is
 
-  -- the bytes of the two files
+  -- The bytes of the two files.
   pub two : List ℕ → List ℕ → ℕ → List ℕ
   two own other = beyond 1 (λ i. own) (λ i. other)
 
@@ -240,7 +240,7 @@ module _ (o : Options) (name debug : List ℕ) (is : IsPair o) (asked : o.debug 
         ∙ (ap (λ d. found_by None d limits sources (two own other) o) asked
         ∙ (ap (λ n. as_counted (counted_pair limits sources n own other)) first-is ∙ ap as_counted e))
 
-    -- the run ends at the pair
+    -- The run ends at the pair.
     pub pair-ends : (end : Outcome) → EndsPair limits sources (filter_test filter) name own other (Err end) → EndsFinding limits sources (two own other) o (Err end)
     unfolding two beyond
     pair-ends end e =
@@ -248,18 +248,18 @@ module _ (o : Options) (name debug : List ℕ) (is : IsPair o) (asked : o.debug 
         ends-so (IsOfPair limits own) (IsReadFile limits sources (two own other) o) (counted_pair limits sources name own other) (found limits sources (two own other) o) end
         (λ i same p. (p.0, p.1, rw is.not_made tt, omega (arith, p.2, long), rw asked p.3)) (λ so. found-pair (Err end) so) e
 
-    -- or there is its report
+    -- The run has the report of the pair.
     pub pair-found : (t : Totals) (out : Vec ℕ Global) → EndsPair limits sources (filter_test filter) name own other (Ok t) → IsTotals t.depth t.rows t.lengths t.mapped
         → out.items ≡ printed o (row_tree (row_options o) t) → EndsFinding limits sources (two own other) o (Ok out)
     pair-found t out e totals text =
         (Counted (one_file e.0), found-pair (Ok (one_file e.0)) e.1, sizes-for o.bases o (one_file e.0) out.items is.no_base (size-report sources o filter same depth t (e.0 ∷ []) e.2 totals out.items text))
 
-    -- want of memory is free
+    -- Out of memory, which is allowed at any step.
     pub pair-unmade : EndsFinding limits sources (two own other) o (Err NoMemory)
     pair-unmade = tt
 
--- what is read of a pair
+-- The files that are read for a pair.
 pub pair-part : (limits : Limits) (o : Options) (debug : List ℕ) (is : IsPair o) → o.debug ≡ Some debug → (all : List (List ℕ))
-    → IsPart (batch_reading limits (batch_of 0 0 (first_name o ∷ debug ∷ []))) (reading_for limits o all) 0
+    → IsPart (batch_reading limits (batch_of 0 0 (first_name o ∷ debug ∷ []))) (reading_for limits o all) 0 0 0
 pair-part limits o debug is asked all =
     files-part limits o (first_name o ∷ debug ∷ []) all is.not_made (λ k n at. pair-name o (first_name o) debug is asked (pair-named o is) k n at)

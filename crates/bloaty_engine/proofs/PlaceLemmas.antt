@@ -1,4 +1,4 @@
--- A place of the one file, which is read or made.
+-- A location of the only file, which is read or synthetic.
 use Rattle.std.proofs.Common.{◌≡◌, ℕ, ◌+◌, ◌-◌, ◌<◌, ◌≤◌, min, true, false, cond, ◌||◌, nat_lt, List, [], ◌∷◌, ◌++◌, length, Option, None, Some, Result, Ok, Err, refl, ap, ◌∙◌, arith}
 use Rattle.std.specs.Prelude.{IsOk, Vec, slice_get, unwrap_or}
 use Rattle.std.specs.declared.alloc.Global.{Global}
@@ -10,10 +10,10 @@ use Rattle.place_explain.specs.declared.named.PlaceSource.{PlaceSource}
 use Rattle.outside.specs.Held.{Pairs}
 use Rattle.report_text.specs.Places.{place_report_text}
 use Rattle.size_options.specs.Answers.{IsAlone, IsOneInput}
-use Rattle.size_options.specs.declared.chosen.Options.{Options}
+use Rattle.size_options.specs.declared.run_options.Options.{Options}
 use Rattle.file_profile.specs.declared.answer.PlaceAnswer.{PlaceAnswer}
 use Rattle.file_profile.specs.declared.answer.PlaceAnswer.TheVariants as explaining
-use Rattle.file_profile.specs.Places.{Explains}
+use Rattle.file_profile.specs.Explanations.{Explains}
 use Rattle.file_profile.specs.Sources.{Chosen}
 use Rattle.run_outcome.specs.declared.outcome.Outcome.{Outcome}
 use Rattle.run_outcome.specs.declared.outcome.Outcome.TheVariants.{Done, Usage, ReadFailed, TooLong, Config, UnknownSource, PatternSyntax, PatternTooBig, Bad, TooManyClaims, MappedTooLarge, NoMatch, PlaceOutside, WriteFailed, NoMemory}
@@ -21,7 +21,7 @@ use Rattle.bloaty_engine.specs.Named.{AreHeld}
 use Rattle.run_outcome.specs.Names.{debug_names, file_names, names_of, other_names}
 use Rattle.bloaty_engine.specs.PlaceSteps.{EndsExplained, explained_within}
 use Rattle.bloaty_engine.specs.Reports.{EndsFinding, IsReadFile, IsUnmade}
-use Rattle.bloaty_engine.specs.Reading.{reading_for, reading_from}
+use Rattle.bloaty_engine.specs.Reading.{file_reading, reading_for}
 use Rattle.bloaty_engine.specs.Steps.{Finds}
 use Rattle.bloaty_engine.proofs.EndLemmas.{ends-read}
 use Rattle.bloaty_engine.proofs.ReadLemmas.{none-name}
@@ -31,7 +31,7 @@ use Rattle.bloaty_engine.specs.Verdict.{Explained, counted_files, counted_sides,
 not-below : (m n : ℕ) → n ≤ m → nat_lt m n ≡ false
 not-below m n le = grind (arith, nat_tests)
 
--- what an answer about a place ends
+-- The outcome of an answer about a location.
 pub ends-explained : (decided : Result (List PlaceSource) PlaceAnswer) (why : PlaceAnswer) → Explains (Err why) decided → EndsExplained (if_explained decided) (Err (end_of_place why))
 ends-explained decided (explaining.Bad bad) e = ap if_explained e
 ends-explained decided explaining.PlaceOutside e = ap if_explained e
@@ -39,7 +39,7 @@ ends-explained decided explaining.TooManyClaims e = ap if_explained e
 ends-explained decided explaining.MappedTooLarge e = ap if_explained e
 ends-explained decided explaining.NoMemory e = tt
 
--- a run over one file has no other name
+-- A run over one file has no other names.
 pub no-other-names : (o : Options) → IsAlone o → other_names o ≡ []
 no-other-names o alone = ap (λ d. debug_names d ++ o.bases) alone.no_debug ∙ alone.no_base
 
@@ -47,7 +47,7 @@ pub no-others-held : (held : Option Pairs) (first : ℕ) (names : List (List ℕ
 no-others-held None first names files none = tt
 no-others-held (Some pairs) first names files none = λ k name at. absurd (none-some name (rw none at at))
 
--- before the first file none is counted
+-- Before the first file none is counted.
 none-counted-yet : (limits : Limits) (sources : List Chosen) (files : ℕ → List ℕ) (o : Options) → IsOk (counted_files limits sources files o 0)
 unfolding counted_sides
 none-counted-yet limits sources files o =
@@ -71,7 +71,7 @@ module _ (limits : Limits) (sources : List Chosen) (files : ℕ → List ℕ) (o
       let b : nat_lt (total_limit limits) (0 + length (files 1)) ≡ false = not-below (total_limit limits) (0 + length (files 1)) (omega (arith, le)) in
       rw (a, b) refl
 
-  -- the one file isn't read
+  -- The only file can't be read, or is too long.
   pub only-ends : (end : Outcome) → o.debug ≡ None → IsOneInput o.synth o.files → ((k : ℕ) → end ≡ ReadFailed (k + 1) → IsUnmade o.synth k)
       → Finds 1 (min (file_limit limits) (total_limit limits)) (files 1) (Err end) → EndsFinding limits sources files o (Err end)
   only-ends end none one unmade e =
@@ -85,7 +85,7 @@ module _ (limits : Limits) (sources : List Chosen) (files : ℕ → List ℕ) (o
       some-name (Some n) names rest one = omega arith
 
   module _ (few : length (files 1) ≤ min (file_limit limits) (total_limit limits)) where
-    -- the place isn't explained
+    -- The location isn't explained.
     pub place-ends : (end : Outcome) → EndsExplained (explained_within limits sources o place (files 1)) (Err end) → EndsFinding limits sources files o (Err end)
     place-ends (ReadFailed i) e = absurd e
     place-ends (TooLong i) e = absurd e
@@ -103,15 +103,15 @@ module _ (limits : Limits) (sources : List Chosen) (files : ℕ → List ℕ) (o
     place-ends PlaceOutside e = found-place (Err PlaceOutside) (place-within few ∙ e)
     place-ends WriteFailed e = found-place (Err WriteFailed) (place-within few ∙ e)
 
-    -- it is
+    -- The location is explained.
     pub place-found : (said : List PlaceSource) (out : Vec ℕ Global) → explained_within limits sources o place (files 1) ≡ Ok said → out.items ≡ place_report_text place said o.wide → EndsFinding limits sources files o (Ok out)
     place-found said out e is = (Explained place said, found-place (Ok said) (place-within few ∙ e), is)
 
-    -- no other end has that answer
+    -- An explanation never ends with a failed read.
     pub explained-no-read : (end : Outcome) (i : ℕ) → EndsExplained (explained_within limits sources o place (files 1)) (Err end) → end ≡ ReadFailed i → ⊥
     explained-no-read end i e is = absurd (rw is at e)
 
--- the one file that is read
+-- The only file, if it is read.
 pub first-file : (o : Options) → o.synth ≡ None → length o.files ≡ 1 → o.files ≡ first_name o ∷ []
 first-file o none one = by-files o.synth none o.files one
   where
@@ -122,8 +122,13 @@ first-file o none one = by-files o.synth none o.files one
     by-files (Some n) none files one = cc
 
 pub first-of-run : (limits : Limits) (o : Options) (all : List (List ℕ)) (limit : ℕ) → limit ≡ min (file_limit limits) (total_limit limits) → o.synth ≡ None → o.files ≡ first_name o ∷ []
-    → IsPart (reading_from 1 (first_name o ∷ []) (limit + 1)) (reading_for limits o all) 0
+    → IsPart (file_reading 1 (first_name o) limit) (reading_for limits o all) 0 0 0
 first-of-run limits o all limit is none files =
     let first = first-part limits (first_name o) [] [] limit is in
     let run = files-part limits o (first_name o ∷ []) all none (λ k n at. none-name o k n none (ap (λ ns. slice_get ns k) files ∙ at)) in
-    record { name_of = λ i n at. run.name_of i n (first.name_of i n at); least = λ i n at. omega (arith, first.least i n at, run.least i n (first.name_of i n at)) }
+    record {
+      name_of = λ i n at. run.name_of i n (first.name_of i n at);
+      upto = λ i n at. omega (arith, first.upto i n at, run.upto i n (first.name_of i n at));
+      least = λ i n at. omega (arith, first.least i n at, run.least i n (first.name_of i n at));
+      most = omega (arith, first.most, run.most);
+    }

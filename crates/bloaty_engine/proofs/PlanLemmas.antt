@@ -1,4 +1,4 @@
--- How the data sources of a plan are found, name by name, and its patterns, data source by data source.
+-- How a plan finds its data sources, name by name, and compiles its patterns, data source by data source.
 use Rattle.std.proofs.Common.{◌≡◌, ◌+◌, ◌<◌, ◌≤◌, ℕ, zero, suc, true, false, cond, List, [], ◌∷◌, ◌++◌, length, map, take, drop, get_or, Option, None, Some, IfSome, option_map, slice_get, Result, Ok, Err, IsOk, refl, sym, ap, ◌∙◌, append_assoc, arith}
 use Rattle.std.specs.Str.{bytes_eq}
 use Rattle.std.proofs.Math.Seq.{take-append-add}
@@ -11,9 +11,9 @@ use Rattle.config_text.specs.declared.config.CustomSource.{CustomSource}
 use Rattle.config_text.specs.declared.config.Rewrite.{Rewrite}
 use Rattle.custom_rewrites.specs.Pattern.{IsNoPattern, IsPattern}
 use Rattle.custom_rewrites.specs.Rewriting.{StopsAt as StopsIn}
-use Rattle.file_profile.specs.declared.asked.Choice.{Choice}
-use Rattle.file_profile.specs.declared.asked.PlanAnswer.{PlanAnswer}
-use Rattle.file_profile.specs.declared.asked.PlanAnswer.TheVariants.{UnknownSource, PatternSyntax, PatternTooBig, NoMemory}
+use Rattle.file_profile.specs.declared.plan.Choice.{Choice}
+use Rattle.file_profile.specs.declared.plan.PlanAnswer.{PlanAnswer}
+use Rattle.file_profile.specs.declared.plan.PlanAnswer.TheVariants.{UnknownSource, PatternSyntax, PatternTooBig, NoMemory}
 use Rattle.file_profile.specs.Choices.{as_chosen, chosen_in, rewrite_lists}
 use Rattle.file_profile.specs.Patterns.{ArePatterns, ArePatternsBelow, AreRead, StopsAt, rewrites_of}
 use Rattle.file_profile.specs.Plans.{HasCause, HasRewriteCause}
@@ -65,7 +65,7 @@ module _ (customs : List CustomSource) (names : List (List ℕ)) (i : ℕ) (choi
       to ∙ ap (with_chosen (map (chosen_in (rewrite_lists customs)) choices)) (at-name
       ∙ ap (λ p. chosen_before (i + 1) p (chosen_from customs (i + 1 + 1) (drop (i + 1) names))) (sym is))
 
-  -- one name more
+  -- One more name.
   pub chosen-more : (choice : Choice) → Some (chosen_in (rewrite_lists customs) choice) ≡ chosen_named customs name → AreChosenTo customs names (i + 1) (choices ++ choice ∷ [])
   chosen-more choice is =
       let others = chosen_from customs (i + 1 + 1) (drop (i + 1) names) in
@@ -139,7 +139,7 @@ module _ (customs : List CustomSource) (i : ℕ) (c : CustomSource) (at : slice_
       (s.0, s.1, s.2, omega (arith, le, h.3))
   cause-more first start before after last now read le NoMemory h = h
 
--- the pattern of a number, where the filter is one of the grammar
+-- The pattern of a number, if the filter is a regular expression of the grammar.
 module _ (names : List (List ℕ)) (filter : Option (List ℕ)) (customs : List CustomSource) where
   filter-read : IfSome filter IsPattern → (pattern : List ℕ) → filter ≡ Some pattern → IsPattern pattern
   filter-read read pattern is = rw is at read

@@ -1,4 +1,4 @@
--- How a run ends, by what its steps answer.
+-- The end of a run from the results of its steps.
 use Rattle.std.proofs.Common.{◌≡◌, ℕ, zero, suc, ◌+◌, Bool, true, false, cond, ◌||◌, nat_lt, List, [], ◌∷◌, ◌++◌, length, Option, None, Some, Result, Ok, Err, All, ◌⊎◌, inl, inr, refl, sym, ap, ◌∙◌, arith}
 use Rattle.std.specs.Prelude.{⊤, IfSome, IsOk, slice_get, unwrap_or, Vec}
 use Rattle.std.specs.declared.alloc.Global.{Global}
@@ -15,9 +15,9 @@ use Rattle.config_text.specs.declared.config.CustomSource.{CustomSource}
 use Rattle.config_text.specs.Config.{config}
 use Rattle.config_text.specs.Grammar.{Fault as ConfigFault}
 use Rattle.elf_synth.specs.Made.{made}
-use Rattle.size_options.specs.declared.chosen.Options.{Options}
-use Rattle.size_options.specs.declared.answer.UsageKind.{UsageKind}
-use Rattle.size_options.specs.declared.answer.UsageKind.TheVariants as usage
+use Rattle.size_options.specs.declared.run_options.Options.{Options}
+use Rattle.size_options.specs.declared.errors.UsageKind.{UsageKind}
+use Rattle.size_options.specs.declared.errors.UsageKind.TheVariants as usage
 use Rattle.file_profile.specs.declared.answer.ProfileAnswer.{ProfileAnswer}
 use Rattle.file_profile.specs.declared.answer.ProfileAnswer.TheVariants as profile
 use Rattle.run_outcome.specs.declared.outcome.Outcome.{Outcome}
@@ -42,7 +42,7 @@ use Rattle.file_profile.specs.declared.answer.PairAnswer.TheVariants as pair
 use Rattle.file_profile.specs.declared.answer.PlaceAnswer.{PlaceAnswer}
 use Rattle.file_profile.specs.declared.answer.PlaceAnswer.TheVariants as explaining
 use Rattle.file_profile.specs.PairViews.{pair_viewed}
-use Rattle.file_profile.specs.Places.{explained_place, named_sources}
+use Rattle.file_profile.specs.Explanations.{explained_place, named_sources}
 use Rattle.file_profile.specs.Views.{viewed}
 use Rattle.bloaty_engine.proofs.FileLemmas.{some-held}
 use Rattle.bloaty_engine.proofs.HeldLemmas.{held-some}
@@ -51,7 +51,7 @@ use Rattle.bloaty_engine.proofs.SidesLemmas.{behind-held, beyond, front-files}
 ok-same : {X E : Type 0} (x y : X) → ◌≡◌ {A = Result X E} (Ok x) (Ok y) → x ≡ y
 ok-same x y e = cc
 
--- What is asked, case by case.
+-- The request, case by case.
 
 request-of : Options → List CustomSource → List Chosen → Request
 request-of o customs sources = record { options = o; customs = customs; sources = sources }
@@ -88,7 +88,7 @@ unfolding verdict
 verdict-files limits o contents r e =
     ap (λ p. p >>= λ q. found limits q.sources contents.files q.options >>= λ finding. Ok (record { request = q; finding = finding })) e
 
--- Which ends a step may have.
+-- The outcomes that a step may have.
 
 IsConfigEnd : Outcome → Type 0
 IsConfigEnd (TooLong zero) = ⊤
@@ -201,7 +201,7 @@ explained-error : (decided : Result (List PlaceSource) PlaceAnswer) (end : Outco
 explained-error (Ok said) end e = cc
 explained-error (Err why) end e = file-end end (end_of_place why) (place-is why) (err-same _ _ e)
 
--- a file over a limit is too long, and another one ends the run as it is decided
+-- A file over a limit is too long. Any other file has the result of the next step.
 short-error : {X : Type 0} (b : Bool) (i : ℕ) (next : Result X Outcome) (end : Outcome) → ((x : Outcome) → next ≡ Err x → IsFileEnd x) → cond b (Err (TooLong i)) next ≡ Err end → IsFileEnd end
 unfolding IsFileEnd
 short-error true i next end decided e = file-end end (TooLong i) tt (err-same _ _ e)
@@ -272,7 +272,7 @@ chosen-count customs i (n ∷ names) sources e = by-name (chosen_named customs n
 pub planned-count : (customs : List CustomSource) (names : List (List ℕ)) (sources : List Chosen) → chosen_sources customs names ≡ Ok sources → length sources ≡ length names
 planned-count customs names sources e = chosen-count customs 1 names sources e
 
--- and so does the configuration
+-- Reading the configuration never ends a run by a pattern.
 pub config-never-big : (limits : Limits) (name : Option (List ℕ)) (text : List ℕ) (i : ℕ) → EndsConfig limits name text (Err (PatternTooBig i)) → ⊥
 unfolding IsConfigEnd
 config-never-big limits name text i e = customs-error limits name text (PatternTooBig i) e
@@ -321,21 +321,21 @@ pub never-big : (limits : Limits) (sources : List Chosen) (files : ℕ → List 
 unfolding IsFileEnd
 never-big limits sources files o i e = found-error limits sources files o (PatternTooBig i) e
 
--- What the steps decide of the run.
+-- The result of the run from its steps.
 
--- bytes of files, where they aren't read
+-- Bytes of files, if they aren't read.
 some-files : (held : Option Pairs) (synth : Option ℕ) (names : List (List ℕ)) → (files : ℕ → List ℕ) × AreFiles held synth names files
 some-files held None names = some-held held 1 names
 some-files held (Some n) names = (λ i. made n, refl)
 
--- bytes of files and of others behind them, where they aren't read
+-- Bytes of files and of others after them, if they aren't read.
 pub some-bytes : (held : Option Pairs) (o : Options) (others : List (List ℕ)) → (files : ℕ → List ℕ) × AreFiles held o.synth o.files files × AreHeld held (length (file_names o) + 1) others files
 some-bytes held o others =
     let front = some-files held o.synth o.files in
     let behind = some-held held (length (file_names o) + 1) others in
     (beyond (length (file_names o)) front.0 behind.0, front-files held o.synth o.files front.0 behind.0 front.1, behind-held held (length (file_names o)) others front.0 behind.0 behind.1)
 
--- a run ends so over some bytes of its files
+-- A run ends with this result over some bytes of its files.
 abbrev pub RunsTo : Option Pairs → Limits → Options → List ℕ → Result (Vec ℕ Global) Outcome → Type 0
 RunsTo held limits o last result = (contents : Contents) × AreContents held o contents × EndsReport limits o last contents result
 
@@ -347,7 +347,7 @@ no-end true p q = cc
 no-end false p q = cc
 
 module _ (held : Option Pairs) (limits : Limits) (o : Options) (last text : List ℕ) (is-text : IsText held o.config text) where
-  -- over bytes of files that aren't read
+  -- Over bytes of files that aren't read.
   unread : Contents
   unread = contents-of text (some-bytes held o (other_names o)).0
 
@@ -438,7 +438,7 @@ module _ (held : Option Pairs) (limits : Limits) (o : Options) (last text : List
       unfolding found-read
       not-end end e = found-error limits p.sources files o end e
 
-      -- how the run ends at its files, or the report that it has
+      -- The run ends at its files, or it has a report.
       pub ends-finding : (r : Result (Vec ℕ Global) Outcome) → EndsFinding limits p.sources files o r → RunsTo held limits o last r
       unfolding IsFileEnd found-read contents-of read request-of
       ends-finding (Ok out) e = (
@@ -475,9 +475,9 @@ module _ (held : Option Pairs) (limits : Limits) (o : Options) (last text : List
       ends-finding (Err (PatternTooBig i)) e = absurd (not-end (PatternTooBig i) e)
       ends-finding (Err WriteFailed) e = absurd (not-end WriteFailed e)
 
--- How a run with an outcome ends.
+-- The end of a run with an outcome.
 
--- bytes that the files of options hold, or any where there are no options
+-- Bytes that the files of options hold, or any bytes if there are no options.
 some-contents : (held : Option Pairs) (given : Result Options UsageKind) → (contents : Contents) × ((o : Options) → given ≡ Ok o → AreContents held o contents)
 unfolding contents-of
 some-contents held (Err kind) = (contents-of [] (λ i. []), λ o e. cc)
@@ -490,7 +490,7 @@ some-contents held (Ok o) = (contents-of (some-text held o.config).0 (some-bytes
     of-options : (held : Option Pairs) (o p : Options) → o ≡ p → AreContents held p (contents-of (some-text held o.config).0 (some-bytes held o (other_names o)).0)
     of-options held o p same = rw (← same) (record { config = (some-text held o.config).1; files = (some-bytes held o (other_names o)).1; others = (some-bytes held o (other_names o)).2 })
 
--- words that are misused end the run so
+-- Misused arguments end the run with that outcome.
 usage-verdict : (limits : Limits) (given : Result Options UsageKind) (contents : Contents) (kind : UsageKind) → given ≡ Err kind → verdict limits given contents ≡ Err (Usage kind)
 unfolding verdict asked
 usage-verdict limits given contents kind e = rw e refl

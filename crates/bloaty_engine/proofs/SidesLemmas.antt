@@ -11,7 +11,7 @@ use Rattle.outside.specs.Held.{Pairs}
 use Rattle.rollup.specs.Totals.{IsTotals, Totals}
 use Rattle.report_rows.specs.declared.row.RowOptions.{RowOptions}
 use Rattle.report_rows.specs.Rows.{row_tree}
-use Rattle.size_options.specs.declared.chosen.Options.{Options}
+use Rattle.size_options.specs.declared.run_options.Options.{Options}
 use Rattle.run_outcome.specs.declared.outcome.Outcome.{Outcome}
 use Rattle.run_outcome.specs.declared.outcome.Outcome.TheVariants.{Done, Usage, ReadFailed, TooLong, Config, UnknownSource, PatternSyntax, PatternTooBig, Bad, TooManyClaims, MappedTooLarge, NoMatch, PlaceOutside, WriteFailed, NoMemory}
 use Rattle.file_profile.specs.Counts.{filter_test}
@@ -29,10 +29,10 @@ use Rattle.size_growth.specs.Rows.{growth_tree}
 use Rattle.size_model.proofs.Paths.{counts_for-unique}
 use Rattle.bloaty_engine.proofs.EndLemmas.{ends-so}
 use Rattle.bloaty_engine.proofs.FileLemmas.{same-counted}
-use Rattle.bloaty_engine.proofs.ReportLemmas.{growths-count, rows-show, totals-whole}
+use Rattle.bloaty_engine.proofs.ReportLemmas.{growth-order, rows-show, size-order, totals-whole}
 use Rattle.bloaty_engine.proofs.ReadLemmas.{take-none}
 
--- the bytes of files up to a number, and those of others behind it
+-- The bytes of files up to a number, and those of others after it.
 unfoldable pub beyond : ℕ → (ℕ → List ℕ) → (ℕ → List ℕ) → ℕ → List ℕ
 beyond count a b j = if nat_le j count then a j else b j
 
@@ -69,7 +69,7 @@ pub no-names : (names : List (List ℕ)) → length names ≡ 0 → names ≡ []
 no-names [] e = refl
 no-names (n ∷ names) e = absurd (omega arith)
 
--- the report of sizes is that of files with no base file, and that of growth that of files with some
+-- Without base files the report is that of sizes, and with base files that of growth.
 pub sizes-for : (bases : List (List ℕ)) (o : Options) (s : Sides) (text : List ℕ) → bases ≡ [] → IsSizeReport o s.files text → IsReportFor bases o s text
 sizes-for [] o s text none is = is
 sizes-for (base ∷ bases) o s text none is = absurd (let wrong : base ∷ bases ≡ [] = none in cc)
@@ -78,11 +78,11 @@ growth-for : (bases : List (List ℕ)) (o : Options) (s : Sides) (text : List �
 growth-for [] o s text some is = absurd (omega arith)
 growth-for (base ∷ bases) o s text some is = is
 
--- the tree of a report hangs on the depth and the rows alone
+-- The tree of a report depends on the depth and the rows alone.
 tree-same : (ro : RowOptions) (t : Totals) (n : ℕ) → t.depth ≡ n → row_tree ro t ≡ row_tree ro (record { depth = n; rows = t.rows; lengths = 0; mapped = 0 })
 tree-same ro t n e = ap (λ d. row_tree ro (record { depth = d; rows = t.rows; lengths = 0; mapped = 0 })) e
 
--- the report of the sizes that a total counts
+-- The report of the sizes that a total counts.
 pub size-report : (sources : List Chosen) (o : Options) (filter : Option (List ℕ)) → filter ≡ o.filter → length o.sources ≡ length sources → (t : Totals) (files : List FileView)
     → HasCounted (filter_test filter) (length sources) files t → IsTotals t.depth t.rows t.lengths t.mapped → (text : List ℕ) → text ≡ printed o (row_tree (row_options o) t) → IsSizeReport o files text
 size-report sources o filter same depth t files has totals text is =
@@ -96,10 +96,8 @@ size-report sources o filter same depth t files has totals text is =
       vm = rw same at has.vm;
     } in
     record {
-      rows = t.rows;
-      sizes = sizes;
       tree = report_tree o t.rows;
-      order = refl;
+      order = size-order o files t.rows sizes;
       each = rows-show o files t.rows sizes;
       once = counts_for-unique (filter_test o.filter);
       sums = adds-up (row_options o) (depth_of o) t.rows sizes.deep;
@@ -161,14 +159,14 @@ module _ (limits : Limits) (sources : List Chosen) (o : Options) (filter : Optio
       let fs = is-ok _ e.3 in
       (k, number, unmade k (ap ReadFailed number), omega (arith, e.2, some), rw (take-front (file_names o) o.bases k (omega (arith, e.2))) (ok-is _ _ (sides-none (take k (file_names o)) fs.0 le fs.1)))
 
-  -- the run ends at the files
+  -- The run ends at the files.
   pub front-ends : (end : Outcome) → ((k : ℕ) → end ≡ ReadFailed (k + 1) → IsUnmade o.synth k) → EndsFiles limits sources (filter_test filter) (batch_of 0 0 (file_names o)) a (Err end) → EndsCounting limits sources (beyond (length (file_names o)) a b) o (Err end)
   unfolding count all
   front-ends end unmade e =
       ends-so (IsFileOf limits sources (batch_of 0 0 (file_names o)) a) (IsCountedFile limits sources (beyond (length (file_names o)) a b) o) (counted_batch limits sources a (batch_of 0 0 (file_names o)))
       (counted_sides limits sources (beyond (length (file_names o)) a b) (file_names o) o.bases) end (λ i same p. front-at i (λ k is. unmade k (same ∙ is)) p) (λ so. sides-end end so) e
 
-  -- the report of sizes of the files that were counted
+  -- The report of sizes of the files that were counted.
   pub sizes-end : (t : Totals) (out : Vec ℕ Global) → o.bases ≡ [] → EndsFiles limits sources (filter_test filter) (batch_of 0 0 (file_names o)) a (Ok t) → IsTotals t.depth t.rows t.lengths t.mapped
       → out.items ≡ printed o (row_tree (row_options o) t) → EndsCounting limits sources (beyond (length (file_names o)) a b) o (Ok out)
   unfolding count all
@@ -177,7 +175,7 @@ module _ (limits : Limits) (sources : List Chosen) (o : Options) (filter : Optio
       let s : Sides = record { files = e.0; bases = [] } in
       (s, ap (counted_sides limits sources all (file_names o)) none ∙ sides-none (file_names o) e.0 (omega arith) e.1, sizes-for o.bases o s out.items none report)
 
-  -- the run ends at the base files, or there is the report of growth
+  -- The run ends at the base files, or it has a report of growth.
   module _ (t : Totals) (some : 0 < length o.bases) (e : EndsFiles limits sources (filter_test filter) (batch_of 0 0 (file_names o)) a (Ok t)) where
     behind-end : (end : Outcome) → counted_from limits sources b (count + 1) t.lengths 0 o.bases ≡ Err end → counted_sides limits sources all (file_names o) o.bases ≡ Err end
     unfolding count all
@@ -193,11 +191,8 @@ module _ (limits : Limits) (sources : List Chosen) (o : Options) (filter : Optio
           base_vm = λ test. prints.between.base_vm test ∙ (rw same at has.vm) test;
         } in
         record {
-          paths = prints.paths;
-          growths = growths;
           tree = growth_tree (row_options o) (depth_of o) prints.paths;
-          order = refl;
-          each = growths-count (filter_test o.filter) (depth_of o) e.0 bs prints.paths growths;
+          order = growth-order o e.0 bs prints.paths growths;
           once = counts_for-unique (filter_test o.filter);
           sums = grows (row_options o) (depth_of o) prints.paths prints.are.deep;
           is = prints.is;

@@ -1,42 +1,55 @@
--- Steps of a run one after the other: a run read what its steps read.
+-- Steps of a run one after the other. The run has read what its steps have read.
 use Rattle.std.proofs.Common.{◌≡◌, ℕ, zero, suc, ◌+◌, ◌-◌, ◌<◌, ◌≤◌, Bool, true, false, cond, nat_lt, List, [], ◌∷◌, ◌++◌, length, take, drop, Option, None, Some, Result, Ok, Err, ◌⊎◌, inl, inr, codes, refl, sym, ap, ◌∙◌, arith}
 use Rattle.std.specs.Prelude.{⊤, IfSome, OnOk, slice_get, min, if◌then◌else◌}
 use Rattle.std.proofs.lemmas.Bool.Decides.{nat_tests}
 use Rattle.std.proofs.lemmas.List.{append-nil, take-append-drop, take_all}
-use Rattle.std.proofs.lemmas.Option.{none-some}
+use Rattle.std.proofs.lemmas.Option.{none-some, same_Some}
 use Rattle.outside.specs.declared.files.Files.{Ghosts as FilesGhosts}
 use Rattle.outside.specs.Causes.{Rose}
-use Rattle.outside.specs.Held.{IsTaken}
+use Rattle.outside.specs.Held.{IsTaken, IsTakenAtLeast}
 use Rattle.custom_rewrites.specs.declared.pattern.Patterns.{Ghosts as PatternsGhosts}
 use Rattle.file_profile.proofs.MapLemmas.{err-same}
-use Rattle.file_profile.specs.declared.asked.PlanAnswer.{PlanAnswer}
-use Rattle.file_profile.specs.declared.asked.PlanAnswer.TheVariants as plan
+use Rattle.file_profile.specs.declared.plan.PlanAnswer.{PlanAnswer}
+use Rattle.file_profile.specs.declared.plan.PlanAnswer.TheVariants as plan
 use Rattle.file_profile.specs.Plans.{KeepsLast}
 use Rattle.run_outcome.specs.declared.outcome.Outcome.{Outcome}
 use Rattle.run_outcome.specs.declared.outcome.Outcome.TheVariants.{Done, Usage, ReadFailed, TooLong, Config, UnknownSource, PatternSyntax, PatternTooBig, Bad, TooManyClaims, MappedTooLarge, NoMatch, PlaceOutside, WriteFailed, NoMemory}
 use Rattle.size_core.specs.declared.limits.Limits.{Limits}
-use Rattle.size_options.specs.declared.chosen.Options.{Options}
-use Rattle.size_options.specs.declared.answer.UsageKind.{UsageKind}
+use Rattle.size_options.specs.declared.run_options.Options.{Options}
+use Rattle.size_options.specs.declared.errors.UsageKind.{UsageKind}
 use Rattle.run_outcome.specs.Names.{file_names, name_at, names_of, other_names}
 use Rattle.bloaty_engine.specs.Devices.{Builds, Plans, Reads, ReadsFirst, ended}
-use Rattle.bloaty_engine.specs.Reading.{Reading, least_taken, made_len, numbered, reading_for, reading_from, unmade_names}
+use Rattle.bloaty_engine.specs.Reading.{Reading, config_most, config_names, config_reading, file_reading, least_taken, made_len, numbered, read_upto, reading_for, reading_from, run_reading, unmade_names}
 use Rattle.bloaty_engine.specs.Steps.{Batch, batch_of, batch_reading}
 use Rattle.bloaty_engine.specs.Verdict.{config_limit, file_limit, total_limit}
 use Rattle.bloaty_engine.specs.Stages.{ends_without, is_failed_read, is_refused_pattern}
-use Rattle.bloaty_engine.proofs.ReadLemmas.{OnOk-any, OnOk-then, base-name, get-front, reads-behind, reads-more, reads-none, reads-whole}
-use Rattle.bloaty_engine.proofs.TakenLemmas.{left-over, rose-later, some-limit, taken-less, taken-more, taken-none, taken-any}
+use Rattle.bloaty_engine.proofs.ReadLemmas.{OnOk-any, OnOk-then, base-name, get-front, reads-as-many, reads-behind, reads-more, reads-none, reads-whole}
+use Rattle.bloaty_engine.proofs.TakenLemmas.{at-least-any, at-least-behind, at-least-less, left-over, most-over, rose-later, some-limit, some-most}
 
--- The files of a reading are files of another, of which so many bytes were taken before.
-pub record IsPart (p q : Reading) (taken : ℕ) : Type 0 where
+-- The files of a reading are files of another reading, after `before` names of the other. At least `taken` and at most
+-- `spent` bytes were read before them.
+pub record IsPart (p q : Reading) (before taken spent : ℕ) : Type 0 where
   pub name_of : (i : ℕ) (name : List ℕ) → p.name_of i ≡ Some name → q.name_of i ≡ Some name
+  pub upto : (i : ℕ) (name : List ℕ) → p.name_of i ≡ Some name → q.upto i ≡ before + p.upto i
   pub least : (i : ℕ) (name : List ℕ) → p.name_of i ≡ Some name → q.least i ≤ taken + p.least i
+  pub most : spent + p.most ≤ q.most
 
-pub same-all : (q : Reading) → IsPart q q 0
-same-all q = record { name_of = λ i name at. at; least = λ i name at. omega arith }
+pub same-all : (q : Reading) → IsPart q q 0 0 0
+same-all q = record { name_of = λ i name at. at; upto = λ i name at. omega arith; least = λ i name at. omega arith; most = omega arith }
 
--- of a run with these options
-pub same-run : (limits : Limits) (o : Options) (names all : List (List ℕ)) → IsPart (reading_for limits o names) (reading_for limits o all) 0
-same-run limits o names all = record { name_of = λ i name at. at; least = λ i name at. omega arith }
+pub part-most : (p q : Reading) → IsPart p q 0 0 0 → p.most ≤ q.most
+part-most p q part = omega (arith, part.most)
+
+-- The same for two readings of a run with these options.
+pub same-run : (limits : Limits) (o : Options) (names all : List (List ℕ)) → IsPart (reading_for limits o names) (reading_for limits o all) 0 0 0
+same-run limits o names all = record { name_of = λ i name at. at; upto = λ i name at. omega arith; least = λ i name at. omega arith; most = omega arith }
+
+-- The configuration in a run, and the files after it.
+pub config-run : (limits : Limits) (o : Options) → IsPart (config_reading limits o) (run_reading limits (Ok o)) 0 0 0
+config-run limits o = record { name_of = λ i name at. at; upto = λ i name at. omega arith; least = λ i name at. omega arith; most = omega arith }
+
+pub files-run : (limits : Limits) (o : Options) (names : List (List ℕ)) → IsPart (reading_for limits o names) (run_reading limits (Ok o)) (length (config_names o.config)) 0 (config_most limits o.config)
+files-run limits o names = record { name_of = λ i name at. at; upto = λ i name at. refl; least = λ i name at. omega arith; most = omega arith }
 
 pub numbered-first : (first k : ℕ) (names : List (List ℕ)) → numbered first names (first + k) ≡ slice_get names k
 numbered-first first k names =
@@ -58,89 +71,125 @@ read-number i j e = cc
 pub long-number : (i j : ℕ) → TooLong i ≡ TooLong j → i ≡ j
 long-number i j e = cc
 
+-- The names that were read, up to a file of a part of a reading.
+part-front : (p q : Reading) (rest : List (List ℕ)) (taken spent : ℕ) → q.names ≡ p.names ++ rest → IsPart p q 0 taken spent
+    → (i : ℕ) (name : List ℕ) → p.name_of i ≡ Some name → (old new : List (List ℕ)) → ReadsFirst (p.upto i) old new p.names → ReadsFirst (q.upto i) old new q.names
+part-front p q rest taken spent names part i name at old new reads =
+    reads-as-many (p.upto i) (q.upto i) old new q.names (part.upto i name at ∙ (omega arith)) (rw names (reads-more (p.upto i) old new p.names rest reads))
+
+part-behind : (front : List (List ℕ)) (p q : Reading) (taken spent : ℕ) → q.names ≡ front ++ p.names → IsPart p q (length front) taken spent
+    → (i : ℕ) (name : List ℕ) → p.name_of i ≡ Some name → (old mid new : List (List ℕ)) → mid ≡ old ++ front → ReadsFirst (p.upto i) mid new p.names → ReadsFirst (q.upto i) old new q.names
+part-behind front p q taken spent names part i name at old mid new are reads =
+    reads-as-many (length front + p.upto i) (q.upto i) old new q.names (part.upto i name at) (rw names (reads-behind old mid front p.names are (p.upto i) new reads))
+
 module _ {F : Type 0} (f : FilesGhosts F) where
   -- a step that reads no file
   pub unread : {X : Type 0} (q : Reading) (r : Result X Outcome) (s : F) → OnOk r (q.names ≡ []) → ((i : ℕ) → r ≡ Err (ReadFailed i) → ⊥)
-      → ((i : ℕ) → r ≡ Err (TooLong i) → (name : List ℕ) × (q.name_of i ≡ Some name) × (q.least i ≡ 0)) → Reads f q r s s
+      → ((i : ℕ) → r ≡ Err (TooLong i) → (name : List ℕ) × (q.name_of i ≡ Some name) × (q.upto i ≡ 0) × (q.least i ≡ 0)) → Reads f q r s s
   unread q r s none unfailed short = record {
     held = refl;
-    asked = reads-none (f.asked s) q.names;
+    asked = (0, reads-none (f.asked s) q.names);
     all = OnOk-then r _ _ (λ e. rw e (sym (append-nil (f.asked s)))) none;
     failed = λ i e. absurd (unfailed i e);
     sound = λ e. refl;
     later = omega arith;
     more = omega arith;
-    long = λ i e. let a = short i e in (a.0, a.1, rw a.2 (taken-none (f.held s) (f.taken s)));
+    long = λ i e.
+        let a = short i e in
+        (a.0, a.1, reads-as-many 0 (q.upto i) (f.asked s) (f.asked s) q.names a.2 (reads-none (f.asked s) q.names), rw a.3 (at-least-any (f.held s) (f.taken s) (f.taken s) (omega arith)));
+    most = omega arith;
   }
 
-  -- the same files as those of another reading
-  pub reads-as : {X : Type 0} (p q : Reading) (r : Result X Outcome) (s t : F) → q.names ≡ p.names → IsPart p q 0 → Reads f p r s t → Reads f q r s t
+  -- The same files as those of another reading.
+  pub reads-as : {X : Type 0} (p q : Reading) (r : Result X Outcome) (s t : F) → q.names ≡ p.names → IsPart p q 0 0 0 → Reads f p r s t → Reads f q r s t
   reads-as p q r s t names part a = record {
     held = a.held;
     asked = rw names a.asked;
     all = rw names a.all;
-    failed = λ i is. let g = a.failed i is in (g.0, part.name_of i g.0 g.1, g.2, g.3);
+    failed = λ i is. let g = a.failed i is in (g.0, part.name_of i g.0 g.1, part-front p q [] 0 0 whole part i g.0 g.1 _ _ g.2, g.3, g.4);
     sound = a.sound;
     later = a.later;
     more = a.more;
-    long = λ i is. let g = a.long i is in (g.0, part.name_of i g.0 g.1, taken-less (f.held s) (q.least i) (p.least i) (f.taken s) (f.taken t) (omega (arith, part.least i g.0 g.1)) g.2);
+    long = λ i is.
+        let g = a.long i is in
+        (g.0, part.name_of i g.0 g.1, part-front p q [] 0 0 whole part i g.0 g.1 _ _ g.2, at-least-less (f.held s) (q.least i) (p.least i) (f.taken s) (f.taken t) (omega (arith, part.least i g.0 g.1)) g.3);
+    most = omega (arith, a.most, part.most);
   }
+    where
+      whole : q.names ≡ p.names ++ []
+      whole = names ∙ sym (append-nil p.names)
 
-  -- a step that ends the run
-  pub stops : {X Y : Type 0} (p q : Reading) (rest : List (List ℕ)) (e : Outcome) (s t : F) → q.names ≡ p.names ++ rest → IsPart p q 0
+  -- A step that ends the run.
+  pub stops : {X Y : Type 0} (p q : Reading) (rest : List (List ℕ)) (e : Outcome) (s t : F) → q.names ≡ p.names ++ rest → IsPart p q 0 0 0
       → Reads {X = X} f p (Err e) s t → Reads {X = Y} f q (Err e) s t
   stops p q rest e s t names part a = record {
     held = a.held;
-    asked = rw names (reads-more (f.asked s) (f.asked t) p.names rest a.asked);
+    asked = (a.asked.0, rw names (reads-more a.asked.0 (f.asked s) (f.asked t) p.names rest a.asked.1));
     all = tt;
-    failed = λ i is. let g = a.failed i (ap Err (err-same _ _ is)) in (g.0, part.name_of i g.0 g.1, g.2, g.3);
+    failed = λ i is. let g = a.failed i (ap Err (err-same _ _ is)) in (g.0, part.name_of i g.0 g.1, part-front p q rest 0 0 names part i g.0 g.1 _ _ g.2, g.3, g.4);
     sound = a.sound;
     later = a.later;
     more = a.more;
-    long = λ i is. let g = a.long i (ap Err (err-same _ _ is)) in (g.0, part.name_of i g.0 g.1, taken-less (f.held s) (q.least i) (p.least i) (f.taken s) (f.taken t) (omega (arith, part.least i g.0 g.1)) g.2);
+    long = λ i is.
+        let g = a.long i (ap Err (err-same _ _ is)) in
+        (g.0, part.name_of i g.0 g.1, part-front p q rest 0 0 names part i g.0 g.1 _ _ g.2, at-least-less (f.held s) (q.least i) (p.least i) (f.taken s) (f.taken t) (omega (arith, part.least i g.0 g.1)) g.3);
+    most = omega (arith, a.most, part.most);
   }
 
-  -- a step after one that went well
-  pub follows : {X Y : Type 0} (p1 p2 q : Reading) (x : X) (r : Result Y Outcome) (taken : ℕ) (s t u : F) → q.names ≡ p1.names ++ p2.names → IsPart p2 q taken
-      → Reads f p1 (Ok x) s t → IsTaken (f.held s) taken (f.taken s) (f.taken t) → Reads f p2 r t u → Reads f q r s u
-  follows p1 p2 q x r taken s t u names part a had b = record {
+  -- A step after one that succeeded and read at least `taken` and at most `spent` bytes.
+  continues : {X Y : Type 0} (p1 p2 q : Reading) (x : X) (r : Result Y Outcome) (taken spent : ℕ) (s t u : F) → q.names ≡ p1.names ++ p2.names → IsPart p2 q (length p1.names) taken spent
+      → Reads f p1 (Ok x) s t → IsTakenAtLeast (f.held s) taken (f.taken s) (f.taken t) → f.taken t ≤ f.taken s + spent → Reads f p2 r t u → Reads f q r s u
+  continues p1 p2 q x r taken spent s t u names part a had within b = record {
     held = b.held ∙ a.held;
-    asked = rw names (reads-behind (f.asked s) (f.asked t) p1.names p2.names a.all (f.asked u) b.asked);
+    asked = (length p1.names + b.asked.0, rw names (reads-behind (f.asked s) (f.asked t) p1.names p2.names a.all b.asked.0 (f.asked u) b.asked.1));
     all = rw names (OnOk-then r _ _ (reads-whole (f.asked s) (f.asked t) p1.names p2.names a.all (f.asked u)) b.all);
-    failed = λ i e. let g = b.failed i e in (g.0, part.name_of i g.0 g.1, rose-later 1 _ _ _ a.later g.2, g.3);
+    failed = λ i e.
+        let g = b.failed i e in
+        (g.0, part.name_of i g.0 g.1, part-behind p1.names p2 q taken spent names part i g.0 g.1 _ _ _ a.all g.2, rose-later 1 _ _ _ a.later g.3, g.4);
     sound = λ e. b.sound e ∙ a.sound refl;
     later = omega (arith, a.later, b.later);
     more = omega (arith, a.more, b.more);
     long = λ i e.
         let g = b.long i e in
-        let more = rw a.held at g.2 in
-        (g.0, part.name_of i g.0 g.1, taken-less (f.held s) (q.least i) (taken + p2.least i) (f.taken s) (f.taken u) (part.least i g.0 g.1) (taken-more (f.held s) taken (p2.least i) (f.taken s) (f.taken t) (f.taken u) had more));
+        let more = rw a.held at g.3 in (
+          g.0,
+          part.name_of i g.0 g.1,
+          part-behind p1.names p2 q taken spent names part i g.0 g.1 _ _ _ a.all g.2,
+          at-least-behind (f.held s) (q.least i) taken (p2.least i) (f.taken s) (f.taken t) (f.taken u) (part.least i g.0 g.1) had more,
+        );
+    most = omega (arith, within, b.most, part.most);
   }
 
-  -- of which nothing need be known
-  pub goes-on : {X Y : Type 0} (p1 p2 q : Reading) (x : X) (r : Result Y Outcome) (s t u : F) → q.names ≡ p1.names ++ p2.names → IsPart p2 q 0
-      → Reads f p1 (Ok x) s t → Reads f p2 r t u → Reads f q r s u
-  goes-on p1 p2 q x r s t u names part a b = follows p1 p2 q x r 0 s t u names part a (taken-any (f.held s) (f.taken s) (f.taken t) a.more) b
+  -- A step after one that succeeded and read this many bytes.
+  pub follows : {X Y : Type 0} (p1 p2 q : Reading) (x : X) (r : Result Y Outcome) (taken : ℕ) (s t u : F) → q.names ≡ p1.names ++ p2.names → IsPart p2 q (length p1.names) taken taken
+      → Reads f p1 (Ok x) s t → IsTaken (f.held s) taken (f.taken s) (f.taken t) → Reads f p2 r t u → Reads f q r s u
+  follows p1 p2 q x r taken s t u names part a had b = continues p1 p2 q x r taken taken s t u names part a had.least had.most b
 
-  -- after a step that went well, a step that reads nothing
-  pub then-unread : {X Y : Type 0} (p q : Reading) (rest : List (List ℕ)) (x : X) (r : Result Y Outcome) (s t : F) → q.names ≡ p.names ++ rest → OnOk r (rest ≡ [])
+  -- The same if it isn't known how many bytes the first step read.
+  pub goes-on : {X Y : Type 0} (p1 p2 q : Reading) (x : X) (r : Result Y Outcome) (s t u : F) → q.names ≡ p1.names ++ p2.names → IsPart p2 q (length p1.names) 0 p1.most
+      → Reads f p1 (Ok x) s t → Reads f p2 r t u → Reads f q r s u
+  goes-on p1 p2 q x r s t u names part a b = continues p1 p2 q x r 0 p1.most s t u names part a (at-least-any (f.held s) (f.taken s) (f.taken t) a.more) a.most b
+
+  -- A step that reads nothing, after one that succeeded.
+  pub then-unread : {X Y : Type 0} (p q : Reading) (rest : List (List ℕ)) (x : X) (r : Result Y Outcome) (s t : F) → q.names ≡ p.names ++ rest → p.most ≤ q.most → OnOk r (rest ≡ [])
       → ((i : ℕ) → r ≡ Err (ReadFailed i) → ⊥) → ((i : ℕ) → r ≡ Err (TooLong i) → ⊥) → Reads f p (Ok x) s t → Reads f q r s t
-  then-unread p q rest x r s t names none unfailed short a = record {
+  then-unread p q rest x r s t names most none unfailed short a = record {
     held = a.held;
-    asked = rw names (reads-more (f.asked s) (f.asked t) p.names rest a.asked);
+    asked = (a.asked.0, rw names (reads-more a.asked.0 (f.asked s) (f.asked t) p.names rest a.asked.1));
     all = rw names (OnOk-then r _ _ (λ e. rw e (a.all ∙ ap (λ ns. f.asked s ++ ns) (sym (append-nil p.names)))) none);
     failed = λ i e. absurd (unfailed i e);
     sound = λ e. a.sound refl;
     later = a.later;
     more = a.more;
     long = λ i e. absurd (short i e);
+    most = omega (arith, a.most, most);
   }
 
-  -- with another value
+  -- The same with another value.
   pub same-ok : {X Y : Type 0} (q : Reading) (x : X) (y : Y) (s t : F) → Reads f q (Ok x) s t → Reads f q (Ok y) s t
-  same-ok q x y s t a = then-unread q q [] x (Ok y) s t (sym (append-nil q.names)) refl (λ i e. cc) (λ i e. cc) a
+  same-ok q x y s t a = then-unread q q [] x (Ok y) s t (sym (append-nil q.names)) (omega arith) refl (λ i e. cc) (λ i e. cc) a
 
-  -- the usual ones: nothing was read, or the step ran out of memory
+  -- The usual cases: nothing was read, or the step ran out of memory.
   pub unread-ok : {X : Type 0} (q : Reading) (x : X) (s : F) → q.names ≡ [] → Reads f q (Ok x) s s
   unread-ok q x s none = unread q (Ok x) s none (λ i e. cc) (λ i e. absurd cc)
 
@@ -150,27 +199,29 @@ module _ {F : Type 0} (f : FilesGhosts F) where
   pub unread-usage : {X : Type 0} (q : Reading) (kind : UsageKind) (s : F) → Reads {X = X} f q (Err (Usage kind)) s s
   unread-usage q kind s = unread q (Err (Usage kind)) s tt (λ i e. cc) (λ i e. absurd cc)
 
-  pub then-ok : {X Y : Type 0} (p q : Reading) (rest : List (List ℕ)) (x : X) (y : Y) (s t : F) → q.names ≡ p.names ++ rest → rest ≡ [] → Reads f p (Ok x) s t → Reads f q (Ok y) s t
-  then-ok p q rest x y s t names none a = then-unread p q rest x (Ok y) s t names none (λ i e. cc) (λ i e. cc) a
+  pub then-ok : {X Y : Type 0} (p q : Reading) (rest : List (List ℕ)) (x : X) (y : Y) (s t : F) → q.names ≡ p.names ++ rest → p.most ≤ q.most → rest ≡ [] → Reads f p (Ok x) s t → Reads f q (Ok y) s t
+  then-ok p q rest x y s t names most none a = then-unread p q rest x (Ok y) s t names most none (λ i e. cc) (λ i e. cc) a
 
-  pub then-no-memory : {X Y : Type 0} (p q : Reading) (rest : List (List ℕ)) (x : X) (s t : F) → q.names ≡ p.names ++ rest → Reads f p (Ok x) s t → Reads {X = Y} f q (Err NoMemory) s t
-  then-no-memory p q rest x s t names a = then-unread p q rest x (Err NoMemory) s t names tt (λ i e. cc) (λ i e. cc) a
+  pub then-no-memory : {X Y : Type 0} (p q : Reading) (rest : List (List ℕ)) (x : X) (s t : F) → q.names ≡ p.names ++ rest → p.most ≤ q.most → Reads f p (Ok x) s t → Reads {X = Y} f q (Err NoMemory) s t
+  then-no-memory p q rest x s t names most a = then-unread p q rest x (Err NoMemory) s t names most tt (λ i e. cc) (λ i e. cc) a
 
   -- one read
-  pub one-read : {X : Type 0} (number : ℕ) (name : List ℕ) (least : ℕ) (r : Result X Outcome) (s t : F) → f.asked t ≡ f.asked s ++ name ∷ [] → f.held t ≡ f.held s → f.faults s ≤ f.faults t → f.taken s ≤ f.taken t
+  pub one-read : {X : Type 0} (number : ℕ) (name : List ℕ) (limit : ℕ) (r : Result X Outcome) (s t : F) → f.asked t ≡ f.asked s ++ name ∷ [] → f.held t ≡ f.held s → f.faults s ≤ f.faults t → f.taken s ≤ f.taken t
+      → f.taken t ≤ f.taken s + (limit + 1)
       → ((i : ℕ) → r ≡ Err (ReadFailed i) → (i ≡ number) × Rose (f.faults s) (f.faults t) × IfSome (f.last_failed t) (λ n. n ≡ name))
       → (ends_without is_failed_read r ≡ true → f.faults t ≡ f.faults s)
-      → ((i : ℕ) → r ≡ Err (TooLong i) → (i ≡ number) × IsTaken (f.held s) least (f.taken s) (f.taken t))
-      → Reads f (reading_from number (name ∷ []) least) r s t
-  one-read number name least r s t asked held later more failed sound long = record {
+      → ((i : ℕ) → r ≡ Err (TooLong i) → (i ≡ number) × IsTakenAtLeast (f.held s) (limit + 1) (f.taken s) (f.taken t))
+      → Reads f (file_reading number name limit) r s t
+  one-read number name limit r s t asked held later more most failed sound long = record {
     held = held;
-    asked = record { count = 1; are = asked };
+    asked = (1, one);
     all = OnOk-any r _ asked;
-    failed = λ i e. let g = failed i e in (name, rw g.0 here, g.1, g.2);
+    failed = λ i e. let g = failed i e in (name, rw g.0 here, rw g.0 upto, g.1, g.2);
     sound = sound;
     later = later;
     more = more;
-    long = λ i e. let g = long i e in (name, rw g.0 here, g.1);
+    long = λ i e. let g = long i e in (name, rw g.0 here, rw g.0 upto, g.1);
+    most = most;
   }
     where
       here : numbered number (name ∷ []) number ≡ Some name
@@ -178,36 +229,58 @@ module _ {F : Type 0} (f : FilesGhosts F) where
           let p : number ≡ number + 0 = omega arith in
           ap (numbered number (name ∷ [])) p ∙ numbered-first number 0 (name ∷ [])
 
+      one : ReadsFirst 1 (f.asked s) (f.asked t) (name ∷ [])
+      one = record { within = omega arith; are = asked }
+
+      upto : ReadsFirst (number + 1 - number) (f.asked s) (f.asked t) (name ∷ [])
+      upto = reads-as-many 1 (number + 1 - number) (f.asked s) (f.asked t) (name ∷ []) (omega arith) one
+
   -- a run that ended before it was done
   pub run-ended : {X : Type 0} (q : Reading) (e : Outcome) (s t : F) → ended e ≡ Err e → Reads {X = X} f q (Err e) s t → Reads f q (ended e) s t
-  run-ended q e s t is a = rw is (stops q q [] e s t (sym (append-nil q.names)) (record { name_of = λ i name at. at; least = λ i name at. omega arith }) a)
+  run-ended q e s t is a = rw is (stops q q [] e s t (sym (append-nil q.names)) (same-all q) a)
 
 -- a run that wrote its report, or a part of it
 pub written-reads : {F X : Type 0} (f : FilesGhosts F) (q : Reading) (x : X) (outcome : Outcome) (s t : F) → (outcome ≡ Done) ⊎ (outcome ≡ WriteFailed) → Reads f q (Ok x) s t → Reads f q (ended outcome) s t
 written-reads f q x outcome s t (inl is) a = rw is (same-ok f q x tt s t a)
-written-reads f q x outcome s t (inr is) a = rw is (then-unread f {Y = ⊤} q q [] x (Err WriteFailed) s t (sym (append-nil q.names)) tt (λ i e. cc) (λ i e. cc) a)
+written-reads f q x outcome s t (inr is) a = rw is (then-unread f {Y = ⊤} q q [] x (Err WriteFailed) s t (sym (append-nil q.names)) (omega arith) tt (λ i e. cc) (λ i e. cc) a)
 
 -- Parts of a batch, and of a run with options.
 
--- a file of a batch, of which so many bytes were read before
-pub batch-part : (limits : Limits) (b : Batch) (k lengths limit taken : ℕ) (name : List ℕ) (names : List (List ℕ)) → slice_get b.names k ≡ Some name → lengths ≡ b.before + taken → lengths ≤ total_limit limits
-    → limit ≡ min (file_limit limits) (total_limit limits - lengths)
-    → IsPart (reading_from (b.first + k) (name ∷ []) (limit + 1)) (record { names = names; name_of = numbered b.first b.names; least = λ i. min (file_limit limits) (total_limit limits - b.before) + 1 }) taken
-batch-part limits b k lengths limit taken name names at are within is =
-    record { name_of = λ i n here. named i n (numbered-at (b.first + k) i (name ∷ []) n here); least = λ i n here. some-limit (file_limit limits) (total_limit limits) b.before taken lengths limit are within is }
+-- The only file of a reading.
+single-at : (first i : ℕ) (name n : List ℕ) → numbered first (name ∷ []) i ≡ Some n → (i ≡ first) × (name ≡ n)
+single-at first i name n at = by-index (numbered-at first i (name ∷ []) n at)
   where
-    named : (i : ℕ) (n : List ℕ) → (j : ℕ) × (i ≡ b.first + k + j) × (slice_get (name ∷ []) j ≡ Some n) → numbered b.first b.names i ≡ Some n
-    named i n (zero, number, same) =
-        let p : i ≡ b.first + k = omega (arith, number) in
-        rw p (numbered-first b.first k b.names ∙ (at ∙ same))
-    named i n (suc j, number, same) = absurd (none-some n same)
+    by-index : (j : ℕ) × (i ≡ first + j) × (slice_get (name ∷ []) j ≡ Some n) → (i ≡ first) × (name ≡ n)
+    by-index (zero, number, same) = (omega (arith, number), same_Some name n same)
+    by-index (suc j, number, same) = absurd (none-some n same)
 
--- so many first files of a batch
+-- A file of a batch, if this many bytes were read before it.
+pub batch-part : (limits : Limits) (b : Batch) (k before lengths limit taken : ℕ) (name : List ℕ) (names : List (List ℕ)) → before ≡ k → slice_get b.names k ≡ Some name → lengths ≡ b.before + taken → lengths ≤ total_limit limits
+    → limit ≡ min (file_limit limits) (total_limit limits - lengths)
+    → IsPart (file_reading (b.first + k) name limit)
+    (record { names = names; name_of = numbered b.first b.names; upto = λ i. i + 1 - b.first; least = λ i. min (file_limit limits) (total_limit limits - b.before) + 1; most = total_limit limits - b.before + 1 }) before taken taken
+batch-part limits b k before lengths limit taken name names count at are within is = record {
+  name_of = λ i n here. named i n (single-at (b.first + k) i name n here);
+  upto = λ i n here. let number = (single-at (b.first + k) i name n here).0 in omega (arith, number, count);
+  least = λ i n here. some-limit (file_limit limits) (total_limit limits) b.before taken lengths limit are within is;
+  most = some-most (file_limit limits) (total_limit limits) b.before taken lengths limit are within is;
+}
+  where
+    named : (i : ℕ) (n : List ℕ) → (i ≡ b.first + k) × (name ≡ n) → numbered b.first b.names i ≡ Some n
+    named i n one = rw one.0 (numbered-first b.first k b.names ∙ (at ∙ ap Some one.1))
+
+-- The first k files of a batch.
 abbrev pub front : Limits → Batch → ℕ → Reading
-front limits b k = record { names = take k b.names; name_of = numbered b.first b.names; least = λ i. min (file_limit limits) (total_limit limits - b.before) + 1 }
+front limits b k = record {
+  names = take k b.names;
+  name_of = numbered b.first b.names;
+  upto = λ i. i + 1 - b.first;
+  least = λ i. min (file_limit limits) (total_limit limits - b.before) + 1;
+  most = total_limit limits - b.before + 1;
+}
 
-pub same-batch : (limits : Limits) (b : Batch) (k : ℕ) → IsPart (front limits b k) (batch_reading limits b) 0
-same-batch limits b k = record { name_of = λ i name at. at; least = λ i name at. omega arith }
+pub same-batch : (limits : Limits) (b : Batch) (k : ℕ) → IsPart (front limits b k) (batch_reading limits b) 0 0 0
+same-batch limits b k = record { name_of = λ i name at. at; upto = λ i name at. omega arith; least = λ i name at. omega arith; most = omega arith }
 
 pub front-all : (names : List (List ℕ)) (k : ℕ) → length names ≤ k → names ≡ take k names ++ []
 front-all names k le = sym (append-nil (take k names) ∙ take_all k names le)
@@ -217,16 +290,16 @@ front-rest names k = sym (take-append-drop k names)
 
 -- the first file of a run
 pub first-part : (limits : Limits) (name : List ℕ) (names rest : List (List ℕ)) (limit : ℕ) → limit ≡ min (file_limit limits) (total_limit limits)
-    → IsPart (reading_from 1 (name ∷ []) (limit + 1)) (batch_reading limits (batch_of 0 0 (name ∷ rest))) 0
+    → IsPart (file_reading 1 name limit) (batch_reading limits (batch_of 0 0 (name ∷ rest))) 0 0 0
 first-part limits name names rest limit is =
     let left : limit ≡ min (file_limit limits) (total_limit limits - 0) = omega (arith, is) in
-    let part = batch-part limits (batch_of 0 0 (name ∷ rest)) 0 0 limit 0 name (name ∷ rest) refl (omega arith) (omega arith) left in
-    record { name_of = part.name_of; least = part.least }
+    let part = batch-part limits (batch_of 0 0 (name ∷ rest)) 0 0 0 limit 0 name (name ∷ rest) refl refl (omega arith) (omega arith) left in
+    record { name_of = part.name_of; upto = part.upto; least = part.least; most = part.most }
 
 -- the files of a batch in a longer one
 pub front-part : (limits : Limits) (first before : ℕ) (names rest : List (List ℕ))
-    → IsPart (batch_reading limits (record { first = first; before = before; names = names })) (batch_reading limits (record { first = first; before = before; names = names ++ rest })) 0
-front-part limits first before names rest = record { name_of = λ i n at. named i n (numbered-at first i names n at); least = λ i n at. omega arith }
+    → IsPart (batch_reading limits (record { first = first; before = before; names = names })) (batch_reading limits (record { first = first; before = before; names = names ++ rest })) 0 0 0
+front-part limits first before names rest = record { name_of = λ i n at. named i n (numbered-at first i names n at); upto = λ i n at. omega arith; least = λ i n at. omega arith; most = omega arith }
   where
     named : (i : ℕ) (n : List ℕ) → (k : ℕ) × (i ≡ first + k) × (slice_get names k ≡ Some n) → numbered first (names ++ rest) i ≡ Some n
     named i n a = rw a.1 (numbered-first first a.0 (names ++ rest) ∙ get-front names rest a.0 n a.2)
@@ -235,38 +308,45 @@ least-file : (limits : Limits) (i : ℕ) → 0 < i → least_taken limits None i
 least-file limits zero lt = absurd (omega arith)
 least-file limits (suc i) lt = refl
 
--- files that the options name, where no file is made
+-- Files that the options name, if no file is synthetic.
 pub files-part : (limits : Limits) (o : Options) (names all : List (List ℕ)) → o.synth ≡ None → ((k : ℕ) (n : List ℕ) → slice_get names k ≡ Some n → name_at o (k + 1) ≡ Some n)
-    → IsPart (batch_reading limits (batch_of 0 0 names)) (reading_for limits o all) 0
+    → IsPart (batch_reading limits (batch_of 0 0 names)) (reading_for limits o all) 0 0 0
 files-part limits o names all none named = record {
   name_of = λ i n at. let a = numbered-at 1 i names n at in let p : i ≡ a.0 + 1 = omega (arith, a.1) in rw p (named a.0 n a.2);
+  upto = λ i n at. omega (arith, ap (λ s. read_upto s i) none);
   least = λ i n at.
       let a = numbered-at 1 i names n at in
       let lt : 0 < i = omega (arith, a.1) in
       let same : least_taken limits o.synth i ≡ min (file_limit limits) (total_limit limits - 0) + 1 = ap (λ s. least_taken limits s i) none ∙ least-file limits i lt in
       omega (arith, same);
+  most = omega (arith, ap made_len none);
 }
 
 -- the configuration
-pub config-part : (limits : Limits) (o : Options) (name : List ℕ) (limit : ℕ) (all : List (List ℕ)) → o.config ≡ Some name → limit ≡ config_limit limits → IsPart (reading_from 0 (name ∷ []) (limit + 1)) (reading_for limits o all) 0
-config-part limits o name limit all is most = record { name_of = λ i n at. named i n (numbered-at 0 i (name ∷ []) n at); least = λ i n at. least i n (numbered-at 0 i (name ∷ []) n at) }
-  where
-    named : (i : ℕ) (n : List ℕ) → (k : ℕ) × (i ≡ 0 + k) × (slice_get (name ∷ []) k ≡ Some n) → name_at o i ≡ Some n
-    named i n (zero, number, same) = let p : i ≡ 0 = omega (arith, number) in rw p (is ∙ same)
-    named i n (suc k, number, same) = absurd (none-some n same)
+no-upto : (synth : Option ℕ) → read_upto synth 0 ≡ 0
+no-upto None = refl
+no-upto (Some n) = refl
 
-    least : (i : ℕ) (n : List ℕ) → (k : ℕ) × (i ≡ 0 + k) × (slice_get (name ∷ []) k ≡ Some n) → least_taken limits o.synth i ≤ 0 + (limit + 1)
-    least i n (zero, number, same) = let p : i ≡ 0 = omega (arith, number) in rw p (omega (arith, most))
-    least i n (suc k, number, same) = absurd (none-some n same)
+pub config-part : (limits : Limits) (o : Options) (name : List ℕ) (limit : ℕ) → o.config ≡ Some name → limit ≡ config_limit limits → IsPart (file_reading 0 name limit) (config_reading limits o) 0 0 0
+config-part limits o name limit is within = record {
+  name_of = λ i n at. let one = single-at 0 i name n at in rw one.0 (is ∙ ap Some one.1);
+  upto = λ i n at.
+      let one = single-at 0 i name n at in
+      rw one.0 (omega (arith, ap (λ c. length (config_names c)) is, no-upto o.synth));
+  least = λ i n at. let one = single-at 0 i name n at in rw one.0 (omega (arith, within));
+  most = omega (arith, within, ap (config_most limits) is);
+}
 
--- A synthetic file isn't read, and it is file 1.
+-- A synthetic file isn't read. It is file 1.
 pub made-unread : {F X : Type 0} (f : FilesGhosts F) (limits : Limits) (o : Options) (n : ℕ) → o.synth ≡ Some n → (r : Result X Outcome) (s : F)
     → ((i : ℕ) → r ≡ Err (ReadFailed i) → ⊥) → ((i : ℕ) → r ≡ Err (TooLong i) → i ≡ 1) → Reads f (reading_for limits o (unmade_names o.synth o.files)) r s s
 made-unread f limits o n is r s unread_all long =
     unread f (reading_for limits o (unmade_names o.synth o.files)) r s (OnOk-any r _ (ap (λ t. unmade_names t o.files) is)) unread_all
-    (λ i e. let number = long i e in (codes "synth", rw number (ap (λ t. slice_get (names_of t o.files ++ other_names o) 0) is), rw number (ap (λ t. least_taken limits t 1) is)))
+    (λ i e.
+    let number = long i e in
+    (codes "synth", rw number (ap (λ t. slice_get (names_of t o.files ++ other_names o) 0) is), rw number (ap (λ t. read_upto t 1) is), rw number (ap (λ t. least_taken limits t 1) is)))
 
--- base files, after files of so many bytes
+-- Base files, after files with this many bytes.
 base-least : (limits : Limits) (synth : Option ℕ) (files : List (List ℕ)) (lengths i : ℕ) → length (names_of synth files) < i → made_len synth ≤ lengths → lengths ≤ total_limit limits
     → least_taken limits synth i ≤ (lengths - made_len synth) + (min (file_limit limits) (total_limit limits - lengths) + 1)
 base-least limits None files lengths i lt made within = rw (least-file limits i (omega (arith, lt))) (left-over (file_limit limits) (total_limit limits) 0 lengths made within)
@@ -274,16 +354,24 @@ base-least limits (Some n) files lengths zero lt made within = absurd (omega ari
 base-least limits (Some n) files lengths (suc zero) lt made within = absurd (omega arith)
 base-least limits (Some n) files lengths (suc (suc i)) lt made within = left-over (file_limit limits) (total_limit limits) (made_len (Some n)) lengths made within
 
+base-upto : (synth : Option ℕ) (files : List (List ℕ)) (i : ℕ) → length (names_of synth files) < i → read_upto synth i ≡ length (unmade_names synth files) + (i + 1 - (length (names_of synth files) + 1))
+base-upto None files i lt = omega (arith, lt)
+base-upto (Some n) files i lt = omega (arith, lt)
+
 pub base-part : (limits : Limits) (o : Options) (lengths : ℕ) (all : List (List ℕ)) → o.debug ≡ None → made_len o.synth ≤ lengths → lengths ≤ total_limit limits
-    → IsPart (batch_reading limits (batch_of (length (file_names o)) lengths o.bases)) (reading_for limits o all) (lengths - made_len o.synth)
+    → IsPart (batch_reading limits (batch_of (length (file_names o)) lengths o.bases)) (reading_for limits o all) (length (unmade_names o.synth o.files)) (lengths - made_len o.synth) (lengths - made_len o.synth)
 base-part limits o lengths all none made within = record {
   name_of = λ i n at.
       let a = numbered-at (length (file_names o) + 1) i o.bases n at in
       let p : i ≡ length (file_names o) + a.0 + 1 = omega (arith, a.1) in
       rw p (base-name o a.0 n none a.2);
+  upto = λ i n at.
+      let a = numbered-at (length (file_names o) + 1) i o.bases n at in
+      base-upto o.synth o.files i (omega (arith, a.1));
   least = λ i n at.
       let a = numbered-at (length (file_names o) + 1) i o.bases n at in
       base-least limits o.synth o.files lengths i (omega (arith, a.1)) made within;
+  most = most-over (total_limit limits) (made_len o.synth) lengths made within;
 }
 
 -- the outcome of a run that isn't done
@@ -307,7 +395,7 @@ not-done NoMemory is = refl
 -- Patterns.
 
 module _ {P : Type 0} (p : PatternsGhosts P) where
-  -- a step that builds none
+  -- A step that compiles none.
   pub unbuilt : {X : Type 0} (r : Result X Outcome) (s : P) → ((i : ℕ) → r ≡ Err (PatternTooBig i) → ⊥) → Builds p r s s
   unbuilt r s none = record { refused = λ i e. absurd (none i e); sound = λ e. refl }
 
@@ -315,7 +403,7 @@ module _ {P : Type 0} (p : PatternsGhosts P) where
   pub build-stops : {X Y : Type 0} (e : Outcome) (s t : P) → Builds {X = X} p (Err e) s t → Builds {X = Y} p (Err e) s t
   build-stops e s t a = record { refused = λ i is. a.refused i (ap Err (err-same _ _ is)); sound = a.sound }
 
-  -- a step that builds none, after one that went well
+  -- A step that compiles none, after one that succeeded.
   pub built : {X Y : Type 0} (x : X) (r : Result Y Outcome) (s t : P) → ((i : ℕ) → r ≡ Err (PatternTooBig i) → ⊥) → Builds p (Ok x) s t → Builds p r s t
   built x r s t none a = record { refused = λ i e. absurd (none i e); sound = λ e. a.sound refl }
 

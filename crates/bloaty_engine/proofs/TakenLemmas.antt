@@ -1,8 +1,8 @@
--- How many bytes are taken before a file is too long.
+-- How many bytes are read before a file is found too long.
 use Rattle.std.proofs.Common.{◌≡◌, ℕ, zero, suc, ◌+◌, ◌-◌, ◌<◌, ◌≤◌, List, min, Option, None, Some, arith}
 use Rattle.size_core.specs.declared.limits.Limits.{Limits}
 use Rattle.outside.specs.Causes.{RoseBy}
-use Rattle.outside.specs.Held.{Pairs, IsLonger, IsTaken}
+use Rattle.outside.specs.Held.{Pairs, IsLonger, IsTaken, IsTakenAtLeast}
 use Rattle.file_profile.specs.declared.answer.ProfileAnswer.{ProfileAnswer}
 use Rattle.file_profile.specs.declared.answer.ProfileAnswer.TheVariants as profile
 use Rattle.run_outcome.specs.declared.outcome.Outcome.TheVariants.{TooLong}
@@ -17,37 +17,41 @@ rose-more m n before between now a b = grind arith
 rose-less : (m n before now : ℕ) → m ≤ n → RoseBy n before now → RoseBy m before now
 rose-less m n before now le rose = grind arith
 
--- a count that rose later rose
+-- A count that rose since a later time rose since an earlier one.
 pub rose-later : (n before between now : ℕ) → before ≤ between → RoseBy n between now → RoseBy n before now
 rose-later n before between now le rose = grind arith
 
 pub taken-none : (held : Option Pairs) (before : ℕ) → IsTaken held 0 before before
-taken-none None before = rose-none before
-taken-none (Some pairs) before = tt
+taken-none None before = record { least = rose-none before; most = omega arith }
+taken-none (Some pairs) before = record { least = tt; most = omega arith }
+
+at-least-more : (held : Option Pairs) (m n before between now : ℕ) → IsTakenAtLeast held m before between → IsTakenAtLeast held n between now → IsTakenAtLeast held (m + n) before now
+at-least-more None m n before between now a b = rose-more m n before between now a b
+at-least-more (Some pairs) m n before between now a b = tt
 
 pub taken-more : (held : Option Pairs) (m n before between now : ℕ) → IsTaken held m before between → IsTaken held n between now → IsTaken held (m + n) before now
-taken-more None m n before between now a b = rose-more m n before between now a b
-taken-more (Some pairs) m n before between now a b = tt
+taken-more held m n before between now a b = record { least = at-least-more held m n before between now a.least b.least; most = omega (arith, a.most, b.most) }
 
-pub taken-less : (held : Option Pairs) (m n before now : ℕ) → m ≤ n → IsTaken held n before now → IsTaken held m before now
-taken-less None m n before now le a = rose-less m n before now le a
-taken-less (Some pairs) m n before now le a = tt
+-- A file was found too long after others were read.
+pub at-least-behind : (held : Option Pairs) (all m n before between now : ℕ) → all ≤ m + n → IsTakenAtLeast held m before between → IsTakenAtLeast held n between now → IsTakenAtLeast held all before now
+at-least-behind None all m n before between now le a b = rose-less all (m + n) before now le (rose-more m n before between now a b)
+at-least-behind (Some pairs) all m n before between now le a b = tt
 
-pub taken-later : (held : Option Pairs) (n before between now : ℕ) → before ≤ between → IsTaken held n between now → IsTaken held n before now
-taken-later None n before between now le a = rose-later n before between now le a
-taken-later (Some pairs) n before between now le a = tt
+pub at-least-less : (held : Option Pairs) (m n before now : ℕ) → m ≤ n → IsTakenAtLeast held n before now → IsTakenAtLeast held m before now
+at-least-less None m n before now le a = rose-less m n before now le a
+at-least-less (Some pairs) m n before now le a = tt
 
--- nothing need be taken
-pub taken-any : (held : Option Pairs) (before now : ℕ) → before ≤ now → IsTaken held 0 before now
-taken-any None before now le = rose-less-none before now le
+-- At least 0 bytes were read, which always holds.
+pub at-least-any : (held : Option Pairs) (before now : ℕ) → before ≤ now → IsTakenAtLeast held 0 before now
+at-least-any None before now le = rose-less-none before now le
   where
     rose-less-none : (before now : ℕ) → before ≤ now → RoseBy 0 before now
     rose-less-none before now le = grind arith
-taken-any (Some pairs) before now le = tt
+at-least-any (Some pairs) before now le = tt
 
-pub taken-longer : (held : Option Pairs) (name : List ℕ) (limit before now : ℕ) → IsLonger held name limit before now → IsTaken held (limit + 1) before now
-taken-longer None name limit before now longer = longer
-taken-longer (Some pairs) name limit before now longer = tt
+pub at-least-longer : (held : Option Pairs) (name : List ℕ) (limit before now : ℕ) → IsLonger held name limit before now → IsTakenAtLeast held (limit + 1) before now
+at-least-longer None name limit before now longer = longer
+at-least-longer (Some pairs) name limit before now longer = tt
 
 pub left-over : (file total made lengths : ℕ) → made ≤ lengths → lengths ≤ total → min file (total - made) + 1 ≤ (lengths - made) + (min file (total - lengths) + 1)
 left-over file total made lengths le within = grind arith
@@ -55,7 +59,14 @@ left-over file total made lengths le within = grind arith
 pub some-limit : (file total before taken lengths limit : ℕ) → lengths ≡ before + taken → lengths ≤ total → limit ≡ min file (total - lengths) → min file (total - before) + 1 ≤ taken + (limit + 1)
 some-limit file total before taken lengths limit are within is = grind arith
 
--- a file that was read whole isn't too long
+-- What is left for the files after some files.
+pub some-most : (file total before taken lengths limit : ℕ) → lengths ≡ before + taken → lengths ≤ total → limit ≡ min file (total - lengths) → taken + (limit + 1) ≤ total - before + 1
+some-most file total before taken lengths limit are within is = grind arith
+
+pub most-over : (total made lengths : ℕ) → made ≤ lengths → lengths ≤ total → (lengths - made) + (total - lengths + 1) ≤ total - made + 1
+most-over total made lengths le within = grind arith
+
+-- A file that was read completely isn't too long.
 pub end-short : (number : ℕ) (answer : ProfileAnswer) (i : ℕ) → end_at number answer ≡ TooLong i → ⊥
 end-short number (profile.Bad bad) i e = cc
 end-short number profile.TooManyClaims i e = cc

@@ -1,13 +1,13 @@
--- How a run ends and what it writes, by its arguments and the bytes of its files.
+-- The outcome of a run and what it writes, by its arguments and the bytes of its files.
 use Rattle.std.specs.Prelude.{⊤, ◌≡◌, ℕ, zero, suc, ◌<◌, Bool, true, false, List, length, Option, Some, Result, Ok, Err, Vec, IsOk, All}
 use Rattle.std.specs.declared.alloc.Global.{Global}
 use Rattle.size_core.specs.declared.limits.Limits.{Limits}
 use Rattle.outside.specs.Grown.{Grew, GrewByPart}
 use Rattle.outside.specs.Held.{Pairs}
 use Rattle.custom_rewrites.specs.Pattern.{IsNoPattern}
-use Rattle.size_options.specs.declared.chosen.Options.{Options}
-use Rattle.size_options.specs.declared.answer.UsageKind.{UsageKind}
-use Rattle.size_options.specs.declared.answer.UsageKind.TheVariants as usage
+use Rattle.size_options.specs.declared.run_options.Options.{Options}
+use Rattle.size_options.specs.declared.errors.UsageKind.{UsageKind}
+use Rattle.size_options.specs.declared.errors.UsageKind.TheVariants as usage
 use Rattle.run_outcome.specs.declared.outcome.Outcome.{Outcome}
 use Rattle.run_outcome.specs.declared.outcome.Outcome.TheVariants.{Done, Usage, ReadFailed, TooLong, Config, UnknownSource, PatternSyntax, PatternTooBig, Bad, TooManyClaims, MappedTooLarge, NoMatch, PlaceOutside, WriteFailed, NoMemory}
 use Rattle.bloaty_engine.specs.Named.{AreContents, Contents}
@@ -18,12 +18,12 @@ use Rattle.bloaty_engine.specs.Reports.{IsReport, IsUnmade}
 use Rattle.bloaty_engine.specs.Stages.{Patterns, is_past}
 use Rattle.bloaty_engine.specs.Verdict.{Counted, Explained, Finding, Found, IsReadAt, Request, asked, verdict}
 
--- the arguments and the configuration have no fault, and this holds of what they ask
+-- The arguments and the configuration have no fault, and `P` holds of the request.
 abbrev pub IsAsked : Limits → Result Options UsageKind → Contents → (Request → Type 0) → Type 0
 IsAsked limits given contents P = (r : Request) × (asked limits given contents ≡ Ok r) × P r
 
--- Where a read of file i may fail: the configuration is read after the arguments are parsed, and a file after all before it
--- had no fault.
+-- The run gets as far as reading file i. The configuration, which is file 0, is read after the arguments are parsed.
+-- Each other file, unless it is synthetic, is read if all files before it have no fault.
 abbrev pub IsReached : Limits → Result Options UsageKind → Contents → ℕ → Type 0
 IsReached limits given contents zero = (o : Options) × (given ≡ Ok o) × ((name : List ℕ) × (o.config ≡ Some name))
 IsReached limits given contents (suc k) =
@@ -31,8 +31,8 @@ IsReached limits given contents (suc k) =
     (λ r. IsUnmade r.options.synth k × (k < length (all_names r.options))
     × IsReadAt limits r.sources contents.files r.options k)
 
--- The outcome is the verdict, or it interrupts the run at a stage before which the verdict has no fault. `last` is the last
--- pattern that was refused for its size.
+-- The outcome is the verdict, or an interruption at a stage that the verdict reaches without a fault. `last` is the
+-- last pattern that was refused for its size.
 abbrev pub IsAnswer : Limits → Result Options UsageKind → Contents → List ℕ → Outcome → Type 0
 IsAnswer limits given contents last Done = IsOk (verdict limits given contents)
 IsAnswer limits given contents last WriteFailed = IsOk (verdict limits given contents)
@@ -45,12 +45,12 @@ IsAnswer limits given contents last (PatternTooBig i) =
     IsAsked limits given contents (λ r. StopsAt r.options.filter r.customs i (λ pattern. last ≡ pattern))
 IsAnswer limits given contents last answer = verdict limits given contents ≡ Err answer
 
--- no pattern of the run is bad
+-- All patterns of the run are regular expressions of the grammar.
 abbrev pub HasGoodPatterns : Limits → Result Options UsageKind → Contents → Type 0
 HasGoodPatterns limits given contents = IsAsked limits given contents (λ r. ArePatterns r.options.filter r.customs)
 
--- The outcomes that a run has whose arguments and files have no fault: it is done, out of memory, or a pattern is a bad one, or
--- it was interrupted. Each interruption comes only with its cause, as `Reads`, `Builds` and `CountsWrites` say.
+-- The outcomes of a run whose arguments and files have no fault: it is done, out of memory, refuses a pattern, or is
+-- interrupted. `Reads`, `Builds` and `CountsWrites` give the cause of each interruption.
 abbrev pub IsFinished : Outcome → Type 0
 IsFinished Done = ⊤
 IsFinished NoMemory = ⊤
@@ -61,16 +61,16 @@ IsFinished (PatternTooBig i) = ⊤
 IsFinished WriteFailed = ⊤
 IsFinished outcome = ⊥
 
--- the report is of this file alone: its bytes and the addresses that it maps
+-- The report is about this file only: its bytes and the addresses that it maps.
 abbrev pub CountsFile : List ℕ → Finding → Type 0
 CountsFile file (Counted s) = All (IsOfFile file) s.files
 CountsFile file (Explained place sources) = ⊤
 
--- The verdict is a report.
+-- The verdict is a report, and `P` holds of its text.
 --
--- report: This text is the report of what was found.
--- stripped: With a debug file the sizes are those of the one file, which may be stripped of debug information.
--- so: This holds of the text.
+-- report: `text` is the text of the report on what was found.
+-- stripped: With a debug file the sizes are those of the first file alone, which may be stripped of debug information.
+-- so: `P` holds of this text.
 pub record HasReport (limits : Limits) (given : Result Options UsageKind) (contents : Contents) (P : List ℕ → Type 0) : Type 0 where
   pub found : Found
   pub text : List ℕ
@@ -85,15 +85,16 @@ Writes limits given contents old new Done = HasReport limits given contents (Gre
 Writes limits given contents old new WriteFailed = HasReport limits given contents (GrewByPart old new)
 Writes limits given contents old new answer = new ≡ old
 
--- A run, by what it read and wrote. `held` is what the files hold, where they report it; `given` is what the arguments come
--- to; `last` is the last pattern that was refused for its size; `old` and `new` are what the output held before and after.
+-- A run, by what it read and wrote. `held` is what the files hold, if the implementation of `Files` reports it; `given` is
+-- the result of parsing the arguments; `last` is the last pattern that was refused for its size; `old` and `new` are
+-- what the output held before and after.
 --
 -- contents: The bytes of the configuration and of the files.
--- bytes: They are those that the files hold, where these report it.
+-- bytes: They are those that the files hold, if that is reported.
 -- answer: The outcome is what the arguments and these bytes decide, or an interruption at a stage that the run reached.
 -- patterns: A run that got past the patterns had no bad one.
 -- written: Done has written the report, WriteFailed a part of it, and any other outcome nothing.
--- complete: Where the arguments and these bytes decide on a report, the run is done, or it was interrupted.
+-- complete: If the verdict over these bytes is a report, the run is done, or it was interrupted.
 pub record IsRun (held : Option Pairs) (limits : Limits) (given : Result Options UsageKind) (last : List ℕ)
     (old new : Option (List ℕ)) (outcome : Outcome) : Type 0 where
   pub contents : Contents
@@ -103,14 +104,14 @@ pub record IsRun (held : Option Pairs) (limits : Limits) (given : Result Options
   pub written : Writes limits given contents old new outcome
   pub complete : IsOk (verdict limits given contents) → IsFinished outcome
 
--- a step of a run gives the text of its report, or ends the run with an outcome of these
+-- The outcomes of a run that ends before its report is written.
 abbrev pub is_end : Outcome → Bool
 is_end Done = false
 is_end (Usage kind) = false
 is_end WriteFailed = false
 is_end outcome = true
 
--- Up to its report a run gives the report's text, or it ends so.
+-- The steps before the writing return the text of the report, or end the run with one of these outcomes.
 abbrev pub EndsReport : Limits → Options → List ℕ → Contents → Result (Vec ℕ Global) Outcome → Type 0
 EndsReport limits o last contents (Ok text) =
     HasReport limits (Ok o) contents (λ t. t ≡ text.items) × HasGoodPatterns limits (Ok o) contents

@@ -14,24 +14,25 @@ use Rattle.size_growth.specs.declared.growth.GrowthPath.{GrowthPath}
 use Rattle.size_growth.specs.declared.growth.GrowthSizes.{GrowthSizes}
 use Rattle.size_growth.specs.declared.row.GrowthTree.{GrowthTree}
 use Rattle.size_growth.specs.Between.{IsBetween, size_where}
+use Rattle.size_growth.specs.GrowthTrees.{IsTreeOfGrowths}
 use Rattle.size_growth.specs.Paths.{IsGrowth}
 use Rattle.size_growth.specs.Rows.{growth_tree}
 use Rattle.size_growth.specs.Trees.{GrowsAlike}
 use Rattle.report_text.specs.Growth.{growth_csv_text, growth_report_text, growth_tsv_text}
-use Rattle.size_options.specs.declared.chosen.Options.{Options}
+use Rattle.size_options.specs.declared.run_options.Options.{Options}
 use Rattle.file_profile.specs.Counts.{file_size_where, filter_test, vm_size_where}
 use Rattle.run_outcome.specs.declared.outcome.Outcome.{Outcome}
 use Rattle.bloaty_engine.specs.Report.{CountsOnce, depth_of, row_options}
 use Rattle.file_profile.specs.Sources.{Chosen}
 use Rattle.bloaty_engine.specs.Steps.{Batch, EndsFiles}
 
--- a path begins with this one
+-- A path begins with `prefix`.
 abbrev pub begins_with : List (List ℕ) → List (List ℕ) → Bool
 begins_with prefix path = starts_with bytes_eq path prefix
 
--- The growth of files from base files: each full path with a size above 0 in one of them, once and in ascending order, with
--- its sizes over all files and over all base files. For whatever set of paths, the sizes of the paths in it are the numbers
--- of bytes, and of mapped addresses, whose path is in the set.
+-- The growth of files from base files: each full path with a size above 0 in one of them, once and in ascending order,
+-- with its sizes over all files and over all base files. For every set of paths, the sizes of the paths in it are the
+-- numbers of bytes, and of mapped addresses, whose path is in the set.
 pub record AreGrowths (filter : Option (List ℕ → Bool)) (depth : ℕ) (files bases : List FileView) (paths : List GrowthPath) : Type 0 where
   pub is : IsGrowth depth paths
   pub new_file : (test : List (List ℕ) → Bool)
@@ -43,32 +44,32 @@ pub record AreGrowths (filter : Option (List ℕ → Bool)) (depth : ℕ) (files
   pub base_vm : (test : List (List ℕ) → Bool)
       → size_where (λ (s : GrowthSizes). s.base_vm) test paths ≡ sum_by (vm_size_where filter test) bases
 
--- the text of a tree of growth in a format
+-- The text of a tree of growth in a format.
 abbrev pub growth_printed_as : Format → Options → GrowthTree → List ℕ
 growth_printed_as Text o tree = growth_report_text tree o.domain o.wide
 growth_printed_as Csv o tree = growth_csv_text tree o.domain o.sources
 growth_printed_as Tsv o tree = growth_tsv_text tree o.domain o.sources
 
--- the text of a tree of growth
+-- The text of a tree of growth in the format of the options.
 unfoldable pub growth_printed : Options → GrowthTree → List ℕ
 growth_printed o tree = growth_printed_as o.format o tree
 
--- this is the text of the growth of the paths of one rollup from those of another
+-- The text shows the growth of the paths of one rollup from those of another.
 pub record PrintsGrowth (o : Options) (new base : List RollupRow) (text : List ℕ) : Type 0 where
   pub paths : List GrowthPath
   pub are : IsGrowth (depth_of o) paths
   pub between : IsBetween new base paths
   pub is : text ≡ growth_printed o (growth_tree (row_options o) (depth_of o) paths)
 
--- base files were counted, and this is the text of the growth from them; or the run ended at one of them
+-- Base files were counted, and the text is that of the growth from them; or the run ended at one of them.
 abbrev pub EndsGrowth : Limits → List Chosen → Option (List ℕ → Bool) → Batch → (ℕ → List ℕ) → Options
     → List RollupRow → Result (Vec ℕ Global) Outcome → Type 0
 EndsGrowth limits sources filter b files o new (Ok text) =
     (t : Totals) × EndsFiles limits sources filter b files (Ok t) × PrintsGrowth o new t.rows text.items
 EndsGrowth limits sources filter b files o new (Err end) = EndsFiles limits sources filter b files (Err end)
 
--- the sizes of the paths that begin with a path are the numbers of bytes and of mapped addresses whose paths do, over the
--- files and over the base files
+-- The sizes of the paths that begin with a path are the numbers of bytes and of mapped addresses whose paths begin with
+-- it, over the files and over the base files.
 pub record CountsGrowth (filter : Option (List ℕ → Bool)) (files bases : List FileView)
     (paths : List GrowthPath) (path : List (List ℕ)) : Type 0 where
   pub new_file : size_where (λ (s : GrowthSizes). s.new_file) (begins_with path) paths ≡ file_size filter files path
@@ -76,32 +77,40 @@ pub record CountsGrowth (filter : Option (List ℕ → Bool)) (files bases : Lis
   pub base_file : size_where (λ (s : GrowthSizes). s.base_file) (begins_with path) paths ≡ file_size filter bases path
   pub base_vm : size_where (λ (s : GrowthSizes). s.base_vm) (begins_with path) paths ≡ vm_size filter bases path
 
--- each path counts its bytes and addresses on both sides, for every filter and all files
+-- Each path counts its bytes and addresses in the files and in the base files, for every filter and all files.
 abbrev pub GrowthsCountPaths : Type 0
 GrowthsCountPaths = (filter : Option (List ℕ → Bool)) (depth : ℕ) (files bases : List FileView) (paths : List GrowthPath)
     → AreGrowths filter depth files bases paths → (path : List (List ℕ)) → CountsGrowth filter files bases paths path
 
--- in a report of growth the growths of each shown size add up
+-- In a report of growth, the growths of each shown size add up.
 abbrev pub GrowthsAddUp : Type 0
 GrowthsAddUp = (o : Options) (files bases : List FileView) (paths : List GrowthPath)
     → AreGrowths (filter_test o.filter) (depth_of o) files bases paths
     → GrowsAlike o.domain (growth_tree (row_options o) (depth_of o) paths)
 
--- The report of the growth of files from base files.
+-- The sizes of each path over the files and over the base files.
+abbrev pub growth_sizes : Option (List ℕ → Bool) → List FileView → List FileView → List (List ℕ) → GrowthSizes
+growth_sizes filter files bases path = record {
+  new_vm = vm_size filter files path;
+  new_file = file_size filter files path;
+  base_vm = vm_size filter bases path;
+  base_file = file_size filter bases path;
+}
+
+-- The report of the growth of files from base files. The sizes of a path are the numbers of file bytes and of mapped
+-- addresses, of the files and of the base files, whose path of labels, by first covering claims, begins with it.
 --
--- paths, growths: Each path of labels of a byte or an address of one of them, with its sizes over the files and over the base files.
--- tree, order: The tree has them in the report's order, level by level, where `-n` leaves out rows an Others row.
--- each: The sizes of the paths that begin with a path are the numbers of file bytes and of mapped addresses whose path of labels,
---     by first covering claims, begins with it.
+-- tree, order: The tree has these sizes of paths in the report's order: the row of a label has the sizes of its path on both
+--     sides. A label has a row or is left out if one of its shown sizes has changed, and its key is the difference. Within a
+--     level the larger key comes first, and for equal keys the lesser label; the rows under a label follow its row. With `-n`
+--     at most that many labels stay, and none that is left out precedes one that stays. One Others row has the sums of those
+--     left out. Its own key gives its position, before an equal label.
 -- once: Each byte is counted once in a level.
--- sums: The growths of the children of a row, Others included, add up to that row's, and those of the first level to the whole.
+-- sums: The growths of the children of a row, Others included, add up to that row's, and those of the first level to the total growth.
 -- is: The text is the printed tree.
 pub record IsGrowthReport (o : Options) (files bases : List FileView) (text : List ℕ) : Type 0 where
-  pub paths : List GrowthPath
-  pub growths : AreGrowths (filter_test o.filter) (depth_of o) files bases paths
   pub tree : GrowthTree
-  pub order : tree ≡ growth_tree (row_options o) (depth_of o) paths
-  pub each : (path : List (List ℕ)) → CountsGrowth (filter_test o.filter) files bases paths path
+  pub order : IsTreeOfGrowths (row_options o) (growth_sizes (filter_test o.filter) files bases) (depth_of o) tree
   pub once : CountsOnce (filter_test o.filter)
   pub sums : GrowsAlike o.domain tree
   pub is : text ≡ growth_printed o tree

@@ -6,6 +6,7 @@ pub mod PairSteps
 pub mod PlaceSteps
 pub mod Reading
 pub mod Report
+pub mod ReportLaws
 pub mod Reports
 pub mod Stages
 pub mod Steps

@@ -1,4 +1,4 @@
--- What the steps of a run over a file with its debug file return.
+-- The results of the steps of a run over a file with its debug file.
 use Rattle.std.specs.Prelude.{◌≡◌, ℕ, ◌+◌, ◌<◌, ⊤, Bool, List, [], ◌∷◌, length, Option, Result, Ok, Err, Vec, IsOk}
 use Rattle.std.specs.declared.alloc.Global.{Global}
 use Rattle.size_core.specs.declared.limits.Limits.{Limits}
@@ -10,24 +10,24 @@ use Rattle.run_outcome.specs.declared.outcome.Outcome.{Outcome}
 use Rattle.bloaty_engine.specs.Steps.{EndsBy, HasCounted, Nowhere}
 use Rattle.bloaty_engine.specs.Verdict.{IsPairRead, counted_pair, if_paired, one_file, opened_first}
 
--- the first file was read and opened, or the run ended at it, or at its read
+-- The first file was read and opened, or the run ended at it or at its read.
 abbrev pub EndsFirst : Limits → List ℕ → Result (Vec ℕ Global) Outcome → Type 0
 EndsFirst limits file (Ok v) = (v.items ≡ file) × IsOk (opened_first limits file)
 EndsFirst limits file (Err end) = EndsBy (λ i. i ≡ 1) (opened_first limits file) end
 
--- a file and its debug file were counted, or the run ended at one of them
+-- A file and its debug file were counted, or the run ended at one of them.
 abbrev pub EndsPaired : Limits → List Chosen → Option (List ℕ → Bool) → List ℕ → List ℕ → List ℕ → Result Totals Outcome → Type 0
 EndsPaired limits sources filter name file debug (Ok t) =
     (f : FileView) × (pair_viewed 0 limits.claims name file debug sources ≡ Ok f) × HasCounted filter (length sources) (f ∷ []) t
 EndsPaired limits sources filter name file debug (Err end) =
     EndsBy Nowhere (if_paired (pair_viewed 0 limits.claims name file debug sources)) end
 
--- file i is one of the two, and it may be read
+-- File i is one of the two, and the run gets as far as reading it.
 abbrev pub IsOfPair : Limits → List ℕ → ℕ → Type 0
 IsOfPair limits file i = (k : ℕ) × (i ≡ k + 1) × (k < 2) × IsPairRead limits file k
 
--- A file and its debug file with these bytes were counted, or the run ended at one of them, or at a read that failed where it
--- may be made.
+-- A file and its debug file with these bytes were counted, or the run ended at one of them, or at a failed read that
+-- the run got to.
 abbrev pub EndsPair : Limits → List Chosen → Option (List ℕ → Bool) → List ℕ → List ℕ → List ℕ → Result Totals Outcome → Type 0
 EndsPair limits sources filter name file debug (Ok t) =
     (f : FileView) × (counted_pair limits sources name file debug ≡ Ok (one_file f)) × HasCounted filter (length sources) (f ∷ []) t

@@ -1,22 +1,22 @@
--- What the steps of a run that explains a location return.
+-- The results of the steps of a run that explains a location.
 use Rattle.std.specs.Prelude.{◌≡◌, ℕ, ⊤, List, Result, Ok, Err, Vec}
 use Rattle.std.specs.declared.alloc.Global.{Global}
 use Rattle.size_core.specs.declared.limits.Limits.{Limits}
 use Rattle.size_core.specs.declared.place.Place.{Place}
 use Rattle.place_explain.specs.declared.named.PlaceSource.{PlaceSource}
-use Rattle.size_options.specs.declared.chosen.Options.{Options}
-use Rattle.file_profile.specs.Places.{explained_place, named_sources}
+use Rattle.size_options.specs.declared.run_options.Options.{Options}
+use Rattle.file_profile.specs.Explanations.{explained_place, named_sources}
 use Rattle.file_profile.specs.Sources.{Chosen}
 use Rattle.run_outcome.specs.declared.outcome.Outcome.{Outcome}
 use Rattle.run_outcome.specs.declared.outcome.Outcome.TheVariants.{ReadFailed, TooLong, NoMemory}
 use Rattle.bloaty_engine.specs.Verdict.{first_name, if_explained}
 
--- what data sources report of the location, in a file with these bytes that is within the limits
+-- The explanations of the location in a file with these bytes that is within the limits.
 abbrev pub explained_within : Limits → List Chosen → Options → Place → List ℕ → Result (List PlaceSource) Outcome
 explained_within limits sources o place file =
     if_explained (explained_place limits.claims o.limit place (first_name o) file (named_sources o.sources sources))
 
--- the location was explained so, or the run ended there
+-- The location has these explanations, or the run ended there.
 abbrev pub EndsExplained : Result (List PlaceSource) Outcome → Result (Vec PlaceSource Global) Outcome → Type 0
 EndsExplained decided (Ok v) = decided ≡ Ok v.items
 EndsExplained decided (Err NoMemory) = ⊤

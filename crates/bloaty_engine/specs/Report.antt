@@ -14,16 +14,17 @@ use Rattle.report_rows.specs.declared.row.RowOptions.{RowOptions}
 use Rattle.report_rows.specs.declared.row.RowTree.{RowTree}
 use Rattle.report_rows.specs.Paths.{ShowsPaths}
 use Rattle.report_rows.specs.Rows.{row_tree}
+use Rattle.report_rows.specs.SizeTrees.{IsTreeOfSizes}
 use Rattle.report_rows.specs.Tables.{file_sum, under_path, vm_sum}
 use Rattle.report_rows.specs.Trees.{AddsUp}
 use Rattle.report_text.specs.Lines.{report_text}
 use Rattle.report_text.specs.Records.{csv_text, tsv_text}
-use Rattle.size_options.specs.declared.chosen.Options.{Options}
+use Rattle.size_options.specs.declared.run_options.Options.{Options}
 use Rattle.file_profile.specs.Counts.{file_size_where, filter_test, vm_size_where}
 
--- The rows of files: each full path with a size above 0, once and in ascending order, with its sizes over all files. For
--- every set of paths, as that of one path or of those that begin so, the sizes of its rows add up to the numbers of bytes
--- and of mapped addresses that pass the filter and have one of its paths.
+-- The rows of files: each full path with a size above 0, once and in ascending order, with its sizes over all files.
+-- For every set of paths, such as one path or all paths with one prefix, the sizes of its rows add up to the numbers of
+-- bytes and of mapped addresses that pass the filter and have one of its paths.
 pub record AreSizes (filter : Option (List ℕ → Bool)) (depth : ℕ) (files : List FileView) (rows : List RollupRow) : Type 0 where
   pub ordered : IsStrictlySortedBy row_cmp rows
   pub deep : All (λ (r : RollupRow). length r.path ≡ depth) rows
@@ -31,59 +32,59 @@ pub record AreSizes (filter : Option (List ℕ → Bool)) (depth : ℕ) (files :
   pub file : (test : List (List ℕ) → Bool) → file_where test rows ≡ sum_by (file_size_where filter test) files
   pub vm : (test : List (List ℕ) → Bool) → vm_where test rows ≡ sum_by (vm_size_where filter test) files
 
--- the sizes of the rows under a path are those of the path over all files
+-- The sizes of the rows whose paths begin with a path are those of the path over all files.
 pub record CountsPath (filter : Option (List ℕ → Bool)) (files : List FileView) (rows : List RollupRow)
     (path : List (List ℕ)) : Type 0 where
   pub file : file_sum (under_path path rows) ≡ file_size filter files path
   pub vm : vm_sum (under_path path rows) ≡ vm_size filter files path
 
--- each path has the sizes that its rows add up to, for every filter and all files
+-- Each path has the sizes that its rows add up to, for every filter and all files.
 abbrev pub RowsCountPaths : Type 0
 RowsCountPaths = (filter : Option (List ℕ → Bool)) (depth : ℕ) (files : List FileView) (rows : List RollupRow)
     → AreSizes filter depth files rows → (path : List (List ℕ)) → CountsPath filter files rows path
 
--- the limit, the order and the domain of the options
+-- The limit, the order and the domain of the options.
 abbrev pub row_options : Options → RowOptions
 row_options o = record { limit = o.limit; sort = o.sort; domain = o.domain }
 
--- the number of data sources in `-d`
+-- The number of data sources in `-d`.
 abbrev pub depth_of : Options → ℕ
 depth_of o = length o.sources
 
--- the tree of a report over these rows
+-- The tree of a report over these rows.
 abbrev pub report_tree : Options → List RollupRow → RowTree
 report_tree o rows = row_tree (row_options o) (record { depth = depth_of o; rows = rows; lengths = 0; mapped = 0 })
 
--- the totals are the lengths of all files and the numbers of addresses that they map
+-- The totals are the lengths of all files and the numbers of addresses that they map.
 pub record HasWholeTotals (files : List FileView) (tree : RowTree) : Type 0 where
   pub file : tree.file ≡ sum_by (λ (f : FileView). f.len) files
   pub vm : tree.vm ≡ sum_by (λ (f : FileView). mapped_count f.loads) files
 
--- without a filter a report has whole totals, for all options and files
+-- Without a filter, the totals of a report are those of the whole files, for all options and files.
 abbrev pub TotalsAreWhole : Type 0
 TotalsAreWhole = (o : Options) (files : List FileView) (rows : List RollupRow)
     → o.filter ≡ None → AreSizes (filter_test o.filter) (depth_of o) files rows → HasWholeTotals files (report_tree o rows)
 
--- The rows of a report show its files: the row of a label has the sizes of its path over all files, read off the rows
--- above it, an Others row the sums of the labels that are left out, and each label with a shown size has its row or is
--- one of those.
+-- The rows of a report show its files. The row of a label has the sizes of its path over all files. The path is read
+-- off the rows above it. An Others row has the sums of the labels that are left out. Each label with a shown size has
+-- its row or is one of those.
 abbrev pub RowsShowFiles : Type 0
 RowsShowFiles = (o : Options) (files : List FileView) (rows : List RollupRow) → AreSizes (filter_test o.filter) (depth_of o) files rows
     → ShowsPaths (row_options o) (vm_size (filter_test o.filter) files) (file_size (filter_test o.filter) files)
     (depth_of o) (report_tree o rows).rows
 
--- in a report of sizes each shown size adds up
+-- In a report of sizes, each shown size adds up.
 abbrev pub SizesAddUp : Type 0
 SizesAddUp = (o : Options) (files : List FileView) (rows : List RollupRow)
     → AreSizes (filter_test o.filter) (depth_of o) files rows → AddsUp o.domain (report_tree o rows)
 
--- the text of a tree in a format
+-- The text of a tree in a format.
 abbrev pub printed_as : Format → Options → RowTree → List ℕ
 printed_as Text o tree = report_text tree o.domain o.wide
 printed_as Csv o tree = csv_text tree o.domain o.sources
 printed_as Tsv o tree = tsv_text tree o.domain o.sources
 
--- the text of a tree
+-- The text of a tree in the format of the options.
 unfoldable pub printed : Options → RowTree → List ℕ
 printed o tree = printed_as o.format o tree
 
@@ -91,21 +92,23 @@ printed o tree = printed_as o.format o tree
 abbrev pub CountsOnce : Option (List ℕ → Bool) → Type 0
 CountsOnce filter = (path p q : List (List ℕ)) → length p ≡ length q → counts_for filter p path ≡ true → counts_for filter q path ≡ true → p ≡ q
 
--- The report of the sizes of files.
+-- The report of the sizes of files. The sizes of a path are the numbers of file bytes and of mapped addresses whose path
+-- of labels, by first covering claims, begins with it.
 --
--- rows, sizes: The rows list each path of labels of a byte or an address, by first covering claims, with its sizes.
--- tree, order: The tree has these rows in the report's order, level by level, where `-n` leaves out rows an Others row.
--- each: The sizes of a row are the numbers of file bytes and of mapped addresses whose path of labels begins with the row's path;
---     an Others row has the sums of the rows left out.
+-- tree, order: The tree has these sizes of paths in the report's order. Within a level the larger key comes first, and for
+--     equal keys the lesser label; the rows under a label follow its row. With `-n` at most that many labels stay, and none
+--     that is left out precedes one that stays. One Others row has the sums of those left out. Its own key gives its
+--     position, before an equal label.
+-- each: The sizes of a row are those of its path, which is read off the rows above it; an Others row has the sums of the
+--     labels that are left out.
 -- once: Each byte is counted once in a level.
 -- sums: The sizes of the children of a row, Others included, add up to that row's, and those of the first level to the total.
 -- whole: Without a filter the totals are the lengths of all files and the numbers of addresses that they map.
 -- is: The text is the printed tree.
 pub record IsSizeReport (o : Options) (files : List FileView) (text : List ℕ) : Type 0 where
-  pub rows : List RollupRow
-  pub sizes : AreSizes (filter_test o.filter) (depth_of o) files rows
   pub tree : RowTree
-  pub order : tree ≡ report_tree o rows
+  pub order : IsTreeOfSizes (row_options o) (vm_size (filter_test o.filter) files) (file_size (filter_test o.filter) files)
+      (depth_of o) tree
   pub each : ShowsPaths (row_options o) (vm_size (filter_test o.filter) files) (file_size (filter_test o.filter) files)
       (depth_of o) tree.rows
   pub once : CountsOnce (filter_test o.filter)

@@ -1,4 +1,4 @@
--- The stages of a run, in order, and where a run with an outcome stopped.
+-- The stages of a run in order, and the stage at which a run with an outcome stopped.
 use Rattle.std.specs.Prelude.{ℕ, zero, suc, Bool, true, false, nat_lt, not, Result, Ok, Err}
 use Rattle.run_outcome.specs.declared.outcome.Outcome.{Outcome}
 use Rattle.run_outcome.specs.declared.outcome.Outcome.TheVariants.{Done, Usage, ReadFailed, TooLong, Config, UnknownSource, PatternSyntax, PatternTooBig, WriteFailed, NoMemory}
@@ -13,7 +13,7 @@ pub data Stage : Type 0 where
   Files : Stage
   Output : Stage
 
--- the number of a stage in this order
+-- The position of a stage in this order.
 abbrev pub rank : Stage → ℕ
 rank Arguments = 0
 rank Configuration = 1
@@ -22,7 +22,8 @@ rank Patterns = 3
 rank Files = 4
 rank Output = 5
 
--- The stage at which a run with this outcome stopped. A run may be out of memory at any stage: this counts as the first one.
+-- The stage at which a run with this outcome stopped. A run may run out of memory at any stage. This counts as the
+-- first one.
 abbrev pub stage_of : Outcome → Stage
 stage_of Done = Output
 stage_of WriteFailed = Output
@@ -36,21 +37,21 @@ stage_of (PatternSyntax i) = Patterns
 stage_of (PatternTooBig i) = Patterns
 stage_of outcome = Files
 
--- a run with this outcome got past a stage
+-- A run with this outcome got past a stage.
 abbrev pub is_past : Stage → Outcome → Bool
 is_past stage outcome = nat_lt (rank stage) (rank (stage_of outcome))
 
--- the outcome that a file could not be read
+-- The outcome is that a file couldn't be read.
 abbrev pub is_failed_read : Outcome → Bool
 is_failed_read (ReadFailed i) = true
 is_failed_read outcome = false
 
--- the outcome that a pattern was refused for its size
+-- The outcome is that a pattern was refused for its size.
 abbrev pub is_refused_pattern : Outcome → Bool
 is_refused_pattern (PatternTooBig i) = true
 is_refused_pattern outcome = false
 
--- a step went on, or ended with an outcome for which the test doesn't hold
+-- A step succeeded, or ended the run with an outcome that doesn't pass the test.
 abbrev pub ends_without : {X : Type 0} → (Outcome → Bool) → Result X Outcome → Bool
 ends_without test (Ok x) = true
 ends_without test (Err end) = not (test end)

@@ -1,4 +1,4 @@
--- What the steps of a run return.
+-- The results of the steps of a run.
 use Rattle.std.specs.Prelude.{◌≡◌, ℕ, ◌+◌, ◌-◌, min, ◌<◌, ◌≤◌, ⊤, Bool, List, length, take, Option, Some, Result, Ok, Err, Vec, IsOk}
 use Rattle.std.specs.List.{sum_by}
 use Rattle.std.specs.declared.alloc.Global.{Global}
@@ -25,28 +25,28 @@ Finds i limit bytes (Err (ReadFailed j)) = j ≡ i
 Finds i limit bytes (Err NoMemory) = ⊤
 Finds i limit bytes (Err end) = ⊥
 
--- How a step ends a run: at a read that failed, where this may be, out of memory, or as is decided.
+-- A step ends a run at a failed read that may happen, out of memory, or with the outcome of `decided`.
 abbrev pub EndsBy : {X : Type 0} → (ℕ → Type 0) → Result X Outcome → Outcome → Type 0
 EndsBy may_fail decided (ReadFailed i) = may_fail i
 EndsBy may_fail decided NoMemory = ⊤
 EndsBy may_fail decided end = decided ≡ Err end
 
--- no read may fail
+-- No read can fail.
 abbrev pub Nowhere : ℕ → Type 0
 Nowhere i = ⊥
 
--- what the configuration of this text comes to, or that it couldn't be read
+-- The custom data sources of a configuration with this text, or the outcome that it has a fault or couldn't be read.
 abbrev pub EndsConfig : Limits → Option (List ℕ) → List ℕ → Result (Vec CustomSource Global) Outcome → Type 0
 EndsConfig limits name text (Ok v) = customs_in limits name text ≡ Ok v.items
 EndsConfig limits name text (Err end) =
     EndsBy (λ i. (i ≡ 0) × ((n : List ℕ) × (name ≡ Some n))) (customs_in limits name text) end
 
--- a step that reads no file ends as it is decided, or by running out of memory
+-- A step that reads no file has this result, or runs out of memory.
 abbrev pub EndsAs : {X : Type 0} → Result (Unit {0}) Outcome → Result X Outcome → Type 0
 EndsAs (Ok u) decided = IsOk decided
 EndsAs (Err end) decided = EndsBy Nowhere decided end
 
--- a total counts these files
+-- A total counts these files.
 pub record HasCounted (filter : Option (List ℕ → Bool)) (count : ℕ) (files : List FileView) (t : Totals) : Type 0 where
   pub depth : t.depth ≡ count
   pub lengths : t.lengths ≡ sum_by (λ (f : FileView). f.len) files
@@ -54,37 +54,39 @@ pub record HasCounted (filter : Option (List ℕ → Bool)) (count : ℕ) (files
   pub file : (test : List (List ℕ) → Bool) → file_where test t.rows ≡ sum_by (file_size_where filter test) files
   pub vm : (test : List (List ℕ) → Bool) → vm_where test t.rows ≡ sum_by (vm_size_where filter test) files
 
--- Files that are counted together: those of these names, the first of which has this number, after files of these lengths.
+-- Files that are counted together: their names, the number of the first of them, and the sum of the lengths of the
+-- files before it.
 pub record Batch : Type 0 where
   pub first : ℕ
   pub before : ℕ
   pub names : List (List ℕ)
 
--- the files of these names after so many files of these lengths
+-- The files of these names after `count` files, whose lengths add up to `lengths`.
 abbrev pub batch_of : ℕ → ℕ → List (List ℕ) → Batch
 batch_of count lengths names = record { first = count + 1; before = lengths; names = names }
 
--- what is read of a batch, within what the limits leave
+-- The files of a batch as a reading, within what the limits leave.
 abbrev pub batch_reading : Limits → Batch → Reading
-batch_reading limits b = reading_from b.first b.names (min (file_limit limits) (total_limit limits - b.before) + 1)
+batch_reading limits b =
+    reading_from b.first b.names (min (file_limit limits) (total_limit limits - b.before) + 1) (total_limit limits - b.before + 1)
 
--- the files of a batch as they are counted, or how the run ends at one of them
+-- The files of a batch as they are counted, or the outcome that ends the run at one of them.
 abbrev pub counted_batch : Limits → List Chosen → (ℕ → List ℕ) → Batch → Result (List FileView) Outcome
 counted_batch limits sources files b = counted_from limits sources files b.first b.before 0 b.names
 
--- file i is one of a batch, and those before it are counted
+-- File i is one of a batch, and those before it are counted.
 abbrev pub IsFileOf : Limits → List Chosen → Batch → (ℕ → List ℕ) → ℕ → Type 0
 IsFileOf limits sources b files i = (k : ℕ) × (i ≡ b.first + k) × (k < length b.names)
     × IsOk (counted_batch limits sources files (record b { names = take k b.names }))
 
--- the files with these bytes were counted, or the run ended at one of them, or at a read that failed where the files before
--- it were counted
+-- The files with these bytes were counted. Or the run ended at one of them, or at a failed read after the files before
+-- it were counted.
 abbrev pub EndsFiles : Limits → List Chosen → Option (List ℕ → Bool) → Batch → (ℕ → List ℕ) → Result Totals Outcome → Type 0
 EndsFiles limits sources filter b files (Ok t) =
     (fs : List FileView) × (counted_batch limits sources files b ≡ Ok fs) × HasCounted filter (length sources) fs t
 EndsFiles limits sources filter b files (Err end) = EndsBy (IsFileOf limits sources b files) (counted_batch limits sources files b) end
 
--- how a run ends where there is no plan
+-- The outcome of a run that has no plan.
 abbrev pub EndsPlan : List (List ℕ) → Option (List ℕ) → List CustomSource → List ℕ → Outcome → Type 0
 EndsPlan names filter customs last (UnknownSource i) = chosen_sources customs names ≡ Err i
 EndsPlan names filter customs last (PatternSyntax i) = IsOk (chosen_sources customs names) × StopsAt filter customs i IsNoPattern

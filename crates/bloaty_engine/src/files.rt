@@ -9,7 +9,7 @@ ghost use Rattle.file_profile.specs.Counts.{filter_test};
 ghost use Rattle.bloaty_engine.specs.Devices.{Reads};
 ghost use Rattle.bloaty_engine.specs.Named.{AreHeld};
 ghost use Rattle.run_outcome.specs.Names.{file_names};
-ghost use Rattle.bloaty_engine.specs.Reading.{reading_from};
+ghost use Rattle.bloaty_engine.specs.Reading.{file_reading};
 ghost use Rattle.bloaty_engine.specs.Steps.{EndsAs, EndsFiles, Finds, HasCounted, batch_of, batch_reading};
 ghost use Rattle.bloaty_engine.specs.Verdict.{counted_file, end_at, file_limit, first_name, total_limit};
 
@@ -26,28 +26,28 @@ use std::alloc::Global;
 use std::marker::Brand;
 use std::sync::ledger::{Blank, Ledger};
 
-/// How many files were counted, and how many bytes they have.
+/// The number of files counted so far, and the sum of their lengths in bytes.
 #[derive(Drop)]
 pub struct Tally {
     pub files: usize,
     pub bytes: u64,
 }
 
-/// The most bytes of a file.
+/// The largest length of a file in bytes.
 pub fn file_limit(limits: &Limits) -> u64
     ensures { result ≡ file_limit limits.now }
 {
     limits.file.min(u64::from(u32::MAX))
 }
 
-/// The most bytes of all files.
+/// The largest sum of the lengths of all files in bytes.
 pub fn total_limit(limits: &Limits) -> u64
     ensures { result ≡ total_limit limits.now }
 {
     limits.total.min(1 << 62)
 }
 
-/// Reads file `number`: at most `limit` bytes.
+/// Reads file `number`, which has the name `name` and may have at most `limit` bytes.
 pub fn read_file<F: Files>(
     alloc: Global,
     files: &mut F,
@@ -57,7 +57,7 @@ pub fn read_file<F: Files>(
 ) -> Result<Vec<u8>, Outcome>
     ensures found { (bytes : List ℕ)
         × IsHeld (F.held files.old) name.now bytes × Finds number limit bytes result }
-    ensures files { let reading = reading_from number (name.now ∷ []) (limit + 1) in
+    ensures files { let reading = file_reading number name.now limit in
         Reads F.Files reading result files.old files.new }
     ensures taken { IfOk result (λ v.
         IsTaken (F.held files.old) (length v.items) (F.taken files.old) (F.taken files.new)) }
@@ -70,7 +70,7 @@ pub fn read_file<F: Files>(
     }
 }
 
-// How a run ends at file `number`.
+// The outcome of a run in which file `number` can't be counted.
 fn end_at(number: usize, answer: ProfileAnswer) -> Outcome
     ensures { result ≡ end_at number answer }
 {
@@ -86,7 +86,7 @@ fn end_at(number: usize, answer: ProfileAnswer) -> Outcome
     }
 }
 
-// A file that was read: its number, its name and its bytes.
+// A file in memory: its number, its name and its bytes.
 #[derive(Clone, Copy)]
 struct Input<'n, 'b> {
     number: usize,
@@ -94,7 +94,7 @@ struct Input<'n, 'b> {
     bytes: &'b [u8],
 }
 
-// Counts a file. The blank opens a counter of steps that nothing reads.
+// Counts a file. `blank` opens the counter of steps that `profile_file` takes. Its count isn't used.
 fn count_file<L: Ledger>(
     run: &Run,
     plan: &Plan,
@@ -140,7 +140,7 @@ fn count_file<L: Ledger>(
     }
 }
 
-/// How many files there are, the base files aside.
+/// The number of files, without base files.
 pub fn file_count(options: &Options) -> usize
     ensures { result ≡ length (file_names options.now) }
 {
@@ -150,7 +150,7 @@ pub fn file_count(options: &Options) -> usize
     }
 }
 
-/// The name of the one file.
+/// The name of the only file.
 pub fn first_name(options: &Options) -> &str
     requires { IsOneInput options.now.synth options.now.files }
     ensures { result.now ≡ first_name options.now }
@@ -161,8 +161,8 @@ pub fn first_name(options: &Options) -> &str
     }
 }
 
-/// Reads and counts the files of these names, and adds them to `tally`, which has the files before them. Each file's
-/// memory is freed before the next is read.
+/// Reads and counts the files of these names, and adds them to `tally`, which counts the files before them. Each file's
+/// memory is freed before the next file is read.
 pub fn count_files<F: Files>(
     run: &Run,
     plan: &Plan,
@@ -205,7 +205,7 @@ pub fn count_files<F: Files>(
     Ok(total)
 }
 
-/// Counts the synthetic file of `n` functions, the first file, and adds it to `tally`.
+/// Counts the synthetic file of `n` functions, which is the first file, and adds it to `tally`.
 pub fn count_made(run: &Run, plan: &Plan, n: u32, tally: &mut Tally) -> Result<Rollup, Outcome>
     requires number { n ≤ 1_000_000 }
     requires few { length plan.now.sources ≤ 8 }

@@ -58,7 +58,7 @@ fn growth_of(
     Ok(out)
 }
 
-/// Counts the base files, and makes the report of growth from them. `tally` is how many files were counted before.
+/// Counts the base files, and makes the report of growth from them. `tally` counts the files before them.
 pub fn growth_report<F: Files>(
     run: &Run,
     plan: &Plan,

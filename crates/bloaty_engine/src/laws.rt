@@ -1,43 +1,75 @@
-//! What follows for the rows of a report, of sizes and of growth, and its totals.
+//! Laws of a report's rows, of sizes and of growth, and of its totals. Each is the contract of an empty function.
 
 ghost use Rattle.bloaty_engine.specs.GrowthReport.{GrowthsAddUp, GrowthsCountPaths};
+ghost use Rattle.bloaty_engine.specs.ReportLaws.{FilesInAnyOrder, FirstLevelIsKept, GrowthTheOtherWay, NoGrowthFromItself, OneReportOfGrowth, OneReportOfSizes};
 ghost use Rattle.bloaty_engine.specs.Report.{RowsCountPaths, RowsShowFiles, SizesAddUp, TotalsAreWhole};
 
-/// A law: the sizes of the row of a path are the numbers of bytes and of mapped addresses whose paths begin with it.
+/// The sizes of the row of a path are the numbers of bytes and of mapped addresses whose paths begin with it.
 pub fn rows_count_paths()
     ensures { RowsCountPaths }
 {}
 
-/// A law: the rows of a report show its files. The row of a label has the sizes of its path, which is read off the rows
-/// above it; an Others row has the sums of just the labels that are left out; and each label with a shown size has its
+/// The rows of a report show its files. The row of a label has the sizes of its path. The path is read off the rows
+/// above it. An Others row has the sums of exactly the labels that are left out. Each label with a shown size has its
 /// row or is one of those.
 pub fn rows_show_files()
     ensures { RowsShowFiles }
 {}
 
-/// A law: in a report of sizes the sizes of the first level's rows add up to the total, and those of the children of each
-/// row that has any to that of the row, for each size that is shown.
+/// In a report of sizes, the sizes of the first level's rows add up to the total, and those of a row's children to the
+/// row's, for each size that is shown.
 pub fn sizes_add_up()
     ensures { SizesAddUp }
 {
     report_rows::shown_sizes_add_up();
 }
 
-/// A law: without a filter the totals of a report are the lengths of the files, and the numbers of addresses they map.
+/// Without a filter, the totals of a report are the lengths of the files and the numbers of addresses that they map.
 pub fn totals_are_whole()
     ensures { TotalsAreWhole }
 {}
 
-/// A law: the sizes of a path in a report of growth are the numbers of bytes and of mapped addresses whose paths begin with
-/// it, over the files and over the base files; its growth is their difference.
+/// In a report of growth, the sizes of a path are the numbers of bytes and of mapped addresses whose paths begin with
+/// it, over the files and over the base files. Its growth is their difference.
 pub fn growths_count_paths()
     ensures { GrowthsCountPaths }
 {}
 
-/// A law: in a report of growth the growths of the first level's rows add up to that of the whole, and those of the
-/// children of each row that has any to that of the row, for each size that is shown.
+/// In a report of growth, the growths of the first level's rows add up to the total growth, and those of a row's
+/// children to the row's, for each size that is shown.
 pub fn growths_add_up()
     ensures { GrowthsAddUp }
 {
     size_growth::growths_add_up();
 }
+
+/// One text alone is the report of the sizes of files, since one tree alone is in the report's order.
+pub fn one_report_of_sizes()
+    ensures { OneReportOfSizes }
+{}
+
+/// One text alone is the report of the growth of files from base files.
+pub fn one_report_of_growth()
+    ensures { OneReportOfGrowth }
+{}
+
+/// The order of the files doesn't matter: a report of the sizes of files is that of the same files in any order.
+pub fn files_in_any_order()
+    ensures { FilesInAnyOrder }
+{}
+
+/// The report of the growth of files from themselves has no rows.
+pub fn no_growth_from_itself()
+    ensures { NoGrowthFromItself }
+{}
+
+/// The growth of base files from files is the negative of that of files from base files: the report has the same rows in
+/// the same order, with the sizes of the two sides exchanged.
+pub fn growth_the_other_way()
+    ensures { GrowthTheOtherWay }
+{}
+
+/// More data sources keep the first level: without a filter, the rows of `-d a` are those of the first level of `-d a,b`.
+pub fn more_sources_keep_the_first_level()
+    ensures { FirstLevelIsKept }
+{}

@@ -15,8 +15,9 @@ mod sizes;
 
 pub use file_profile::{PairAnswer, Plan, PlanAnswer, ProfileAnswer, profile_pair};
 pub use laws::{
-    growths_add_up, growths_count_paths, rows_count_paths, rows_show_files, sizes_add_up,
-    totals_are_whole,
+    files_in_any_order, growth_the_other_way, growths_add_up, growths_count_paths,
+    more_sources_keep_the_first_level, no_growth_from_itself, one_report_of_growth,
+    one_report_of_sizes, rows_count_paths, rows_show_files, sizes_add_up, totals_are_whole,
 };
 pub use planning::plan;
 pub use profile::profile_file;

@@ -26,7 +26,7 @@ use size_core::{BadFile, Steps, Text};
 use std::marker::Brand;
 use std::sync::ledger::{Blank, Ledger};
 
-// How a run ends where a file and its debug file aren't counted.
+// The outcome of a run in which a file can't be counted with its debug file.
 fn end_of_pair(answer: PairAnswer) -> Outcome
     ensures { result ≡ end_of_pair answer }
 {
@@ -43,7 +43,7 @@ fn end_of_pair(answer: PairAnswer) -> Outcome
     }
 }
 
-// The format of the first file has no fault.
+// Checks that the format of the first file has no fault.
 fn check_format(file: &[u8]) -> Result<(), Outcome>
     requires { length file.now < 2 ^ 32 }
     ensures { EndsAs result (if_sound (opened file.now)) }
@@ -58,7 +58,7 @@ fn check_format(file: &[u8]) -> Result<(), Outcome>
     }
 }
 
-// Counts a file with its debug file, which were read. The blank opens a counter of steps that nothing reads.
+// Counts a file with its debug file, both in memory. `blank` opens the counter of steps, whose count isn't used.
 fn count_opened<L: Ledger>(
     run: &Run,
     plan: &Plan,
@@ -95,7 +95,7 @@ fn count_opened<L: Ledger>(
     }
 }
 
-// Reads the file, and checks its format.
+// Reads the file and checks its format.
 fn read_first<F: Files>(run: &Run, files: &mut F) -> Result<Vec<u8>, Outcome>
     requires { IsOneInput run.now.options.synth run.now.options.files }
     ensures found { (bytes : List ℕ) × IsHeld (F.held files.old) (first_name run.now.options) bytes

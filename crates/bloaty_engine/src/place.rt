@@ -1,4 +1,4 @@
-//! A location of the one file.
+//! The explanation of one location of the only file.
 
 ghost use Rattle.std.specs.Prelude.{◌≡◌, ◌+◌, ◌≤◌, ℕ, List, Some, length, min, IfOk, IsErrOf};
 ghost use Rattle.elf_synth.specs.Made.{made};
@@ -24,7 +24,7 @@ use run_outcome::Outcome;
 use size_core::{BadFile, NoMemory, Place};
 use std::alloc::Global;
 
-// How a run ends where a location isn't explained.
+// The outcome of a run in which a location isn't explained.
 fn end_of_place(answer: PlaceAnswer) -> Outcome
     ensures { result ≡ end_of_place answer }
 {
@@ -54,7 +54,7 @@ fn made_file(alloc: Global, n: u32, limit: u64) -> Result<Vec<u8>, Outcome>
     Ok(file)
 }
 
-// Reads the one file, or makes it.
+// Reads the only file, or makes the synthetic one.
 fn only_file<F: Files>(run: &Run, files: &mut F) -> Result<Vec<u8>, Outcome>
     requires limits { KeepsLimits run.now.options }
     requires one { IsOneInput run.now.options.synth run.now.options.files }
@@ -74,7 +74,7 @@ fn only_file<F: Files>(run: &Run, files: &mut F) -> Result<Vec<u8>, Outcome>
     }
 }
 
-// What the data sources report of a location of the file.
+// The explanations of a location of the file by the data sources of the plan.
 fn explained(
     run: &Run,
     plan: &Plan,
@@ -106,7 +106,7 @@ fn explained(
     }
 }
 
-// The text that explains a location.
+// The text of the explanations of a location.
 fn text_of(
     alloc: Global,
     place: &Place,
@@ -120,7 +120,7 @@ fn text_of(
     Ok(out)
 }
 
-/// Reads or makes the one file, and explains a location of it.
+/// Reads or makes the only file, and returns the text that explains a location of it.
 pub fn place_report<F: Files>(
     run: &Run,
     plan: &Plan,

@@ -16,7 +16,7 @@ use size_core::{Names, Source, Text};
 use size_options::Options;
 use std::alloc::Global;
 
-// The index of the first custom data source of a name.
+// The index of the first custom data source with this name.
 fn custom_place(custom: &[CustomSource], name: &[u8]) -> Option<usize>
     ensures none { result ≡ None → custom_named custom.now name.now ≡ None }
     ensures some { IfSome result
@@ -32,7 +32,7 @@ fn custom_place(custom: &[CustomSource], name: &[u8]) -> Option<usize>
     None
 }
 
-// The data source of a name.
+// The data source with this name.
 fn choice_of(custom: &[CustomSource], name: &[u8]) -> Option<Choice>
     ensures chosen { option_map (chosen_in (rewrite_lists custom.now)) result
         ≡ chosen_named custom.now name.now }
@@ -72,7 +72,7 @@ fn choices_of(
     Ok(choices)
 }
 
-// The filter's pattern, where there is one.
+// Compiles the filter, if there is one.
 fn filter_of<P: Patterns>(
     alloc: Global,
     filter: Option<&Text>,
@@ -95,7 +95,7 @@ fn filter_of<P: Patterns>(
     }
 }
 
-// The rewrites of a custom data source, whose first pattern has this number.
+// Compiles the rewrites of a custom data source. The first of its patterns has number `first`.
 fn rewrites_from<P: Patterns>(
     alloc: Global,
     source: &CustomSource,
@@ -117,7 +117,7 @@ fn rewrites_from<P: Patterns>(
     }
 }
 
-// The rewrites of each custom data source, whether `-d` names it or not. Their patterns are numbered from 1.
+// Compiles the rewrites of each custom data source, whether `-d` names it or not. Their patterns are numbered from 1.
 fn rewrites_of<P: Patterns>(
     alloc: Global,
     custom: &[CustomSource],
@@ -142,13 +142,19 @@ fn rewrites_of<P: Patterns>(
     Ok(all)
 }
 
-/// What the options ask of each file. A name means the built-in data source of that name, or else the first custom one
-/// of that name. Pattern 0 is the filter, and the patterns from 1 on are the rewrites of all custom data sources.
+/// The plan of a run: the data source of each name in `-d`, and the compiled patterns. A name means the built-in data
+/// source of that name, or else the first custom one. The filter is pattern 0, the rewrites of all custom data sources
+/// are the patterns from 1 on.
 ///
 /// # Errors
 ///
-/// `UnknownSource` gives the number, from 1, of the first name that means no data source. `PatternSyntax` and
-/// `PatternTooBig` come only where each name means one, and give a pattern before which each is one of the grammar.
+/// The first of these:
+///
+/// - `UnknownSource` with the number, from 1, of the first name that means no data source,
+/// - `PatternSyntax` or `PatternTooBig` with the number of a pattern that isn't a regular expression, or that was refused
+///   for its size. All patterns with smaller numbers are regular expressions.
+///
+/// `NoMemory` may come at any step.
 pub fn plan<P: Patterns>(
     alloc: Global,
     options: &Options,

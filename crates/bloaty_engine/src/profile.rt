@@ -14,14 +14,20 @@ use size_core::{Limits, Steps};
 use std::alloc::Global;
 use std::sync::ledger::Ledger;
 
-/// Adds the sizes of one file to a total: to each path of labels, over the data sources of the plan, the number of
-/// the file's bytes and of its mapped addresses that pass the filter and have it. `inputfiles` labels them `name`.
+/// Adds the sizes of one file to `total`: for each path of labels, one label for each data source of the plan, the
+/// number of the file's bytes and of its mapped addresses that have this path and pass the filter. `inputfiles` labels
+/// them `name`.
 ///
 /// # Errors
 ///
-/// `Bad` gives the first fault of the file, or else of a data source on it; `TooManyClaims` comes where the claims
-/// of the data sources pass `limits.claims`, at the data source at which they do; `MappedTooLarge` where there is
-/// none of these and the mapped sizes of all files pass 2^63 - 1. After a refusal the total is as it was.
+/// The first of these:
+///
+/// - `Bad`: the first fault of the file,
+/// - `Bad` or `TooManyClaims` of the first data source that has a fault or with which the claims exceed
+///   `limits.claims`,
+/// - `MappedTooLarge`: the mapped sizes of all files exceed 2^63 - 1.
+///
+/// After an error `total` is as before.
 pub fn profile_file<L: Ledger>(
     alloc: Global,
     plan: &Plan,
@@ -35,13 +41,12 @@ pub fn profile_file<L: Ledger>(
     requires depth { total.old.depth ≡ length plan.now.sources }
     requires lengths { total.old.lengths + length file.now ≤ 2 ^ 62 }
 
-    // The first of the file's faults and limits decides, except that memory may run out.
+    // The result is the first fault or exceeded limit of the file, unless memory runs out.
     ensures answer { Answers result
         (viewed total.old.mapped limits.now.claims name.now file.now plan.now.sources) }
     ensures unchanged { OnErr result (total.new ≡ total.old) }
 
-    // For each test of paths (as that a path is this one, or begins so): the sizes of the paths that pass it grow by
-    // the numbers of bytes whose path does.
+    // For every set of paths (`test`), their sizes grow by the number of bytes whose path is in the set.
     ensures file { OnOk result ((f : FileViewSpec) (test : List (List ℕ) → Bool)
         → viewed total.old.mapped limits.now.claims name.now file.now plan.now.sources ≡ Ok f
         → file_where test total.new.rows
@@ -58,7 +63,7 @@ pub fn profile_file<L: Ledger>(
         → viewed total.old.mapped limits.now.claims name.now file.now plan.now.sources ≡ Ok f
         → total.new.mapped ≡ total.old.mapped + mapped_count f.loads) }
 
-    // No more pieces are read than the claims and the loads make, and none where the file or its claims have a fault.
+    // The steps are bounded by the claims and the loads. No step is taken if the file or its claims have a fault.
     ensures cost { (f : FileViewSpec)
         → file_view limits.now.claims name.now file.now plan.now.sources ≡ Ok f
         → steps.new ≤ steps.old + step_bound f }
@@ -68,6 +73,6 @@ pub fn profile_file<L: Ledger>(
 {
     let binary = open_binary(file)?;
     let subject = Subject::new(alloc, name.as_bytes(), binary, None)?;
-    profile_opened(alloc, plan, &subject, total, limits, steps)?;
+    profile_opened(plan, &subject, total, limits, steps)?;
     Ok(())
 }

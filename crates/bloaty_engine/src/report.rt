@@ -26,7 +26,7 @@ use rollup::Rollup;
 use run_outcome::Outcome;
 use size_options::Options;
 
-// How many files there are in all, where the number fits.
+// The number of all files, base files included, if it fits a `usize`.
 fn count_all(options: &Options) -> Option<usize>
     ensures { IfSome result (λ n. n ≡ length (file_names options.now) + length options.now.bases) }
 {
@@ -92,7 +92,7 @@ fn report_of_files<F: Files>(run: &Run, plan: &Plan, files: &mut F) -> Result<Ve
     growth_report(run, plan, &total, files, &mut tally)
 }
 
-// The report of the files: of the one file with its debug file, or of all files.
+// The report of the only file with its debug file, or of all files.
 fn report_over_files<F: Files>(run: &Run, plan: &Plan, files: &mut F) -> Result<Vec<u8>, Outcome>
     requires limits { KeepsLimits run.now.options }
     requires planned { IsPlanned run.now.options plan.now }
@@ -109,7 +109,7 @@ fn report_over_files<F: Files>(run: &Run, plan: &Plan, files: &mut F) -> Result<
     }
 }
 
-// The report of what the options ask: of a location of the one file, or of the files.
+// The explanation of a location, or the report of the files, as the options ask.
 fn report_of_kind<F: Files>(run: &Run, plan: &Plan, files: &mut F) -> Result<Vec<u8>, Outcome>
     requires limits { KeepsLimits run.now.options }
     requires planned { IsPlanned run.now.options plan.now }

@@ -1,10 +1,10 @@
-//! What a run has at hand and what it asks: its options and limits, its configuration, and its plan.
+//! The input of a run: its options and limits, its configuration, and its plan.
 
 ghost use Rattle.std.specs.Prelude.{◌≡◌, ℕ, List, IfOk, IfErr};
 ghost use Rattle.bloaty_engine.specs.Devices.{Builds, Reads};
 ghost use Rattle.bloaty_engine.specs.Named.{IsText};
 ghost use Rattle.file_profile.specs.Plans.{IsPlan};
-ghost use Rattle.bloaty_engine.specs.Reading.{config_names, reading_for};
+ghost use Rattle.bloaty_engine.specs.Reading.{config_reading};
 ghost use Rattle.bloaty_engine.specs.Steps.{EndsConfig, EndsPlan};
 ghost use Rattle.bloaty_engine.specs.Verdict.{config_limit};
 
@@ -19,7 +19,7 @@ use size_core::Limits;
 use size_options::Options;
 use std::alloc::Global;
 
-/// What a run has at hand: its memory, its options and its limits.
+/// The allocator, the options and the limits of a run.
 #[derive(Drop)]
 pub struct Run {
     pub alloc: Global,
@@ -27,19 +27,18 @@ pub struct Run {
     pub limits: Limits,
 }
 
-// The most bytes of a configuration.
+// The largest length of a configuration in bytes.
 fn config_limit(limits: &Limits) -> u64
     ensures { result ≡ config_limit limits.now }
 {
     limits.file.min(1 << 20)
 }
 
-/// The custom data sources of the configuration, if the options name one.
+/// Reads and parses the configuration, if the options name one, and returns its custom data sources.
 pub fn customs_of<F: Files>(run: &Run, files: &mut F) -> Result<Vec<CustomSource>, Outcome>
     ensures read { (text : List ℕ) × IsText (F.held files.old) run.now.options.config text
         × EndsConfig run.now.limits run.now.options.config text result }
-    ensures files { let names = config_names run.now.options.config in
-        let reading = reading_for run.now.limits run.now.options names in
+    ensures files { let reading = config_reading run.now.limits run.now.options in
         Reads F.Files reading result files.old files.new }
 {
     let Some(name) = &run.options.config else {
@@ -59,7 +58,7 @@ pub fn customs_of<F: Files>(run: &Run, files: &mut F) -> Result<Vec<CustomSource
     }
 }
 
-/// What the options ask of each file, with these custom data sources.
+/// The plan for these options and custom data sources.
 pub fn plan_of<P: Patterns>(
     run: &Run,
     customs: &[CustomSource],

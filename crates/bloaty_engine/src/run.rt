@@ -1,11 +1,10 @@
 //! The whole run.
 
 ghost use Rattle.std.specs.Prelude.{◌≡◌, ◌⊎◌, ◌++◌, Ok, codes, false};
-ghost use Rattle.outside.specs.Causes.{Rose};
 ghost use Rattle.outside.specs.Grown.{Grew, GrewByPart};
 ghost use Rattle.size_options.specs.Answers.{KeepsLimits, are_taken};
 ghost use Rattle.size_options.specs.Asked.{asked as options_of};
-ghost use Rattle.size_options.specs.declared.answer.UsageKind.{UsageKind as UsageKindSpec};
+ghost use Rattle.size_options.specs.declared.errors.UsageKind.{UsageKind as UsageKindSpec};
 ghost use Rattle.size_options.specs.Words.{seen_words};
 ghost use Rattle.bloaty_engine.specs.Answers.{IsRun};
 ghost use Rattle.bloaty_engine.specs.Devices.{Builds, CountsWrites, PrintsLine, Reads, ended};
@@ -59,19 +58,19 @@ fn answer<F: Files, P: Patterns, O: Sink>(
     }
 }
 
-// Prints that the arguments are misused.
+// Prints the line for misused arguments.
 fn misused<E: Sink>(err: &mut E, kind: UsageKind) -> Outcome
     ensures is { result ≡ Outcome.Usage kind }
-    ensures told { ¬ Rose (E.faults err.old) (E.faults err.new)
-        → Grew (E.written err.old) (E.written err.new)
-        (codes "bloaty: usage: " ++ usage_text kind ++ codes "\n") }
+    ensures err { let line = codes "bloaty: usage: " ++ usage_text kind ++ codes "\n" in
+        PrintsLine E.Sink line result err.old err.new }
 {
     let _ = tell_usage(err, kind);
     Outcome::Usage(kind)
 }
 
-/// Makes the report that the arguments (`words`) ask for and writes it to `out`, or prints in a line on `err` why not.
-/// File offsets, lengths and sizes are bytes; `patterns` builds the patterns of the configuration and of the filter.
+/// Makes the report that the arguments (`words`) ask for and writes it to `out`. If that fails, it prints one line with
+/// the reason on `err`. File offsets, lengths and sizes are bytes. `patterns` compiles the patterns of the
+/// configuration and the filter.
 ///
 /// A run that returns Done has written the report (`run.written`) in which each row's sizes are the numbers of file
 /// bytes and mapped addresses whose path of labels, by first covering claims, begins with that row's path
@@ -86,12 +85,12 @@ pub fn bloaty<F: Files, P: Patterns, O: Sink, E: Sink>(
     err: &mut E,
     limits: &Limits,
 ) -> Outcome
-    // The arguments and the bytes of the files decide the outcome and what is written, up to the interruptions.
+    // The arguments and the bytes of the files decide the outcome and what is written, unless the run is interrupted.
     ensures run { let given = options_of (seen_words words.now) in
         IsRun (F.held files.old) limits.now given (P.last_refused patterns.new)
         (O.written out.old) (O.written out.new) result }
 
-    // Each interruption has its cause, and no failure is left out.
+    // Each interruption has its cause, and each failure of a device is an interruption.
     ensures words { (result ≡ Outcome.Usage UsageKind.Words)
         → are_taken (seen_words words.now) ≡ false }
     ensures files { let reading = run_reading limits.now (options_of (seen_words words.now)) in

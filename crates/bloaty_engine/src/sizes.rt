@@ -12,7 +12,7 @@ use size_core::{Format, NoMemory};
 use size_options::Options;
 use std::alloc::Global;
 
-// Appends the text of a report's rows.
+// Appends the rows of a report as text, CSV or TSV.
 #[tactic(auto, unfolding(crate::specs::Report::printed))]
 fn append(
     alloc: Global,
@@ -31,7 +31,7 @@ fn append(
     }
 }
 
-/// The report over the sizes of all files.
+/// The report of the sizes of all files.
 pub fn report_of(alloc: Global, options: &Options, total: &Rollup) -> Result<Vec<u8>, NoMemory>
     requires { length options.now.sources ≡ total.now.depth }
     ensures { IfOk result (λ v.

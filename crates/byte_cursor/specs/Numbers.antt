@@ -10,7 +10,7 @@ unfoldable pub field : List ℕ → ℕ → Width → Order → ℕ
 field bytes at w Little = from_le_bytes w (drop at bytes)
 field bytes at w Big = from_be_bytes w (drop at bytes)
 
--- The number of this width at an offset, or none where the bytes end before it does.
+-- The number of this width at an offset, or none if the bytes end before it does.
 abbrev pub num : List ℕ → ℕ → Width → Order → Option ℕ
 num bytes at w order = if nat_lt (length bytes) (at + byte_len w) then None else Some (field bytes at w order)
 
@@ -25,7 +25,7 @@ leb (b ∷ bytes) = if nat_lt b 128 then Some (b, 1) else option_map (λ x. (b %
 abbrev pub uleb : List ℕ → ℕ → Option (ℕ × ℕ)
 uleb bytes at = leb (drop at bytes)
 
--- A number of k digits in base 128 as a signed number: less 128^k where bit 0x40 of its last byte is set
+-- A number of k digits in base 128 as a signed number: less 128^k if bit 0x40 of its last byte is set
 -- (DWARF 5, section 7.6).
 abbrev pub signed : ℕ → ℕ → ℕ → ℤ
 signed last k n = if nat_lt last 64 then pos n else pos n -ℤ pos (128 ^ k)

@@ -93,7 +93,7 @@ impl<'a> Cursor<'a> {
     }
 
     /// Returns a cursor at the start of a window of `len` bytes, from byte `start` of this window on.
-    /// Truncated where these bytes don't lie in this window.
+    /// Truncated if these bytes don't lie in this window.
     pub fn sub(&self, start: u64, len: u64) -> Result<Cursor<'a>, BadFile>
         ensures { result ≡ sub_window self.now start len }
     {
@@ -109,7 +109,7 @@ impl<'a> Cursor<'a> {
         })
     }
 
-    /// Returns a cursor over the next `len` bytes, and moves past them. Truncated where fewer are left.
+    /// Returns a cursor over the next `len` bytes, and moves past them. Truncated if fewer are left.
     pub fn take(&mut self, len: u64) -> Result<Cursor<'a>, BadFile>
         ensures value { result ≡ sub_window self.old self.old.at len }
         ensures after { self.new ≡ moved self.old (is_ok result) len }
@@ -119,7 +119,7 @@ impl<'a> Cursor<'a> {
         Ok(window)
     }
 
-    /// Moves past `count` bytes. Truncated where fewer are left.
+    /// Moves past `count` bytes. Truncated if fewer are left.
     pub fn skip(&mut self, count: u64) -> Result<(), BadFile>
         ensures value { result ≡ skipped self.old count }
         ensures after { self.new ≡ moved self.old (is_ok result) count }
@@ -131,7 +131,7 @@ impl<'a> Cursor<'a> {
         Ok(())
     }
 
-    /// Reads one byte. Truncated where none is left.
+    /// Reads one byte. Truncated if none is left.
     pub fn u8(&mut self) -> Result<u8, BadFile>
         ensures value { result ≡ whole (num self.old.bytes self.old.at w8 Little) (place_of self.old) }
         ensures after { self.new ≡ moved self.old (is_ok result) 1 }
@@ -144,7 +144,7 @@ impl<'a> Cursor<'a> {
         Ok(value)
     }
 
-    /// Reads a number of two bytes. Truncated where fewer are left.
+    /// Reads a number of two bytes. Truncated if fewer are left.
     pub fn u16(&mut self, order: Order) -> Result<u16, BadFile>
         ensures value { result ≡ whole (num self.old.bytes self.old.at w16 order) (place_of self.old) }
         ensures after { self.new ≡ moved self.old (is_ok result) 2 }
@@ -157,7 +157,7 @@ impl<'a> Cursor<'a> {
         Ok(value)
     }
 
-    /// Reads a number of four bytes. Truncated where fewer are left.
+    /// Reads a number of four bytes. Truncated if fewer are left.
     pub fn u32(&mut self, order: Order) -> Result<u32, BadFile>
         ensures value { result ≡ whole (num self.old.bytes self.old.at w32 order) (place_of self.old) }
         ensures after { self.new ≡ moved self.old (is_ok result) 4 }
@@ -170,7 +170,7 @@ impl<'a> Cursor<'a> {
         Ok(value)
     }
 
-    /// Reads a number of eight bytes. Truncated where fewer are left.
+    /// Reads a number of eight bytes. Truncated if fewer are left.
     pub fn u64(&mut self, order: Order) -> Result<u64, BadFile>
         ensures value { result ≡ whole (num self.old.bytes self.old.at w64 order) (place_of self.old) }
         ensures after { self.new ≡ moved self.old (is_ok result) 8 }
@@ -183,8 +183,8 @@ impl<'a> Cursor<'a> {
         Ok(value)
     }
 
-    /// Reads an unsigned LEB128 number of any length (DWARF 5, section 7.6). Truncated where no byte with a
-    /// clear top bit is left, and BadLeb where there is one and the number is above 2^64 - 1.
+    /// Reads an unsigned LEB128 number of any length (DWARF 5, section 7.6). Truncated if no byte with a
+    /// clear top bit is left, and BadLeb if there is one and the number is above 2^64 - 1.
     pub fn uleb(&mut self) -> Result<u64, BadFile>
         ensures value { result ≡ unsigned_value (uleb self.old.bytes self.old.at) (place_of self.old) }
         ensures after { self.new ≡ moved self.old (is_ok result) (leb_len (uleb self.old.bytes self.old.at)) }
@@ -200,8 +200,8 @@ impl<'a> Cursor<'a> {
         Ok(value)
     }
 
-    /// Reads a signed LEB128 number of any length (DWARF 5, section 7.6). Truncated where no byte with a
-    /// clear top bit is left, and BadLeb where there is one and the number is below -2^63 or above 2^63 -
+    /// Reads a signed LEB128 number of any length (DWARF 5, section 7.6). Truncated if no byte with a
+    /// clear top bit is left, and BadLeb if there is one and the number is below -2^63 or above 2^63 -
     /// 1.
     pub fn sleb(&mut self) -> Result<i64, BadFile>
         ensures value { result ≡ signed_value (sleb self.old.bytes self.old.at) (place_of self.old) }
@@ -218,7 +218,7 @@ impl<'a> Cursor<'a> {
         Ok(value)
     }
 
-    /// Returns the bytes before the next zero byte, and moves past that byte. Truncated where there is no
+    /// Returns the bytes before the next zero byte, and moves past that byte. Truncated if there is no
     /// zero byte.
     #[tactic(auto, unfolding(crate::specs::Numbers::text))]
     pub fn cstr(&mut self) -> Result<&'a [u8], BadFile>

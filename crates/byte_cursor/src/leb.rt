@@ -24,7 +24,7 @@ pub fn last_digit(bytes: &[u8]) -> Option<usize>
 }
 
 /// Returns the number with the low seven bits of `byte` as its lowest digit and `high` above it. `None`
-/// where it doesn't fit 64 bits.
+/// if it doesn't fit 64 bits.
 fn with_digit(high: Option<u64>, byte: u8) -> Option<u64>
     ensures { (x : ℕ) → SomeIff high (x < 2 ^ 64) x
         → SomeIff result (byte % 128 + 128 * x < 2 ^ 64) (byte % 128 + 128 * x) }
@@ -35,7 +35,7 @@ fn with_digit(high: Option<u64>, byte: u8) -> Option<u64>
     }
 }
 
-/// Returns the unsigned number in the bytes up to index `last`. `None` where it doesn't fit 64 bits.
+/// Returns the unsigned number in the bytes up to index `last`. `None` if it doesn't fit 64 bits.
 pub fn unsigned(bytes: &[u8], last: usize) -> Option<u64>
     requires within { last < length bytes.now }
     requires end { slice_index bytes.now last < 128 }
@@ -64,7 +64,7 @@ fn signed_digit(byte: u8) -> i64
 }
 
 /// Returns the signed number with the low seven bits of `byte` as its lowest digit and `high` above it.
-/// `None` where it doesn't fit 64 bits.
+/// `None` if it doesn't fit 64 bits.
 fn with_signed_digit(high: Option<i64>, byte: u8) -> Option<i64>
     ensures { (z : ℤ) → SomeIff high (FitsSigned w64 z) z
         → SomeIff result (FitsSigned w64 (pos (byte % 128) +ℤ pos 128 *ℤ z)) (pos (byte % 128) +ℤ pos 128 *ℤ z) }
@@ -73,7 +73,7 @@ fn with_signed_digit(high: Option<i64>, byte: u8) -> Option<i64>
     scaled.checked_add((byte % 128) as i64)
 }
 
-/// Returns the signed number in the bytes up to index `last`. `None` where it doesn't fit 64 bits.
+/// Returns the signed number in the bytes up to index `last`. `None` if it doesn't fit 64 bits.
 pub fn signed(bytes: &[u8], last: usize) -> Option<i64>
     requires within { last < length bytes.now }
     requires end { slice_index bytes.now last < 128 }

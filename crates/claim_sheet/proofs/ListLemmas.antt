@@ -7,7 +7,7 @@ use Rattle.claim_sheet.specs.Sheets.{Sheet, adding}
 use Rattle.claim_sheet.proofs.LoopLemmas.{list_goes}
 use Rattle.claim_sheet.proofs.SheetLemmas.{adding_none}
 
--- where no item is left, nothing is added
+-- if no item is left, nothing is added
 module _ {A : Type 0} (f : A → List LabelledClaim) where
   pub none_left : (s : Sheet) (xs : List A) → xs ≡ [] → adding s (flat_map f xs) ≡ s
   none_left s xs none = rw none (adding_none s)

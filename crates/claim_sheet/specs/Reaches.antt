@@ -57,7 +57,7 @@ claim_of r label = record { side = r.side; vm = r.vm; file = r.file; label = lab
 abbrev pub claim_on : Reach → List ℕ → List LabelledClaim
 claim_on r label = if is_empty r then [] else claim_of r label ∷ []
 
--- The same, with no claim where there is nothing to cover.
+-- The same, with no claim if there is nothing to cover.
 abbrev pub claim_on_some : Option Reach → List ℕ → List LabelledClaim
 claim_on_some None label = []
 claim_on_some (Some r) label = claim_on r label

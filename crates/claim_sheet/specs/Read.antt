@@ -1,4 +1,4 @@
--- What several records yield in order, where reading each may fail.
+-- What several records yield in order, if reading each may fail.
 use Rattle.std.specs.Prelude.{ℕ, zero, suc, ◌+◌, List, [], ◌∷◌, ◌++◌, Result, Ok}
 use Rattle.size_core.specs.declared.fault.BadFile.{BadFile}
 use Rattle.size_core.specs.Checks.{◌>>=◌}

@@ -1,5 +1,5 @@
 -- The sheet of claims, as contracts see it.
-use Rattle.std.specs.Prelude.{ℕ, ◌≤◌, Bool, true, false, nat_lt, List, [], ◌∷◌, ◌++◌, length, Result, Ok, Err, if◌then◌else◌}
+use Rattle.std.specs.Prelude.{◌≡◌, ℕ, ◌≤◌, Bool, true, false, nat_lt, List, [], ◌∷◌, ◌++◌, length, Result, Ok, Err, if◌then◌else◌}
 use Rattle.std.specs.List.{filter}
 use Rattle.size_core.specs.declared.claim.Claim.{Claim}
 use Rattle.size_core.specs.declared.claim.Side.{Side}
@@ -59,9 +59,11 @@ read_on_addresses (Ok made) = Ok (on_addresses made)
 read_on_addresses (Err bad) = Err bad
 
 -- The invariant of a sheet: the pool still has the labels that it had at first; each later label is used by a claim;
--- the label of each claim is a number in the pool; and there are at most `limit` claims.
-pub record IsSheet (pool : List (List ℕ)) (first : ℕ) (claims : List Claim) (limit : ℕ) : Type 0 where
+-- the label of each claim is a number in the pool; there are at most `limit` claims; and if a claim was dropped, there
+-- are as many.
+pub record IsSheet (pool : List (List ℕ)) (first : ℕ) (claims : List Claim) (limit : ℕ) (over : Bool) : Type 0 where
   pub within : first ≤ length pool
   pub numbered : AreNumbered pool claims
   pub used : AreUsed first pool claims
   pub few : length claims ≤ limit
+  pub full : over ≡ true → limit ≤ length claims

@@ -3,12 +3,14 @@
 //! format.
 #![tactic(auto)]
 
+mod known;
 mod labels;
 mod push;
 mod reach;
 mod sheet;
 mod stop;
 
+pub use known::KnownLabel;
 pub use labels::{Wrap, append};
 pub use reach::{Reach, span};
 pub use sheet::{ClaimSheet, TooMany};

@@ -41,7 +41,8 @@ pub fn push(
         ≡ texts pool.old claims.old.items ++ claim_of reach label.now ∷ []) }
     ensures few { length claims.new.items ≤ length claims.old.items + 1 }
     ensures numbered { AreNumbered pool.new claims.new.items }
-    ensures used { (first : ℕ) → AreUsed first pool.old claims.old.items → AreUsed first pool.new claims.new.items }
+    ensures used { (first : ℕ) → AreUsed first pool.old claims.old.items
+        → AreUsed first pool.new claims.new.items }
     ensures kept { KeepsLabels pool.old pool.new }
     ensures same_claims { OnErr result (claims.new.items ≡ claims.old.items) }
     ensures same_pool { OnErr result (pool.new ≡ pool.old) }
@@ -72,7 +73,8 @@ pub fn push_wrapped(
         ≡ texts pool.old claims.old.items ++ claim_of reach (wrapped wrap label.now) ∷ []) }
     ensures few { length claims.new.items ≤ length claims.old.items + 1 }
     ensures numbered { AreNumbered pool.new claims.new.items }
-    ensures used { (first : ℕ) → AreUsed first pool.old claims.old.items → AreUsed first pool.new claims.new.items }
+    ensures used { (first : ℕ) → AreUsed first pool.old claims.old.items
+        → AreUsed first pool.new claims.new.items }
     ensures kept { KeepsLabels pool.old pool.new }
     ensures same_claims { OnErr result (claims.new.items ≡ claims.old.items) }
     ensures same_pool { OnErr result (pool.new ≡ pool.old) }

@@ -1,9 +1,11 @@
 //! The sheet that collects claims.
 
-ghost use Rattle.std.specs.Prelude.{◌≡◌, ◌≤◌, true, false, length, OnErr, IfOk, MatchResult};
+ghost use Rattle.std.specs.Prelude.{◌≡◌, ◌<◌, ◌≤◌, true, false, List, [], ◌∷◌, length, get_or, OnErr, IfOk, MatchResult};
+ghost use Rattle.size_model.specs.declared.view.LabelledClaim.{LabelledClaim};
 ghost use Rattle.claim_sheet.specs.Adds.{Adds};
+ghost use Rattle.claim_sheet.specs.Known.{AreAdded, claims_between, label_at};
 ghost use Rattle.claim_sheet.specs.Made.{AreNumbered, AreUsed, KeepsLabels, texts};
-ghost use Rattle.claim_sheet.specs.Reaches.{claim_on, claim_on_some, wrapped};
+ghost use Rattle.claim_sheet.specs.Reaches.{claim_of, claim_on, claim_on_some, wrapped};
 ghost use Rattle.claim_sheet.specs.Sheets.{fresh, fresh_on_addresses, is_taken};
 
 use crate::labels::Wrap;
@@ -39,9 +41,15 @@ impl Model for ClaimSheet {
 
     ghost Value = { Sheet };
 
-    ghost view = { λ s. record { pool = take s.first s.pool; limit = s.limit; addresses_only = s.addresses_only; made = texts s.pool s.claims.items; over = s.over } };
+    ghost view = { λ s. record {
+      pool = take s.first s.pool;
+      limit = s.limit;
+      addresses_only = s.addresses_only;
+      made = texts s.pool s.claims.items;
+      over = s.over;
+    } };
 
-    ghost invariant = { λ s. IsSheet s.pool s.first s.claims.items s.limit };
+    ghost invariant = { λ s. IsSheet s.pool s.first s.claims.items s.limit s.over };
 }
 
 // Returns whether a sheet takes a claim on this side.
@@ -115,13 +123,99 @@ impl ClaimSheet {
         wrap: Wrap,
         label: &[u8],
     ) -> Result<(), NoMemory>
-        ensures adds { Adds result self.old self.new (claim_on_some reach (wrapped wrap label.now)) }
+        ensures adds { Adds result self.old self.new
+            (claim_on_some reach (wrapped wrap label.now)) }
         ensures same { OnErr result (self.new ≡ self.old) }
     {
         match reach {
             Some(reach) => self.add(reach, wrap, label),
             None => Ok(()),
         }
+    }
+
+    /// Returns the number of claims that were kept.
+    pub fn len(&self) -> usize
+        ensures { result ≡ length self.now.made }
+    {
+        self.claims.len()
+    }
+
+    // Returns the bytes and addresses of the claim at a position.
+    fn reach_at(&self, position: usize) -> Reach
+        requires { position < length self.now.made }
+        ensures { (other : LabelledClaim) → get_or self.now.made position other
+            ≡ claim_of result (label_at self.now.made position) }
+    {
+        let claim = &self.claims[position];
+        Reach {
+            side: claim.side,
+            vm: claim.vm,
+            file: claim.file,
+        }
+    }
+
+    // Adds a claim under the label of the claim at a position, even if it covers nothing.
+    fn keep_like(&mut self, reach: Reach, position: usize) -> Result<(), NoMemory>
+        requires { position < length self.old.made }
+        ensures adds { Adds result self.old self.new
+            (claim_of reach (label_at self.old.made position) ∷ []) }
+        ensures same { OnErr result (self.new ≡ self.old) }
+    {
+        if !is_taken(self.addresses_only, reach.side) {
+            return Ok(());
+        }
+        if self.limit <= self.claims.len() as u64 {
+            self.over = true;
+            return Ok(());
+        }
+        let label = self.claims[position].label;
+        self.claims.push(Claim {
+            side: reach.side,
+            vm: reach.vm,
+            file: reach.file,
+            label,
+        })?;
+        Ok(())
+    }
+
+    /// Adds a claim under the label of the claim at a position. The label isn't looked up. A claim that covers nothing
+    /// is dropped.
+    pub fn add_like(&mut self, reach: Reach, position: usize) -> Result<(), NoMemory>
+        requires { position < length self.old.made }
+        ensures adds { Adds result self.old self.new
+            (claim_on reach (label_at self.old.made position)) }
+        ensures same { OnErr result (self.new ≡ self.old) }
+    {
+        if reach.is_empty() {
+            return Ok(());
+        }
+        self.keep_like(reach, position)
+    }
+
+    // Adds the claims from one position up to another again.
+    fn repeat(&mut self, first: usize, end: usize) -> Result<(), NoMemory>
+        requires order { first ≤ end }
+        requires within { end ≤ length self.old.made }
+        ensures { Adds result self.old self.new (claims_between self.old.made first end) }
+    {
+        for position in first..end {
+            let reach = self.reach_at(position);
+            self.keep_like(reach, position)?;
+        }
+        Ok(())
+    }
+
+    /// Adds claims again that were added between two positions. They are copied, and their labels aren't looked up.
+    pub fn add_again(&mut self, first: usize, end: usize) -> Result<(), NoMemory>
+        requires order { first ≤ end }
+        requires within { end ≤ length self.old.made }
+        ensures { (claims : List LabelledClaim) → AreAdded self.old first end claims
+            → Adds result self.old self.new claims }
+    {
+        if self.over {
+            return Ok(());
+        }
+        self.repeat(first, end)
     }
 
     /// Returns the claims, or TooMany if there were more than the limit. The pool gets its labels back, and the labels

@@ -7,9 +7,9 @@ use Rattle.config_text.specs.Tokens.{Token, Word, Quoted, Mark, Broken, Stray, E
 use Rattle.config_text.specs.declared.config.ConfigKind.TheVariants.{Syntax}
 use Rattle.config_text.specs.Grammar.{Field, Draft, is_the_mark, at_value, bad, Value}
 use Rattle.config_text.specs.Config.{sources_from, sources_after}
-use Rattle.config_text.specs.Reads.{begins_token, begins_string, begins_name, Stands}
+use Rattle.config_text.specs.Reads.{begins_token, begins_string, begins_name, IsAhead}
 
--- A choice by a test.
+-- What holds for both branches holds for the choice between them.
 pub chosen : {A : Type 0} (P : A → Type 0) (b : Bool) (x y : A) → (b ≡ true → P x) → (b ≡ false → P y) → P (if b then x else y)
 chosen P true x y first second = first refl
 chosen P false x y first second = second refl
@@ -42,67 +42,67 @@ word_spelled (c ∷ cs) (suc k) start at name within inside end =
 
 -- TOKENS BY THEIR FIRST BYTE
 
-word_stands : (test : Token → Bool) → ((n : List ℕ) → test (Word n) ≡ true) → (cs : List ℕ) (start : ℕ) (name : List ℕ) (at : ℕ)
-    → Stands test start (joined (spelled cs (InWord start name) at))
-word_stands test holds [] start name at = record { token = Word name; behind = (at, End) ∷ []; is = refl; holds = holds name }
-word_stands test holds (c ∷ cs) start name at =
-    let P : List Placed → Type 0 = λ (ts : List Placed). Stands test start (joined ts) in
-    chosen P (is_in_word c) _ _ (λ _. word_stands test holds cs start (name ++ c ∷ []) (at + 1))
-    (λ _. record { token = Word name; behind = joined (spelled (c ∷ cs) Between at); is = refl; holds = holds name })
+word_is_ahead : (test : Token → Bool) → ((n : List ℕ) → test (Word n) ≡ true) → (cs : List ℕ) (start : ℕ) (name : List ℕ) (at : ℕ)
+    → IsAhead test start (joined (spelled cs (InWord start name) at))
+word_is_ahead test holds [] start name at = record { token = Word name; later = (at, End) ∷ []; is = refl; holds = holds name }
+word_is_ahead test holds (c ∷ cs) start name at =
+    let P : List Placed → Type 0 = λ (ts : List Placed). IsAhead test start (joined ts) in
+    chosen P (is_in_word c) _ _ (λ _. word_is_ahead test holds cs start (name ++ c ∷ []) (at + 1))
+    (λ _. record { token = Word name; later = joined (spelled (c ∷ cs) Between at); is = refl; holds = holds name })
 
 -- A test that holds of each token with this first byte holds of the token.
 module _ (test : Token → Bool) (value_holds : (v : List ℕ) → test (Quoted v) ≡ true) (broken_holds : (q : ℕ) → test (Broken q) ≡ true) where
-  string_stands : (cs : List ℕ) (quote start : ℕ) (value : List ℕ) (at : ℕ)
-      → Stands test start (spelled cs (InString quote start value) at) × Stands test start (spelled cs (InEscape quote start value) at)
-  string_stands [] quote start value at = (
-    record { token = Broken start; behind = []; is = refl; holds = broken_holds start },
-    record { token = Broken start; behind = []; is = refl; holds = broken_holds start },
+  string_is_ahead : (cs : List ℕ) (quote start : ℕ) (value : List ℕ) (at : ℕ)
+      → IsAhead test start (spelled cs (InString quote start value) at) × IsAhead test start (spelled cs (InEscape quote start value) at)
+  string_is_ahead [] quote start value at = (
+    record { token = Broken start; later = []; is = refl; holds = broken_holds start },
+    record { token = Broken start; later = []; is = refl; holds = broken_holds start },
   )
-  string_stands (c ∷ cs) quote start value at =
-      let P : List Placed → Type 0 = Stands test start in
-      let broken : P ((start, Broken start) ∷ []) = record { token = Broken start; behind = []; is = refl; holds = broken_holds start } in (
-        chosen P (c == quote) _ _ (λ _. record { token = Quoted value; behind = spelled cs Between (at + 1); is = refl; holds = value_holds value })
-            (λ _. chosen P (c == 92) _ _ (λ _. (string_stands cs quote start value (at + 1)).1)
-            (λ _. chosen P (c == 10) _ _ (λ _. broken) (λ _. (string_stands cs quote start (value ++ c ∷ []) (at + 1)).0))),
+  string_is_ahead (c ∷ cs) quote start value at =
+      let P : List Placed → Type 0 = IsAhead test start in
+      let broken : P ((start, Broken start) ∷ []) = record { token = Broken start; later = []; is = refl; holds = broken_holds start } in (
+        chosen P (c == quote) _ _ (λ _. record { token = Quoted value; later = spelled cs Between (at + 1); is = refl; holds = value_holds value })
+            (λ _. chosen P (c == 92) _ _ (λ _. (string_is_ahead cs quote start value (at + 1)).1)
+            (λ _. chosen P (c == 10) _ _ (λ _. broken) (λ _. (string_is_ahead cs quote start (value ++ c ∷ []) (at + 1)).0))),
         elim (escaped c) as (λ (o : Option ℕ). P (from_escape (λ next. spelled cs next (at + 1)) quote start value o))
-            [ Some x ↦ (string_stands cs quote start (value ++ x ∷ []) (at + 1)).0 | None ↦ broken ],
+            [ Some x ↦ (string_is_ahead cs quote start (value ++ x ∷ []) (at + 1)).0 | None ↦ broken ],
       )
 
-  quoted_stands : (start : ℕ) (v : List ℕ) (ts : List Placed) → Stands test start (quoted_before start v ts)
-  quoted_stands start v [] = record { token = Quoted v; behind = []; is = refl; holds = value_holds v }
-  quoted_stands start v ((next, Quoted more) ∷ ts) = record { token = Quoted (v ++ more); behind = ts; is = refl; holds = value_holds (v ++ more) }
-  quoted_stands start v ((next, Broken quote) ∷ ts) = record { token = Broken quote; behind = ts; is = refl; holds = broken_holds quote }
-  quoted_stands start v ((next, Word name) ∷ ts) = record { token = Quoted v; behind = (next, Word name) ∷ ts; is = refl; holds = value_holds v }
-  quoted_stands start v ((next, Mark byte) ∷ ts) = record { token = Quoted v; behind = (next, Mark byte) ∷ ts; is = refl; holds = value_holds v }
-  quoted_stands start v ((next, Stray) ∷ ts) = record { token = Quoted v; behind = (next, Stray) ∷ ts; is = refl; holds = value_holds v }
-  quoted_stands start v ((next, End) ∷ ts) = record { token = Quoted v; behind = (next, End) ∷ ts; is = refl; holds = value_holds v }
+  quoted_is_ahead : (start : ℕ) (v : List ℕ) (ts : List Placed) → IsAhead test start (quoted_before start v ts)
+  quoted_is_ahead start v [] = record { token = Quoted v; later = []; is = refl; holds = value_holds v }
+  quoted_is_ahead start v ((next, Quoted more) ∷ ts) = record { token = Quoted (v ++ more); later = ts; is = refl; holds = value_holds (v ++ more) }
+  quoted_is_ahead start v ((next, Broken quote) ∷ ts) = record { token = Broken quote; later = ts; is = refl; holds = broken_holds quote }
+  quoted_is_ahead start v ((next, Word name) ∷ ts) = record { token = Quoted v; later = (next, Word name) ∷ ts; is = refl; holds = value_holds v }
+  quoted_is_ahead start v ((next, Mark byte) ∷ ts) = record { token = Quoted v; later = (next, Mark byte) ∷ ts; is = refl; holds = value_holds v }
+  quoted_is_ahead start v ((next, Stray) ∷ ts) = record { token = Quoted v; later = (next, Stray) ∷ ts; is = refl; holds = value_holds v }
+  quoted_is_ahead start v ((next, End) ∷ ts) = record { token = Quoted v; later = (next, End) ∷ ts; is = refl; holds = value_holds v }
 
-  before_stands : (start : ℕ) (t : Token) (ts : List Placed) → test t ≡ true → Stands test start (before start t ts)
-  before_stands start (Quoted v) ts holds = quoted_stands start v ts
-  before_stands start (Word name) ts holds = record { token = Word name; behind = ts; is = refl; holds = holds }
-  before_stands start (Mark byte) ts holds = record { token = Mark byte; behind = ts; is = refl; holds = holds }
-  before_stands start (Broken quote) ts holds = record { token = Broken quote; behind = ts; is = refl; holds = holds }
-  before_stands start Stray ts holds = record { token = Stray; behind = ts; is = refl; holds = holds }
-  before_stands start End ts holds = record { token = End; behind = ts; is = refl; holds = holds }
+  before_is_ahead : (start : ℕ) (t : Token) (ts : List Placed) → test t ≡ true → IsAhead test start (before start t ts)
+  before_is_ahead start (Quoted v) ts holds = quoted_is_ahead start v ts
+  before_is_ahead start (Word name) ts holds = record { token = Word name; later = ts; is = refl; holds = holds }
+  before_is_ahead start (Mark byte) ts holds = record { token = Mark byte; later = ts; is = refl; holds = holds }
+  before_is_ahead start (Broken quote) ts holds = record { token = Broken quote; later = ts; is = refl; holds = holds }
+  before_is_ahead start Stray ts holds = record { token = Stray; later = ts; is = refl; holds = holds }
+  before_is_ahead start End ts holds = record { token = End; later = ts; is = refl; holds = holds }
 
-  joined_stands : (start : ℕ) (ts : List Placed) → Stands test start ts → Stands test start (joined ts)
-  joined_stands start ts s =
-      let P : List Placed → Type 0 = λ (xs : List Placed). Stands test start (joined xs) in
-      subst P (sym s.is) (before_stands start s.token (joined s.behind) s.holds)
+  joined_is_ahead : (start : ℕ) (ts : List Placed) → IsAhead test start ts → IsAhead test start (joined ts)
+  joined_is_ahead start ts s =
+      let P : List Placed → Type 0 = λ (xs : List Placed). IsAhead test start (joined xs) in
+      subst P (sym s.is) (before_is_ahead start s.token (joined s.later) s.holds)
 
 -- A byte that is part of a token.
-byte_stands : (test : Token → Bool) (at c : ℕ) (cs : List ℕ) → is_blank c ≡ false → (c == 35) ≡ false → (is_mark c ≡ true → test (Mark c) ≡ true)
+byte_is_ahead : (test : Token → Bool) (at c : ℕ) (cs : List ℕ) → is_blank c ≡ false → (c == 35) ≡ false → (is_mark c ≡ true → test (Mark c) ≡ true)
     → (begins_word c ≡ true → (n : List ℕ) → test (Word n) ≡ true) → (is_quote c ≡ true → (v : List ℕ) → test (Quoted v) ≡ true)
-    → (is_quote c ≡ true → (q : ℕ) → test (Broken q) ≡ true) → test Stray ≡ true → Stands test at (joined (spelled (c ∷ cs) Between at))
-byte_stands test at c cs full code mark_holds word_holds value_holds broken_holds stray_holds =
-    let P : List Placed → Type 0 = λ (ts : List Placed). Stands test at (joined ts) in
+    → (is_quote c ≡ true → (q : ℕ) → test (Broken q) ≡ true) → test Stray ≡ true → IsAhead test at (joined (spelled (c ∷ cs) Between at))
+byte_is_ahead test at c cs full code mark_holds word_holds value_holds broken_holds stray_holds =
+    let P : List Placed → Type 0 = λ (ts : List Placed). IsAhead test at (joined ts) in
     chosen P (is_blank c) _ _ (λ e. cc)
     (λ _. chosen P (c == 35) _ _ (λ e. cc)
-    (λ _. chosen P (is_mark c) _ _ (λ e. record { token = Mark c; behind = joined (spelled cs Between (at + 1)); is = refl; holds = mark_holds e })
-    (λ _. chosen P (begins_word c) _ _ (λ e. word_stands test (word_holds e) cs at (c ∷ []) (at + 1))
+    (λ _. chosen P (is_mark c) _ _ (λ e. record { token = Mark c; later = joined (spelled cs Between (at + 1)); is = refl; holds = mark_holds e })
+    (λ _. chosen P (begins_word c) _ _ (λ e. word_is_ahead test (word_holds e) cs at (c ∷ []) (at + 1))
     (λ _. chosen P (is_quote c) _ _
-    (λ e. joined_stands test (value_holds e) (broken_holds e) at _ (string_stands test (value_holds e) (broken_holds e) cs c at [] (at + 1)).0)
-    (λ _. record { token = Stray; behind = []; is = refl; holds = stray_holds })))))
+    (λ e. joined_is_ahead test (value_holds e) (broken_holds e) at _ (string_is_ahead test (value_holds e) (broken_holds e) cs c at [] (at + 1)).0)
+    (λ _. record { token = Stray; later = []; is = refl; holds = stray_holds })))))
 
 both_parts : (a b : Bool) → (not a && not b) ≡ true → (a ≡ false) × (b ≡ false)
 both_parts true b h = cc
@@ -110,16 +110,16 @@ both_parts false true h = cc
 both_parts false false h = (refl, refl)
 
 -- A test that holds of each token that the first byte can begin holds of the token.
-pub first_stands : (test : Token → Bool) (at : ℕ) (rest : List ℕ) → begins_token rest ≡ true
+pub first_is_ahead : (test : Token → Bool) (at : ℕ) (rest : List ℕ) → begins_token rest ≡ true
     → (rest ≡ [] → test End ≡ true) → ((c : ℕ) (cs : List ℕ) → rest ≡ c ∷ cs → is_mark c ≡ true → test (Mark c) ≡ true)
     → (begins_name rest ≡ true → (n : List ℕ) → test (Word n) ≡ true) → (begins_string rest ≡ true → (v : List ℕ) → test (Quoted v) ≡ true)
-    → (begins_string rest ≡ true → (q : ℕ) → test (Broken q) ≡ true) → test Stray ≡ true → Stands test at (tokens at rest)
+    → (begins_string rest ≡ true → (q : ℕ) → test (Broken q) ≡ true) → test Stray ≡ true → IsAhead test at (tokens at rest)
 unfolding tokens
-first_stands test at [] begins end_holds mark_holds word_holds value_holds broken_holds stray_holds =
-    record { token = End; behind = []; is = refl; holds = end_holds refl }
-first_stands test at (c ∷ cs) begins end_holds mark_holds word_holds value_holds broken_holds stray_holds =
+first_is_ahead test at [] begins end_holds mark_holds word_holds value_holds broken_holds stray_holds =
+    record { token = End; later = []; is = refl; holds = end_holds refl }
+first_is_ahead test at (c ∷ cs) begins end_holds mark_holds word_holds value_holds broken_holds stray_holds =
     let parts = both_parts (is_blank c) (c == 35) begins in
-    byte_stands test at c cs parts.0 parts.1 (mark_holds c cs refl) word_holds value_holds broken_holds stray_holds
+    byte_is_ahead test at c cs parts.0 parts.1 (mark_holds c cs refl) word_holds value_holds broken_holds stray_holds
 
 rest_taken : (c : ℕ) (cs : List ℕ) → take (length (c ∷ cs) - 1) (drop 1 (c ∷ cs)) ≡ cs
 rest_taken c cs = grind (arith, common_steps)
@@ -191,9 +191,9 @@ is_no_string Stray = true
 is_no_string End = true
 
 -- The next token isn't a string.
-no_string_ahead : (at : ℕ) (rest : List ℕ) → begins_token rest ≡ true → begins_string rest ≡ false → Stands is_no_string at (tokens at rest)
+no_string_ahead : (at : ℕ) (rest : List ℕ) → begins_token rest ≡ true → begins_string rest ≡ false → IsAhead is_no_string at (tokens at rest)
 no_string_ahead at rest begins other =
-    first_stands is_no_string at rest begins (λ _. refl) (λ c cs is mark. refl) (λ _ n. refl) (λ e v. cc) (λ e q. cc) refl
+    first_is_ahead is_no_string at rest begins (λ _. refl) (λ c cs is mark. refl) (λ _ n. refl) (λ e v. cc) (λ e q. cc) refl
 
 quoted_before_other : (start : ℕ) (v : List ℕ) (at : ℕ) (t : Token) (ts : List Placed) → is_no_string t ≡ true
     → quoted_before start v ((at, t) ∷ ts) ≡ (start, Quoted v) ∷ (at, t) ∷ ts
@@ -204,13 +204,13 @@ quoted_before_other start v at (Mark byte) ts other = refl
 quoted_before_other start v at Stray ts other = refl
 quoted_before_other start v at End ts other = refl
 
--- A value ends where no string follows it.
+-- A value ends if no string follows it.
 pub value_ends : (start : ℕ) (v : List ℕ) (p : Place) → begins_token p.rest ≡ true → begins_string p.rest ≡ false
     → quoted_before start v (ahead p) ≡ (start, Quoted v) ∷ ahead p
 value_ends start v p begins other =
     let s = no_string_ahead p.at p.rest begins other in
     let P : List Placed → Type 0 = λ (ts : List Placed). quoted_before start v ts ≡ (start, Quoted v) ∷ ts in
-    subst P (sym s.is) (quoted_before_other start v p.at s.token s.behind s.holds)
+    subst P (sym s.is) (quoted_before_other start v p.at s.token s.later s.holds)
 
 other_value : (field : Field) (d : Draft) (at : ℕ) (t : Token) → is_no_string t ≡ true → at_value field d at t ≡ bad Syntax at
 other_value field d at (Quoted value) other = cc
@@ -220,13 +220,13 @@ other_value field d at (Mark byte) other = refl
 other_value field d at Stray other = refl
 other_value field d at End other = refl
 
--- A value is missing where no string begins.
+-- A value is missing if no string begins.
 pub value_missing : (field : Field) (d : Draft) (p : Place) → begins_token p.rest ≡ true → begins_string p.rest ≡ false
     → sources_from (ahead p) (Value field) d ≡ Err (Syntax, p.at)
 value_missing field d p begins other =
     let s = no_string_ahead p.at p.rest begins other in
     ap (λ (ts : List Placed). sources_from ts (Value field) d) s.is
-    ∙ ap (sources_after s.behind) (other_value field d p.at s.token s.holds)
+    ∙ ap (sources_after s.later) (other_value field d p.at s.token s.holds)
 
 -- A string after a value can't be read.
 pub value_broken : (start quote at : ℕ) (v : List ℕ) (p : Place) → ahead p ≡ (at, Broken quote) ∷ []
@@ -258,22 +258,22 @@ pub other_ahead : (test : Token → Bool) (old new : Place) (at : ℕ) (rest : L
     → spelled new.rest Between new.at ≡ spelled old.rest Between old.at → begins_token new.rest ≡ true
     → (rest ≡ [] → test End ≡ true) → ((c : ℕ) (cs : List ℕ) → rest ≡ c ∷ cs → is_mark c ≡ true → test (Mark c) ≡ true)
     → (begins_name rest ≡ true → (n : List ℕ) → test (Word n) ≡ true) → (begins_string rest ≡ true → (v : List ℕ) → test (Quoted v) ≡ true)
-    → (begins_string rest ≡ true → (q : ℕ) → test (Broken q) ≡ true) → test Stray ≡ true → Stands test at (ahead old)
+    → (begins_string rest ≡ true → (q : ℕ) → test (Broken q) ≡ true) → test Stray ≡ true → IsAhead test at (ahead old)
 unfolding tokens
 other_ahead test old new at rest view same begins end_holds mark_holds word_holds value_holds broken_holds stray_holds =
     let here : joined (spelled rest Between at) ≡ joined (spelled old.rest Between old.at) = ap joined (ap (λ (p : Place). spelled p.rest Between p.at) view ∙ same) in
-    let P : List Placed → Type 0 = Stands test at in
-    subst P here (first_stands test at rest (ap (λ (p : Place). begins_token p.rest) view ∙ begins) end_holds mark_holds word_holds value_holds broken_holds stray_holds)
+    let P : List Placed → Type 0 = IsAhead test at in
+    subst P here (first_is_ahead test at rest (ap (λ (p : Place). begins_token p.rest) view ∙ begins) end_holds mark_holds word_holds value_holds broken_holds stray_holds)
 
 -- The next token isn't this mark.
 pub none_ahead : (byte : ℕ) (old new : Place) (at : ℕ) (rest : List ℕ) → record { at = at; rest = rest } ≡ new
     → spelled new.rest Between new.at ≡ spelled old.rest Between old.at → begins_token new.rest ≡ true
     → ((c : ℕ) (cs : List ℕ) → rest ≡ c ∷ cs → c ≡ byte → ⊥)
-    → (ahead new ≡ ahead old) × Stands (λ t. not (is_the_mark byte t)) new.at (ahead old)
+    → (ahead new ≡ ahead old) × IsAhead (λ t. not (is_the_mark byte t)) new.at (ahead old)
 unfolding tokens
 none_ahead byte old new at rest view same begins other =
     let test : Token → Bool = λ (t : Token). not (is_the_mark byte t) in
-    let P : ℕ → Type 0 = λ (start : ℕ). Stands test start (ahead old) in (
+    let P : ℕ → Type 0 = λ (start : ℕ). IsAhead test start (ahead old) in (
       ap joined same,
       subst P (ap (λ (p : Place). p.at) view)
           (other_ahead test old new at rest view same begins (λ _. refl) (λ c cs is mark. unequal c byte (other c cs is))

@@ -7,7 +7,7 @@ use Rattle.config_text.specs.declared.draft.RewriteParts.{RewriteParts}
 use Rattle.config_text.specs.Tokens.{Placed, Place, ahead, Word, Mark, End}
 use Rattle.config_text.specs.Grammar.{Fault, Draft, no_source, no_rewrite, Opening, InSource}
 use Rattle.config_text.specs.Config.{sources_from}
-use Rattle.config_text.specs.Reads.{Stands, is_other}
+use Rattle.config_text.specs.Reads.{IsAhead, is_other}
 use Rattle.config_text.specs.declared.reader.Next.{Next}
 use Rattle.config_text.specs.declared.reader.Next.TheVariants as next
 
@@ -23,7 +23,7 @@ in_source sources begun parts = record { sources = sources; begun = begun; sourc
 abbrev pub in_rewrite : Draft → RewriteParts → Draft
 in_rewrite d parts = record d { rewrite = parts }
 
--- The sources where another source begins, or where the text ends.
+-- The sources with those of the rest if another source begins, or else the sources that were read.
 abbrev pub goes_on : List Placed → Draft → Bool → Result (List CustomSource) Fault
 goes_on ts d begins = (if begins then sources_from ts (Opening InSource) d else Ok d.sources)
 
@@ -32,16 +32,16 @@ abbrev pub Shows : Next → Place → Place → Type 0
 Shows (next.Word at name) old new = ahead old ≡ (at, Word name.now) ∷ ahead new
 Shows (next.Mark at byte) old new = ahead old ≡ (at, Mark byte) ∷ ahead new
 Shows (next.End at) old new = ahead old ≡ (at, End) ∷ []
-Shows (next.Other at) old new = Stands is_other at (ahead old)
+Shows (next.Other at) old new = IsAhead is_other at (ahead old)
 
--- The rest gets no longer, and it gets shorter where a name or a mark is read.
+-- The rest gets no longer, and it gets shorter if a name or a mark is read.
 abbrev pub LeavesLess : Next → Place → Place → Type 0
 LeavesLess (next.Word at name) old new = length new.rest < length old.rest
 LeavesLess (next.Mark at byte) old new = length new.rest < length old.rest
 LeavesLess (next.End at) old new = length new.rest ≤ length old.rest
 LeavesLess (next.Other at) old new = length new.rest ≤ length old.rest
 
--- A source begins only where a name is read.
+-- If another source begins, a name was read, so the rest is shorter.
 abbrev pub PassesName : Result Bool ConfigAnswer → Place → Place → Type 0
 PassesName (Ok true) old new = length new.rest < length old.rest
 PassesName (Ok false) old new = Unit {0}

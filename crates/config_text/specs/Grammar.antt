@@ -102,15 +102,15 @@ is_replacement (c ∷ []) = not (c == 92)
 is_replacement (c ∷ d ∷ rest) =
     if c == 92 then (is_ascii_digit d || d == 92) && is_replacement rest else is_replacement (d ∷ rest)
 
--- The value where it is UTF-8, or the fault NotUtf8.
+-- The value if it is UTF-8, or the fault NotUtf8.
 abbrev pub text_read : ℕ → List ℕ → Result (List ℕ) Fault
 text_read at value = if is_utf8 value then Ok value else bad NotUtf8 at
 
--- The name of a source: the value where it can be used, or its fault.
+-- The name of a source: the value if it can be used, or its fault.
 abbrev pub name_read : List CustomSource → ℕ → List ℕ → Result (List ℕ) Fault
 name_read sources at value = text_read at value >>= λ name. if is_free sources name then Ok name else bad BadName at
 
--- The data source, or the fault BadBase where there is none.
+-- The data source, or the fault BadBase if there is none.
 abbrev pub base_found : ℕ → Option Source → Result Source Fault
 base_found at (Some base) = Ok base
 base_found at None = bad BadBase at
@@ -119,7 +119,7 @@ base_found at None = bad BadBase at
 abbrev pub base_read : ℕ → List ℕ → Result Source Fault
 base_read at value = text_read at value >>= λ name. base_found at (source_named name)
 
--- The replacement: the value where each backslash is followed by a digit or a backslash, or its fault.
+-- The replacement: the value if each backslash is followed by a digit or a backslash, or its fault.
 abbrev pub replacement_read : ℕ → List ℕ → Result (List ℕ) Fault
 replacement_read at value =
     text_read at value >>= λ text. if is_replacement text then Ok text else bad BadReplacement at
@@ -222,7 +222,7 @@ is_the_mark byte End = false
 abbrev pub is_separator : Token → Bool
 is_separator t = is_the_mark 44 t || is_the_mark 59 t
 
--- The state after a token where an item or the end of a block may come.
+-- The state after a token, if an item or the end of a block may come.
 abbrev pub at_item : Level → Draft → ℕ → Token → Result State Fault
 at_item InFile d at (Word name) = source_begun d at name
 at_item InFile d at End = Ok (Item InFile, d)
@@ -234,11 +234,11 @@ at_item InRewrite d at (Word name) = part_begun d at name
 at_item InRewrite d at (Mark byte) = if byte == 125 then rewrite_ended d at else bad Syntax at
 at_item InRewrite d at _ = bad Syntax at
 
--- The state after a token where the brace of a block has to come.
+-- The state after a token, if the brace of a block has to come.
 abbrev pub at_brace : Level → Draft → ℕ → Token → Result State Fault
 at_brace level d at t = if is_the_mark 123 t then Ok (Item level, d) else bad Syntax at
 
--- The state after a token where a value has to come.
+-- The state after a token, if a value has to come.
 abbrev pub at_value : Field → Draft → ℕ → Token → Result State Fault
 at_value field d at (Quoted value) = with_value field d at value >>= λ read. Ok (Separated (level_of field), read)
 at_value field d at (Broken quote) = bad BadString quote

@@ -14,7 +14,7 @@ abbrev pub Gives : {X Y : Type 0} → (X → Y) → Result X ConfigAnswer → Re
 Gives view (Ok x) read = read ≡ Ok (view x)
 Gives view (Err e) read = Fails e read
 
--- The reading continues as `rest` of the result, or the result is its fault or out of memory.
+-- The reading is `rest` of the result. If the result is an error, it is the fault of the reading, or out of memory.
 abbrev pub Carries : {X Y : Type 0} → Result X ConfigAnswer → Result Y Fault → (X → Result Y Fault) → Type 0
 Carries (Ok x) read rest = read ≡ rest x
 Carries (Err e) read rest = Fails e read

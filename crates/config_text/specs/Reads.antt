@@ -26,7 +26,7 @@ abbrev pub gap : Bool → Mode
 gap true = Comment
 gap false = Between
 
--- Whether the bytes after this one are in a comment, or none where the byte is part of a token.
+-- Whether the bytes after this one are in a comment, or none if the byte is part of a token.
 abbrev pub gap_after : Bool → ℕ → Option Bool
 gap_after true c = Some (not (c == 10))
 gap_after false c = if c == 35 then Some true else if is_blank c then Some false else None
@@ -41,16 +41,16 @@ is_other (Mark byte) = false
 is_other End = false
 
 -- The first of the tokens is at this offset, and passes the test.
-pub record Stands (test : Token → Bool) (at : ℕ) (ts : List Placed) : Type 0 where
+pub record IsAhead (test : Token → Bool) (at : ℕ) (ts : List Placed) : Type 0 where
   pub token : Token
-  pub behind : List Placed
-  pub is : ts ≡ (at, token) ∷ behind
+  pub later : List Placed
+  pub is : ts ≡ (at, token) ∷ later
   pub holds : test token ≡ true
 
 -- The mark is read, or the next token is another one and nothing is read.
 abbrev pub Passes : ℕ → Bool → Place → Place → Type 0
 Passes byte true old new = (at : ℕ) × (ahead old ≡ (at, Mark byte) ∷ ahead new)
-Passes byte false old new = (ahead new ≡ ahead old) × Stands (λ t. not (is_the_mark byte t)) new.at (ahead old)
+Passes byte false old new = (ahead new ≡ ahead old) × IsAhead (λ t. not (is_the_mark byte t)) new.at (ahead old)
 
 -- The next token is a value with a string that can't be read, and the answer is that fault, or out of
 -- memory.

@@ -11,7 +11,7 @@ pub data Token : Type 0 where
   Quoted : (value : List ℕ) → Token
   -- One of : { } , ;
   Mark : (byte : ℕ) → Token
-  -- Strings, of which the one at this offset doesn't end on its line or has an unknown escape. It is the
+  -- Strings that can't be read: the one at this offset doesn't end on its line or has an unknown escape. It is the
   -- last token.
   Broken : (quote : ℕ) → Token
   -- A byte that begins no token. It is the last token.

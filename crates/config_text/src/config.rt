@@ -18,7 +18,7 @@ pub struct CustomSource {
     pub rewrites: RewriteList,
 }
 
-/// A rewrite of the labels in which a pattern is found.
+/// A rewrite. It applies to the labels that its pattern is found in.
 #[derive(Debug, Drop)]
 pub struct Rewrite {
     /// A regular expression.

@@ -1,4 +1,4 @@
-//! The fields of a source and of a rewrite, as far as they were read.
+//! The fields of a source and of a rewrite that were read so far.
 
 ghost use Rattle.std.specs.Prelude.{◌≡◌};
 ghost use Rattle.config_text.specs.Grammar.{source_made, rewrite_made, no_source, no_rewrite};
@@ -8,7 +8,7 @@ use crate::config::{ConfigAnswer, ConfigKind, CustomSource, Rewrite, RewriteList
 use size_core::{Bytes, Source, Text};
 use std::alloc::Global;
 
-/// The fields of a source that were read.
+/// The fields of a source that were read so far.
 #[derive(Drop)]
 pub(crate) struct SourceParts {
     pub(crate) name: Option<Text>,
@@ -16,7 +16,7 @@ pub(crate) struct SourceParts {
     pub(crate) rewrites: RewriteList,
 }
 
-/// The fields of a rewrite that were read.
+/// The fields of a rewrite that were read so far.
 #[derive(Drop)]
 pub(crate) struct RewriteParts {
     pub(crate) pattern: Option<Text>,
@@ -51,7 +51,7 @@ pub(crate) fn no_rewrite() -> RewriteParts
     }
 }
 
-/// Returns the source whose closing brace is at offset `at`. MissingField where a field is missing.
+/// Returns the source whose closing brace is at offset `at`. MissingField if a field is missing.
 pub(crate) fn close_source(parts: SourceParts, at: usize) -> Result<CustomSource, ConfigAnswer>
     ensures { Gives (λ s. s) result (source_made at parts.name parts.base parts.rewrites) }
 {
@@ -70,7 +70,7 @@ pub(crate) fn close_source(parts: SourceParts, at: usize) -> Result<CustomSource
     }
 }
 
-/// Returns the rewrite whose closing brace is at offset `at`. MissingField where a field is missing.
+/// Returns the rewrite whose closing brace is at offset `at`. MissingField if a field is missing.
 pub(crate) fn close_rewrite(parts: RewriteParts, at: usize) -> Result<Rewrite, ConfigAnswer>
     ensures { Gives (λ r. r) result (rewrite_made at parts.pattern parts.replacement) }
 {

@@ -229,7 +229,7 @@ fn read_source(
     }
 }
 
-/// Returns whether another source begins, and not where the text ends.
+/// Returns true if another source begins, and false at the end of the text.
 fn begins_source(reader: &mut Reader<'_>, sources: &[CustomSource]) -> Result<bool, ConfigAnswer>
     ensures carries { (begun : ℕ) → Carries result
         (sources_from (ahead reader.old) (Item InFile) (in_file sources.now begun))
@@ -253,9 +253,9 @@ fn begins_source(reader: &mut Reader<'_>, sources: &[CustomSource]) -> Result<bo
 ///
 /// # Errors
 ///
-/// Bad has the first fault of the text, from its first byte on, and the fault's offset in bytes. A name is
+/// Bad has the first fault of the text, and the fault's offset in bytes. A name is
 /// checked for UnknownField, RepeatedField and TooMany, in this order. A value is checked when its last
-/// string is read, for NotUtf8 before the faults of its field. NoMemory where memory runs out.
+/// string is read, for NotUtf8 before the faults of its field. NoMemory if memory runs out.
 #[tactic(auto, unfolding(crate::specs::Config::config), using(crate::proofs::SourceLemmas::config_sound))]
 pub fn parse(alloc: Global, text: &[u8]) -> Result<Vec<CustomSource>, ConfigAnswer>
     ensures read { Gives (λ v. v.items) result (config text.now) }

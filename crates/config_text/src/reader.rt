@@ -33,7 +33,7 @@ pub(crate) struct Value {
     pub(crate) bytes: Vec<u8>,
 }
 
-/// The rest of a text, and the offset at which it begins.
+/// The rest of a text, and its offset in the text.
 #[derive(Drop)]
 pub(crate) struct Reader<'a> {
     at: usize,
@@ -103,7 +103,7 @@ fn unescape(byte: u8) -> Option<u8>
     }
 }
 
-/// Returns whether the bytes after this one are in a comment. `None` where the byte is part of a token.
+/// Returns whether the bytes after this one are in a comment. `None` if the byte is part of a token.
 fn gap_after(in_comment: bool, byte: u8) -> Option<bool>
     ensures { result ≡ gap_after in_comment byte }
 {

@@ -19,7 +19,7 @@ fn fault(kind: ConfigKind, value: &Value) -> ConfigAnswer
     ConfigAnswer::Bad(kind, value.at)
 }
 
-/// Returns the value as text. NotUtf8 where it isn't UTF-8.
+/// Returns the value as text. NotUtf8 if it isn't UTF-8.
 fn utf8(value: &Value) -> Result<&str, ConfigAnswer>
     ensures { Gives (λ s. s.now) result (text_read value.now.at value.now.bytes.items) }
 {
@@ -29,7 +29,7 @@ fn utf8(value: &Value) -> Result<&str, ConfigAnswer>
     }
 }
 
-/// Returns a copy of the value as text. NotUtf8 where it isn't UTF-8.
+/// Returns a copy of the value as text. NotUtf8 if it isn't UTF-8.
 pub(crate) fn text_of(alloc: Global, value: &Value) -> Result<Text, ConfigAnswer>
     ensures { Gives (λ t. t) result (text_read value.now.at value.now.bytes.items) }
 {
@@ -65,7 +65,7 @@ fn is_free(sources: &[CustomSource], name: &[u8]) -> bool
     !is_used(sources, name)
 }
 
-/// Returns the name of a source that comes after these. NotUtf8 where it isn't UTF-8, and BadName where it
+/// Returns the name of a source that comes after these. NotUtf8 if it isn't UTF-8, and BadName if it
 /// can't be used.
 pub(crate) fn name_of(
     alloc: Global,
@@ -82,7 +82,7 @@ pub(crate) fn name_of(
     Ok(name)
 }
 
-/// Returns the built-in source with this name. NotUtf8 where it isn't UTF-8, and BadBase where there is no
+/// Returns the built-in source with this name. NotUtf8 if it isn't UTF-8, and BadBase if there is no
 /// such source.
 pub(crate) fn base_of(value: &Value) -> Result<Source, ConfigAnswer>
     ensures { Gives (λ s. s) result (base_read value.now.at value.now.bytes.items) }
@@ -109,7 +109,7 @@ fn is_replacement(bytes: &[u8]) -> bool
     }
 }
 
-/// Returns the bytes of a replacement. NotUtf8 where they aren't UTF-8, and BadReplacement where a
+/// Returns the bytes of a replacement. NotUtf8 if they aren't UTF-8, and BadReplacement if a
 /// backslash is followed by another byte.
 pub(crate) fn replacement_of(alloc: Global, value: &Value) -> Result<Bytes, ConfigAnswer>
     ensures { Gives (λ b. b) result (replacement_read value.now.at value.now.bytes.items) }

@@ -13,7 +13,7 @@ use Rattle.regex_syntax.specs.declared.error.ErrorKind.{ErrorKind}
 use Rattle.regex_syntax.specs.declared.error.ErrorKind.TheVariants.{OutOfMemory}
 use Rattle.custom_rewrites.specs.Pattern.{bytes_config, tree_of, found_in, is_found, FindsAs, IsNoPattern}
 
--- The tree that the grammar reads in a text that it can read.
+-- The syntax tree of a text that the grammar can read.
 read_some : (P : Nested Re × Names → Type 0) (o : Option (Nested Re × Names)) → IsSomeAnd o P
     → (re : Re) × (option_map (λ p. p.0.value) o ≡ Some re) × IsSomeAnd o (λ (found, _). SameTree found.value re)
 read_some P None h = absurd h

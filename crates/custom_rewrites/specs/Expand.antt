@@ -20,7 +20,7 @@ expanded group (c ∷ d ∷ rest) =
 abbrev pub group_in : Captures → ℕ → List ℕ
 group_in c k = bytes_of (captures_haystack c) (captures_span c k)
 
--- The rewritten label, where the pattern is found in it.
+-- The rewritten label, if the pattern is found in it.
 abbrev pub replaced : List ℕ → List ℕ → List ℕ → Option (List ℕ)
 replaced pattern replacement label =
     option_map (λ m. expanded (group_bytes label m) replacement) (found_in pattern label)

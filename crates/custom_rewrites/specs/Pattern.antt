@@ -7,7 +7,7 @@ use Rattle.regex_syntax.specs.Grammar.{read}
 abbrev pub bytes_config : Config
 bytes_config = record default_config { utf8 = false }
 
--- The regular expression that the grammar reads in the text, or none where it is no pattern.
+-- The regular expression that the grammar reads in the text, or none if it is no pattern.
 abbrev pub tree_of : List ℕ → Option Re
 tree_of source = option_map (λ p. p.0.value) (read bytes_config (chars source))
 

@@ -2,7 +2,7 @@
 use Rattle.std.specs.Prelude.{ℕ, ◌+◌, ◌-◌, ◌^◌, ◌<◌, min, List, [], Option, unwrap_or, Contains}
 
 -- The numbers of the calls to refuse, the number of calls so far, the number of patterns refused, and the last
--- of them, which is empty where there was none.
+-- of them, which is empty if there was none.
 pub record Refusals : Type 0 where
   pub refusing : List ℕ
   pub calls : ℕ

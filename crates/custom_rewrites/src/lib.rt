@@ -3,9 +3,9 @@
 
 mod expand;
 mod pattern;
-mod refusing;
+mod regex_patterns;
 mod rewriting;
 
 pub use pattern::{LabelFinder, LabelPattern, PatternAnswer, Patterns};
-pub use refusing::RegexPatterns;
+pub use regex_patterns::RegexPatterns;
 pub use rewriting::{RewriteAnswer, Rewriter, Rewrites};

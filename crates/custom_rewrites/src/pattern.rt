@@ -77,7 +77,7 @@ impl LabelPattern {
         Ok(finder.finds(label))
     }
 
-    /// The rewritten label, where the pattern is found in it.
+    /// The rewritten label, if the pattern is found in it.
     pub(crate) fn replaced(
         &self,
         alloc: Global,
@@ -124,7 +124,7 @@ impl<'a> LabelFinder<'a> {
         self.matcher.is_match(label)
     }
 
-    /// The rewritten label, where the pattern is found in it.
+    /// The rewritten label, if the pattern is found in it.
     #[tactic(auto, using(crate::proofs::GroupLemmas::not_replaced))]
     pub(crate) fn replaced(
         &mut self,
@@ -147,14 +147,14 @@ impl<'a> LabelFinder<'a> {
 pub trait Patterns {
     ghost use Rattle.std.specs.Prelude.{ℕ, List};
 
-    // The number of patterns refused for their size, and the last of them. The latter is empty where there was
+    // The number of patterns refused for their size, and the last of them, which is empty if there was
     // none.
     ghost refused: { Self → ℕ };
 
     ghost last_refused: { Self → List ℕ };
 
-    /// Compiles a pattern. Syntax only where the text is no regular expression or is nested too deeply. TooBig
-    /// only where this call adds to the refusals.
+    /// Compiles a pattern. Syntax only if the text is no regular expression or is nested too deeply. TooBig
+    /// only if this call adds to the refusals.
     fn build(&mut self, alloc: Global, pattern: &str) -> Result<LabelPattern, PatternAnswer>
         ensures ok { IfOk result (λ p. (p ≡ pattern.now) × IsPattern pattern.now) }
         ensures syntax { result ≡ Err PatternAnswer.Syntax → IsNoPattern pattern.now }

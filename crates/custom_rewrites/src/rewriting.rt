@@ -165,7 +165,7 @@ impl<'a> Model for Rewriter<'a> {
     ghost view = { λ r. map shown_finder r.ready.items };
 }
 
-/// The label as one rewrite changes it, where its pattern is found in it.
+/// The label after one rewrite. `None` if the pattern of the rewrite isn't found in the label.
 fn replaced_by(
     ready: &mut RewriteFinder<'_>,
     alloc: Global,
@@ -180,7 +180,7 @@ fn replaced_by(
         .replaced(alloc, label, ready.replacement.as_slice())
 }
 
-/// Appends the label as the first rewrite changes it whose pattern is found in it, or else the label itself.
+/// Appends the label after the first rewrite whose pattern is found in it, or else the label itself.
 fn rewrite_by(
     ready: &mut Vec<RewriteFinder<'_>>,
     alloc: Global,

@@ -1,4 +1,4 @@
--- Why a walk over a file stopped, as the answer of a data source.
+-- The answer of a data source if a walk over the file stopped.
 use Rattle.claim_sheet.specs.declared.stop.Stop.{Stop}
 use Rattle.claim_sheet.specs.declared.stop.Stop.TheVariants as stops
 use Rattle.data_sources.specs.declared.answer.ClaimAnswer.{ClaimAnswer}

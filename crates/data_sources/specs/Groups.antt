@@ -1,4 +1,4 @@
--- The claims of a file of any format, in groups. The data sources show these groups.
+-- The claims of a file of any format, in groups. Each data source consists of some of these groups.
 use Rattle.std.specs.Prelude.{ℕ, List, [], Option, None, Result}
 use Rattle.size_core.specs.declared.claim.Load.{Load}
 use Rattle.size_core.specs.declared.fault.BadFile.{BadFile}
@@ -27,10 +27,12 @@ Reading = Result (List LabelledClaim) BadFile
 abbrev pub not_offered : Reading
 not_offered = bad SourceNotForFile 0
 
--- The groups of a file: its bytes; the number of slots, and the load of a slot, if it is one; the claims of the loads
--- and of the sections, with labels written in one of three ways; the claims of the link-edit parts and of the headers;
--- the claims that `segments` shows before the headers; and the claims of the symbols, of the compile units and of the
--- source lines, each with the first fault.
+-- The groups of a file:
+-- - its bytes, the number of slots, and the load of a slot, if it is one,
+-- - the claims of the loads and of the sections, with labels written in one of three ways,
+-- - the claims of the link-edit parts and of the headers,
+-- - the claims that `segments` has before those of the headers,
+-- - the claims of the symbols, of the compile units and of the source lines, or the first fault of each.
 pub record Groups : Type 0 where
   pub bytes : List ℕ
   pub slots : ℕ

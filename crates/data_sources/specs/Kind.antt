@@ -1,4 +1,4 @@
--- How the first bytes of a file say its format.
+-- The format of a file by its first bytes.
 use Rattle.std.specs.Prelude.{ℕ, ◌||◌, Bool, nat_eq, List, [], ◌∷◌, codes}
 use Rattle.std.specs.List.{starts_with}
 

@@ -18,7 +18,7 @@ unfoldable pub segments_claims : Groups → List LabelledClaim
 segments_claims g = g.segments ++ g.headers
 
 -- The claims of the parts of the file: the sections, the link-edit parts, the headers, and then the loads in brackets.
--- They label what earlier claims leave.
+-- They label the bytes and addresses that no earlier claim covers.
 unfoldable pub behind : Wrap → Groups → List LabelledClaim
 behind wrap g = g.sections wrap ++ g.link_edit ++ g.headers ++ g.loads Brackets
 
@@ -58,15 +58,15 @@ source_claims Inlines name g = with_tail g.lines g
 abbrev pub claims_of : Source → List ℕ → Binary → Reading
 claims_of source name binary = source_claims source name (groups_of binary)
 
--- The claims of the records of a data source on a debug file, or their first fault. A data source that shows the parts
--- of the file itself has none there.
+-- The claims of the records of a data source on a debug file, or their first fault. A data source over the parts of the
+-- file itself (segments, sections, input files) has none there.
 abbrev pub debug_records : Source → Groups → Reading
 debug_records Segments g = Ok []
 debug_records Sections g = Ok []
 debug_records InputFiles g = Ok []
 debug_records source g = records_of source g
 
--- The claims of a data source on an opened debug file, or the first fault: of the claims of its records, those on
--- addresses without bytes of the file.
+-- The claims of a data source on an opened debug file, or the first fault: the claims of its records that are on
+-- addresses alone. Claims that have bytes of the debug file are left out.
 abbrev pub debug_claims_of : Source → Binary → Reading
 debug_claims_of source binary = read_on_addresses (debug_records source (groups_of binary))

@@ -64,8 +64,8 @@ fn is_wasm(file: &[u8]) -> bool
     file.starts_with(b"\0asm")
 }
 
-/// Opens a file. Its first bytes say its format. Archive, Universal and UnknownFormat are at offset 0; all other faults
-/// are those of the format's reader.
+/// Opens a file. Its first bytes decide its format. Archive, Universal and UnknownFormat are at offset 0. All other
+/// faults are those of the format's reader.
 #[tactic(auto, unfolding(crate::specs::Opened::opened))]
 pub fn open_binary<'a>(file: &'a [u8]) -> Result<Binary<'a>, BadFile>
     requires { length file.now < 2 ^ 32 }

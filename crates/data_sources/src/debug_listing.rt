@@ -33,8 +33,8 @@ fn add_debug_records(
 }
 
 /// Returns the claims of a data source on a debug file, in order, with labels as numbers in the pool. They are the
-/// claims on addresses without bytes of the file among the symbols, the compile units and address sets, or the lines. A
-/// data source that shows the parts of the file itself has none.
+/// claims on addresses, without bytes of the file, of the symbols, of the compile units and address sets, or of the
+/// lines. A data source over the parts of the file itself (segments, sections, input files) has none.
 ///
 /// Bad is the first fault of these records. If there is none, TooManyClaims means that there are more claims than
 /// `limit`. In all cases the labels of the pool keep their numbers, and each new label is the label of a claim.

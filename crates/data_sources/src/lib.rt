@@ -1,6 +1,6 @@
 //! The data sources: the kind of a file, its loads, and the claims of each data source on it. The claims crates of the
 //! formats make the claims, in groups such as loads, sections and symbols. This crate has the kinds of file, and the
-//! table that says which groups a data source shows.
+//! table of the groups that each data source consists of.
 #![tactic(auto)]
 
 mod answer;

@@ -63,8 +63,8 @@ pub fn add_records(
     }
 }
 
-// Adds the claims of the records, and then those of the parts of the file: what no record claims is labelled by its
-// section or load.
+// Adds the claims of the records, and then those of the parts of the file. So a byte that no record claims has the
+// label of its section or load.
 #[tactic(auto, using(claim_sheet::proofs::LoopLemmas::joined_front, claim_sheet::proofs::LoopLemmas::joined_claims), unfolding(crate::specs::Sources::with_tail))]
 fn add_with_tail(
     alloc: Global,

@@ -23,11 +23,11 @@ is_build_id n = bytes_eq n.name (0x47 ∷ 0x4e ∷ 0x55 ∷ 0x00 ∷ []) && n.ki
 unfoldable pub build_id : Order → List (List ℕ) → Option (List ℕ)
 build_id order areas = option_map (λ n. n.content) (find is_build_id (flat_map (notes order) areas))
 
--- The area of notes in section i, and none where the section has another type (gABI, Sections: SHT_NOTE).
+-- The area of notes in section i, and none if the section has another type (gABI, Sections: SHT_NOTE).
 unfoldable pub section_area : List ℕ → ℕ → List (List ℕ)
 section_area file i = if (section_at file i).kind == SHT_NOTE then section_bytes file i ∷ [] else []
 
--- The area of notes in segment i, and none where the segment has another type (gABI, Program Header:
+-- The area of notes in segment i, and none if the segment has another type (gABI, Program Header:
 -- PT_NOTE).
 unfoldable pub segment_area : List ℕ → ℕ → List (List ℕ)
 segment_area file i = if (segment_at file i).kind == PT_NOTE then segment_bytes file i ∷ [] else []
@@ -44,7 +44,7 @@ segment_areas file = gather (segment_area file) 0 (segment_count file)
 unfoldable pub elf_identity : List ℕ → Option (List ℕ)
 elf_identity file = build_id (encoding_of file).order (section_areas file ++ segment_areas file)
 
--- The UUID in a command: the 16 bytes after cmd and cmdsize, where the command is long enough
+-- The UUID in a command: the 16 bytes after cmd and cmdsize, if the command is long enough
 -- (mach-o/loader.h: uuid_command).
 abbrev pub uuid_of : List ℕ → Command → Option (List ℕ)
 uuid_of file c = if nat_lt c.size 24 then None else Some (take 16 (drop (c.place + 8) file))

@@ -11,8 +11,8 @@ pub record NoteRecord : Type 0 where
   pub content : List ℕ
 
 -- A length, rounded up to a multiple of four (gABI, Note Section).
-abbrev pub filled : ℕ → ℕ
-filled len = (len + 3) / 4 * 4
+abbrev pub padded_len : ℕ → ℕ
+padded_len len = (len + 3) / 4 * 4
 
 -- The length of the name of the note at the start of an area, namesz (gABI, Note Section).
 abbrev pub name_len : Order → List ℕ → ℕ
@@ -25,7 +25,7 @@ content_len order area = field area 4 w32 order
 -- The offset of the descriptor in the area: after three words of four bytes, and the name with its padding
 -- (gABI, Note Section).
 abbrev pub content_place : Order → List ℕ → ℕ
-content_place order area = 12 + filled (name_len order area)
+content_place order area = 12 + padded_len (name_len order area)
 
 -- A note fits at the start of an area: the three words lie in the area, and so do the name with its padding
 -- and the descriptor. The padding of the descriptor may be missing (gABI, Note Section).
@@ -41,13 +41,13 @@ note_of order area = record {
 }
 
 -- The bytes after the note at the start of an area (gABI, Note Section).
-unfoldable pub behind_note : Order → List ℕ → List ℕ
-behind_note order area = drop (content_place order area + filled (content_len order area)) area
+unfoldable pub after_note : Order → List ℕ → List ℕ
+after_note order area = drop (content_place order area + padded_len (content_len order area)) area
 
 -- The first notes of an area, at most this many (gABI, Note Section).
 unfoldable pub notes_within : ℕ → Order → List ℕ → List NoteRecord
 notes_within zero order area = []
-notes_within (suc fuel) order area = if has_note order area then note_of order area ∷ notes_within fuel order (behind_note order area) else []
+notes_within (suc fuel) order area = if has_note order area then note_of order area ∷ notes_within fuel order (after_note order area) else []
 
 -- The notes of an area. Each begins where the one before it ends, and the list ends at the first that
 -- doesn't fit. A note has at least twelve bytes, so the length of the area is enough as a bound (gABI, Note

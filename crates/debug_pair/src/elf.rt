@@ -23,7 +23,7 @@ fn build_id<'a>(area: &'a [u8], order: Order) -> Option<&'a [u8]>
     None
 }
 
-/// Returns the build ID in section `i`, where it has notes.
+/// Returns the build ID in section `i`, if it has notes.
 #[tactic(auto, unfolding(crate::specs::Identities::section_area), using(crate::proofs::IdentityLemmas::no_area))]
 fn section_build_id<'a>(file: &ElfFile<'a>, i: u32) -> Option<&'a [u8]>
     requires { i < section_count file.now }
@@ -35,7 +35,7 @@ fn section_build_id<'a>(file: &ElfFile<'a>, i: u32) -> Option<&'a [u8]>
     build_id(file.section_bytes(i), file.encoding().order)
 }
 
-/// Returns the build ID in segment `i`, where it has notes.
+/// Returns the build ID in segment `i`, if it has notes.
 #[tactic(auto, unfolding(crate::specs::Identities::segment_area), using(crate::proofs::IdentityLemmas::no_area))]
 fn segment_build_id<'a>(file: &ElfFile<'a>, i: u32) -> Option<&'a [u8]>
     requires { i < segment_count file.now }
@@ -49,7 +49,7 @@ fn segment_build_id<'a>(file: &ElfFile<'a>, i: u32) -> Option<&'a [u8]>
 
 /// Returns the first build ID in the notes of sections.
 #[tactic(auto, using(crate::proofs::IdentityLemmas::area_here, crate::proofs::IdentityLemmas::area_later, crate::proofs::IdentityLemmas::area_end))]
-fn in_sections<'a>(file: &ElfFile<'a>) -> Option<&'a [u8]>
+fn build_id_in_sections<'a>(file: &ElfFile<'a>) -> Option<&'a [u8]>
     ensures { option_copied result ≡ build_id (encoding_of file.now).order (section_areas file.now) }
 {
     for i in 0..file.header().sections {
@@ -62,7 +62,7 @@ fn in_sections<'a>(file: &ElfFile<'a>) -> Option<&'a [u8]>
 
 /// Returns the first build ID in the notes of segments.
 #[tactic(auto, using(crate::proofs::IdentityLemmas::area_here, crate::proofs::IdentityLemmas::area_later, crate::proofs::IdentityLemmas::area_end))]
-fn in_segments<'a>(file: &ElfFile<'a>) -> Option<&'a [u8]>
+fn build_id_in_segments<'a>(file: &ElfFile<'a>) -> Option<&'a [u8]>
     ensures { option_copied result ≡ build_id (encoding_of file.now).order (segment_areas file.now) }
 {
     for i in 0..file.header().segments {
@@ -75,13 +75,13 @@ fn in_segments<'a>(file: &ElfFile<'a>) -> Option<&'a [u8]>
 
 /// Returns the build ID of an ELF file: the descriptor of the first note with the name `GNU`, the type
 /// NT_GNU_BUILD_ID and a descriptor that isn't empty. The notes of sections come first, and then those of
-/// segments, each in file order (ELF gABI, Note Section). `None` exactly where there is no such note.
+/// segments, each in file order (ELF gABI, Note Section). `None` exactly if there is no such note.
 #[tactic(auto, unfolding(crate::specs::Identities::elf_identity), using(crate::proofs::IdentityLemmas::build_id_append))]
 pub fn elf_identity<'a>(file: &ElfFile<'a>) -> Option<&'a [u8]>
     ensures { option_copied result ≡ elf_identity file.now }
 {
-    match in_sections(file) {
+    match build_id_in_sections(file) {
         Some(id) => Some(id),
-        None => in_segments(file),
+        None => build_id_in_segments(file),
     }
 }

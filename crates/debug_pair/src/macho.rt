@@ -21,7 +21,7 @@ fn first_uuid<'a>(file: &MachoFile<'a>) -> Option<Command>
 }
 
 /// Returns the UUID of a Mach-O file: the 16 bytes after `cmd` and `cmdsize` in its first LC_UUID command
-/// (`uuid_command`). `None` exactly where there is no LC_UUID, or where the first is shorter than 24 bytes.
+/// (`uuid_command`). `None` exactly if there is no LC_UUID, or if the first is shorter than 24 bytes.
 #[tactic(auto, unfolding(crate::specs::Identities::macho_identity), using(crate::proofs::UuidLemmas::uuid_inside))]
 pub fn macho_identity<'a>(file: &MachoFile<'a>) -> Option<&'a [u8]>
     ensures { option_copied result ≡ macho_identity file.now }

@@ -1,7 +1,7 @@
 //! Notes.
 
 ghost use Rattle.std.specs.Prelude.{◌≡◌, ◌<◌, ◌^◌, true, false, MatchOption};
-ghost use Rattle.debug_pair.specs.Notes.{behind_note, filled, has_note, note_of};
+ghost use Rattle.debug_pair.specs.Notes.{after_note, has_note, note_of, padded_len};
 ghost use Rattle.debug_pair.specs.Identities.{is_build_id};
 ghost use Rattle.debug_pair.specs.Shown.{note_shown};
 
@@ -30,31 +30,31 @@ impl<'a> Note<'a> {
 }
 
 /// Returns a length in bytes, rounded up to a multiple of four.
-fn filled(len: u32) -> u64
-    ensures { result ≡ filled len }
+fn padded_len(len: u32) -> u64
+    ensures { result ≡ padded_len len }
 {
     (u64::from(len) + 3) / 4 * 4
 }
 
-/// Returns the note at the start of an area, and the bytes after it. `None` where no note fits.
-#[tactic(auto, unfolding(crate::specs::Notes::has_note, crate::specs::Notes::note_of, crate::specs::Notes::behind_note))]
+/// Returns the note at the start of an area, and the bytes after it. `None` if no note fits.
+#[tactic(auto, unfolding(crate::specs::Notes::has_note, crate::specs::Notes::note_of, crate::specs::Notes::after_note))]
 pub fn first_note<'a>(area: &'a [u8], order: Order) -> Option<(Note<'a>, &'a [u8])>
     ensures { MatchOption result (has_note order area.now ≡ false)
         (λ x. (has_note order area.now ≡ true) × (note_shown x.0 ≡ note_of order area.now)
-        × (x.1.now ≡ behind_note order area.now)) }
+        × (x.1.now ≡ after_note order area.now)) }
 {
     if area.len() < 12 {
         return None;
     }
     let name_len = u32_at(area, 0, order);
     let content_len = u32_at(area, 4, order);
-    let place = 12 + filled(name_len);
+    let place = 12 + padded_len(name_len);
     let end = place + u64::from(content_len);
     let len = area.len() as u64;
     if len < end {
         return None;
     }
-    let next = len.min(place + filled(content_len));
+    let next = len.min(place + padded_len(content_len));
     let note = Note {
         name: &area[12..12 + name_len as usize],
         kind: u32_at(area, 8, order),

@@ -14,17 +14,15 @@ use Rattle.size_model.specs.Loads.{is_mapped, space_of, address_of, mapped_count
 use Rattle.range_map.specs.Ranges.{EndsBy, IsRange}
 use Rattle.size_model.proofs.Counts.{count-same}
 use Rattle.range_map.proofs.Counts.{size_of, count-tidy, count_le}
-use Rattle.size_model.proofs.Cuts.{IsCut-unique, StartsFrom}
+use Rattle.size_model.proofs.Cuts.{StartsFrom}
 use Rattle.range_map.proofs.Places.{length-laid}
 use Rattle.range_map.proofs.Segments.{EndsBy-laid}
-use Rattle.dual_map.specs.declared.way.Stretch.{Stretch}
-use Rattle.dual_map.specs.declared.way.Way.TheVariants.{ToFile, ToMemory, InMemory}
-use Rattle.dual_map.specs.Layout.{load_of_offset, load_of_position, Layout, HasPieces, IsOver, LabelsBelow}
+use Rattle.dual_map.specs.Layout.{load_of_offset, load_of_position, Layout, HasPieces, IsLayout, IsOver, LabelsBelow}
 use Rattle.dual_map.specs.Loads.{file_ranges, address_range, address_ranges}
 use Rattle.dual_map.specs.Ranges.{all_offsets, all_positions}
-use Rattle.dual_map.specs.Way.{source_of, Carries}
+use Rattle.dual_map.specs.Way.{stretches_of, ToFile, ToMemory, InMemory}
 use Rattle.dual_map.proofs.LoadLemmas.{label_in-file_ranges, label_in-address_ranges, length-file_ranges, length-address_ranges}
-use Rattle.dual_map.proofs.Gathering.{some_len, label_of_piece}
+use Rattle.dual_map.proofs.Gathering.{some_len, label_of_piece, Carries-to_file, Carries-to_memory, Carries-in_memory, length-stretches_of}
 use Rattle.dual_map.proofs.ClaimLemmas.{is_some-load, label_in-all_offsets, label_in-all_positions, length-all_offsets, length-all_positions}
 
 pub offsets_cut : (len : ℕ) (ls : List Load) (rs ps : List Piece) → rs ≡ file_ranges len 0 ls → IsLaid rs ps → IsCut (load_of_offset len ls) ps
@@ -59,14 +57,6 @@ length-positions ls ps a c =
     let l : IsLaid (address_ranges 0 ls) ps = record { tidy = c.tidy; labels = λ x. c.labels x ∙ sym (label_in-address_ranges 0 ls x a) } in
     omega (arith, length-laid (address_ranges 0 ls) ps l, length-address_ranges 0 ls)
 
--- There is one number of pieces.
-pub pieces_bound : {layout : Layout} (ps qs : List Piece) (b : ℕ) → IsCut (load_of_offset layout.len layout.loads) ps → IsCut (load_of_position layout.loads) qs → HasPieces layout b → (length ps ≤ b) × (length qs ≤ b)
-pieces_bound {layout} ps qs b f g h =
-    let e = ap length (IsCut-unique (load_of_offset layout.len layout.loads) ps h.offsets f h.offsets_cut) in
-    let k = ap length (IsCut-unique (load_of_position layout.loads) qs h.positions g h.positions_cut) in
-    let larger = h.larger in
-    (omega arith, omega arith)
-
 starts_from_zero : (ps : List Piece) → StartsFrom 0 ps
 starts_from_zero [] = tt
 starts_from_zero (p ∷ ps) = omega arith
@@ -82,32 +72,45 @@ pub ok_more : {V E : Type 0} (P Q : V → Type 0) (r : Result V E) → ((v : V) 
 ok_more P Q (Ok v) f h = f v h
 ok_more P Q (Err e) f h = tt
 
--- The ranges of all claims make the cuts of their labellings.
-pub file_cut : (layout : Layout) (len : ℕ) (ls : List Load) (to_file : List Stretch) (unmapped : ℕ) (cs : List Claim) (rs ps : List Piece) → record { len = len; loads = ls } ≡ layout → All IsLoad ls → Carries (source_of ToFile len ls) to_file → rs ≡ all_offsets len to_file unmapped cs → IsLaid rs ps → IsCut (offset_labelling layout.len layout.loads unmapped cs) ps
-file_cut layout len ls to_file unmapped cs rs ps same loads c e l = record {
-  tidy = l.tidy;
-  labels = λ x.
-      l.labels x ∙ (ap (λ rs. label_in rs x) e ∙ (label_in-all_offsets len ls to_file unmapped cs x loads c ∙ ap (λ (l : Layout). offset_labelling l.len l.loads unmapped cs x) same));
-}
+-- The number of pieces of the two maps.
+file_bound : (len : ℕ) (ls : List Load) (offsets : List Piece) (unmapped m : ℕ) (cs : List Claim) (ps : List Piece) → len < 2 ^ 63 → All IsLoad ls → IsCut (load_of_offset len ls) offsets → length offsets ≤ m → 1 ≤ m → IsCut (offset_labelling len ls unmapped cs) ps → length ps ≤ 2 * (length cs * m + 1)
+file_bound len ls offsets unmapped m cs ps small loads cut few some c =
+    let to_file = stretches_of ToFile len ls offsets in
+    let rs = all_offsets len to_file unmapped cs in
+    let carries = Carries-to_file len ls offsets small cut in
+    let l : IsLaid rs ps = record { tidy = c.tidy; labels = λ x. c.labels x ∙ sym (label_in-all_offsets len ls to_file unmapped cs x loads carries) } in
+    omega (arith, length-laid rs ps l, length-all_offsets len to_file unmapped cs m (omega (arith, length-stretches_of ToFile len ls offsets)) some)
 
-pub vm_cut : (layout : Layout) (len : ℕ) (ls : List Load) (qs : List Piece) (to_memory in_memory : List Stretch) (unmapped : ℕ) (cs : List Claim) (rs ps : List Piece) → record { len = len; loads = ls } ≡ layout → EndsBy (2 ^ 96) qs → IsCut (load_of_position ls) qs → Carries (source_of ToMemory len ls) to_memory → Carries (source_of InMemory len ls) in_memory → rs ≡ all_positions to_memory in_memory unmapped cs → IsLaid rs ps → IsCut (address_labelling layout.len layout.loads unmapped cs) ps
-vm_cut layout len ls qs to_memory in_memory unmapped cs rs ps same ends f c d e l = record {
-  tidy = l.tidy;
-  labels = λ x.
-      l.labels x ∙ (ap (λ rs. label_in rs x) e ∙ (label_in-all_positions len ls qs to_memory in_memory unmapped cs x ends f c d ∙ ap (λ (l : Layout). address_labelling l.len l.loads unmapped cs x) same));
-}
+vm_bound : (len : ℕ) (ls : List Load) (positions : List Piece) (unmapped m : ℕ) (cs : List Claim) (ps : List Piece) → ((p : ℕ) → is_mapped ls p ≡ true → p < 2 ^ 96) → IsCut (load_of_position ls) positions → length positions ≤ m → IsCut (address_labelling len ls unmapped cs) ps → length ps ≤ 2 * ((length cs + 1) * m)
+vm_bound len ls positions unmapped m cs ps fits cut few c =
+    let to_memory = stretches_of ToMemory len ls positions in
+    let in_memory = stretches_of InMemory len ls positions in
+    let rs = all_positions to_memory in_memory unmapped cs in
+    let l : IsLaid rs ps = record {
+      tidy = c.tidy;
+      labels = λ x.
+          c.labels x ∙ sym (label_in-all_positions len ls to_memory in_memory unmapped cs x (fits x) (Carries-to_memory len ls positions cut) (Carries-in_memory len ls positions cut));
+    } in
+    omega (arith, length-laid rs ps l, length-all_positions to_memory in_memory unmapped cs m (omega (arith, length-stretches_of ToMemory len ls positions)) (omega (arith, length-stretches_of InMemory len ls positions)))
 
--- The number of their pieces.
-pub file_few : (len : ℕ) (to_file : List Stretch) (unmapped b : ℕ) (cs : List Claim) (rs ps : List Piece) → length to_file ≤ b → rs ≡ all_offsets len to_file unmapped cs → length ps ≤ 2 * length rs → length ps ≤ 2 * (length cs * max 1 b + 1)
-file_few len to_file unmapped b cs rs ps few e h =
-    let n = ap length e in
-    let most = length-all_offsets len to_file unmapped cs (max 1 b) (omega arith) (omega arith) in
-    omega arith
+pub file_few : (layout : Layout) (unmapped b : ℕ) (cs : List Claim) (ps : List Piece) → IsLayout layout → HasPieces layout b → IsCut (offset_labelling layout.len layout.loads unmapped cs) ps → length ps ≤ 2 * (length cs * max 1 b + 1)
+file_few layout unmapped b cs ps a h c =
+    let larger = h.larger in
+    file_bound layout.len layout.loads h.offsets unmapped (max 1 b) cs ps a.len_fits a.loads_fit h.offsets_cut (omega arith) (omega arith) c
 
-pub vm_few : (to_memory in_memory : List Stretch) (unmapped b : ℕ) (cs : List Claim) (rs ps : List Piece) → length to_memory ≤ b → length in_memory ≤ b → rs ≡ all_positions to_memory in_memory unmapped cs → length ps ≤ 2 * length rs → length ps ≤ 2 * ((length cs + 1) * max 1 b)
-vm_few to_memory in_memory unmapped b cs rs ps few little e h =
-    let n = ap length e in
-    let most = length-all_positions to_memory in_memory unmapped cs (max 1 b) (omega arith) (omega arith) in
+pub vm_few : (layout : Layout) (unmapped b : ℕ) (cs : List Claim) (ps : List Piece) → IsLayout layout → HasPieces layout b → IsCut (address_labelling layout.len layout.loads unmapped cs) ps → length ps ≤ 2 * ((length cs + 1) * max 1 b)
+vm_few layout unmapped b cs ps a h c =
+    let larger = h.larger in
+    vm_bound layout.len layout.loads h.positions unmapped (max 1 b) cs ps a.mapped_fits h.positions_cut (omega arith) c
+
+-- The number of pieces by the number of loads.
+pub few_by_loads : (layout : Layout) (unmapped : ℕ) (cs : List Claim) (ps qs : List Piece) → IsLayout layout → IsCut (offset_labelling layout.len layout.loads unmapped cs) ps → IsCut (address_labelling layout.len layout.loads unmapped cs) qs → length ps + length qs ≤ 4 * length cs * (2 * length layout.loads + 1) + 2 * (2 * length layout.loads + 1) + 4
+few_by_loads layout unmapped cs ps qs a f g =
+    let h = a.pieces.1 in
+    let most = a.pieces.2 in
+    let larger = h.larger in
+    let file = file_bound layout.len layout.loads h.offsets unmapped (2 * length layout.loads + 1) cs ps a.len_fits a.loads_fit h.offsets_cut (omega arith) (omega arith) f in
+    let vm = vm_bound layout.len layout.loads h.positions unmapped (2 * length layout.loads + 1) cs qs a.mapped_fits h.positions_cut (omega arith) g in
     omega arith
 
 is_some-if : {X : Type 0} (b : Bool) (x : X) → is_some (cond b (Some x) None) ≡ b
@@ -146,16 +149,3 @@ maps_below layout unmapped cs file vm n f g h a = record {
   file = labels_below (offset_labelling layout.len layout.loads unmapped cs) file n f (λ o y e. some_below (ltb o layout.len) (offset_label layout.len layout.loads unmapped cs o) y n (first_below (λ (c : Claim). covers_offset layout.len layout.loads c.side c.vm c.file o) (λ (c : Claim). c.label) unmapped n cs h a) e);
   vm = labels_below (address_labelling layout.len layout.loads unmapped cs) vm n g (λ p y e. some_below (is_mapped layout.loads p) (address_label layout.len layout.loads unmapped cs (space_of p) (address_of p)) y n (first_below (λ (c : Claim). covers_address layout.len layout.loads c.side c.vm c.file (space_of p) (address_of p)) (λ (c : Claim). c.label) unmapped n cs h a) e);
 }
-
--- The number of pieces by the number of loads.
-pub file_few_by : (len : ℕ) (to_file : List Stretch) (unmapped m : ℕ) (cs : List Claim) (rs ps : List Piece) → length to_file ≤ 2 * m → rs ≡ all_offsets len to_file unmapped cs → length ps ≤ 2 * length rs → length ps ≤ 2 * (length cs * (2 * m + 1) + 1)
-file_few_by len to_file unmapped m cs rs ps few e h =
-    let n = ap length e in
-    let most = length-all_offsets len to_file unmapped cs (2 * m + 1) (omega arith) (omega arith) in
-    omega arith
-
-pub vm_few_by : (to_memory in_memory : List Stretch) (unmapped m : ℕ) (cs : List Claim) (rs ps : List Piece) → length to_memory ≤ 2 * m → length in_memory ≤ 2 * m → rs ≡ all_positions to_memory in_memory unmapped cs → length ps ≤ 2 * length rs → length ps ≤ 2 * ((length cs + 1) * (2 * m + 1))
-vm_few_by to_memory in_memory unmapped m cs rs ps few little e h =
-    let n = ap length e in
-    let most = length-all_positions to_memory in_memory unmapped cs (2 * m + 1) (omega arith) (omega arith) in
-    omega arith

@@ -1,16 +1,14 @@
 -- The targets of a span.
-use Rattle.std.proofs.Common.{◌≡◌, ◌+◌, ◌-◌, ◌<◌, ◌≤◌, ℕ, zero, suc, Bool, true, false, cond, ltb, leb, ◌&&◌, ◌||◌, List, [], ◌∷◌, ◌++◌, map, take, Option, None, Some, length, get_or, refl, sym, ap, ◌∙◌, inl, inr, arith}
+use Rattle.std.proofs.Common.{◌≡◌, ◌+◌, ◌-◌, ◌<◌, ◌≤◌, ℕ, suc, Bool, true, false, cond, ltb, leb, ◌&&◌, ◌||◌, List, [], ◌∷◌, map, Option, None, Some, length, refl, sym, ap, ◌∙◌, inl, inr, arith}
 use Rattle.std.proofs.lemmas.Bool.Decides.{nat_tests}
-use Rattle.std.proofs.lemmas.List.{take_more, map-append}
-use Rattle.std.proofs.lemmas.List.Elements.{All-head, All-tail, filter-append}
+use Rattle.std.proofs.lemmas.List.Elements.{All-head, All-tail}
 use Rattle.std.specs.List.{All, list_any}
-use Rattle.std.specs.List.Sorted.{IsPartitionPoint}
 use Rattle.size_model.specs.declared.piece.Piece.{Piece}
 use Rattle.size_model.specs.Cut.{has, label_in}
 use Rattle.size_model.proofs.Cuts.{has_cases, label_past_head, label_before_head}
-use Rattle.dual_map.specs.declared.way.Stretch.{Stretch}
-use Rattle.dual_map.specs.Way.{has_target, no_stretch, Carries}
-use Rattle.dual_map.specs.Index.{source_end, clipped, kept, carried, IsIndex}
+use Rattle.dual_map.specs.declared.stretch.Stretch.{Stretch}
+use Rattle.dual_map.specs.Way.{has_target, Carries}
+use Rattle.dual_map.specs.Index.{clipped, kept, carried}
 
 abbrev pub in_bounds : ℕ → ℕ → ℕ → Bool
 in_bounds low high v = leb low v && ltb v high
@@ -85,40 +83,6 @@ pub label_in-carried : (source : ℕ → Option ℕ) (low high label : ℕ) (ss 
 label_in-carried source low high label ss y c =
     label_in-kept (map (clipped low high label) ss) y ∙ (label_in-clips source low high label ss y c.sound ∙ found_or_not low high label (source y) (list_any (λ (s : Stretch). has_target s y) ss) (c.whole y))
 
--- Stretches that give nothing.
-kept_empty : (p : Piece) (ps : List Piece) → p.len ≡ 0 → kept (p ∷ ps) ≡ kept ps
-kept_empty p ps e = let b : ltb 0 p.len ≡ false = grind (arith, nat_tests) in ap (λ t. cond t (p ∷ kept ps) (kept ps)) b
-
-all_empty : (clip : Stretch → Piece) (ss : List Stretch) → ((k : ℕ) → k < length ss → (clip (get_or ss k no_stretch)).len ≡ 0) → kept (map clip ss) ≡ []
-all_empty clip [] h = refl
-all_empty clip (s ∷ ss) h =
-    kept_empty (clip s) (map clip ss) (h zero (omega arith)) ∙ all_empty clip ss (λ k l. h (suc k) (omega arith))
-
-pub kept-front : (clip : Stretch → Piece) (ss : List Stretch) (n : ℕ) → ((k : ℕ) → k < n → k < length ss → (clip (get_or ss k no_stretch)).len ≡ 0) → kept (map clip (take n ss)) ≡ []
-kept-front clip [] zero h = refl
-kept-front clip [] (suc n) h = refl
-kept-front clip (s ∷ ss) zero h = refl
-kept-front clip (s ∷ ss) (suc n) h =
-    kept_empty (clip s) (map clip (take n ss)) (h zero (omega arith) (omega arith)) ∙ kept-front clip ss n (λ k a l. h (suc k) (omega arith) (omega arith))
-
-pub kept-rest : (clip : Stretch → Piece) (ss : List Stretch) (n : ℕ) → ((k : ℕ) → n ≤ k → k < length ss → (clip (get_or ss k no_stretch)).len ≡ 0) → kept (map clip (take n ss)) ≡ kept (map clip ss)
-kept-rest clip [] zero h = refl
-kept-rest clip [] (suc n) h = refl
-kept-rest clip (s ∷ ss) zero h = sym (all_empty clip (s ∷ ss) (λ k l. h k (omega arith) l))
-kept-rest clip (s ∷ ss) (suc n) h =
-    ap (λ ps. cond (ltb 0 (clip s).len) (clip s ∷ ps) ps) (kept-rest clip ss n (λ k a l. h (suc k) (omega arith) (omega arith)))
-
--- One more stretch.
-pub kept-more : (clip : Stretch → Piece) (ss : List Stretch) (i : ℕ) (d : Stretch) → i < length ss → kept (map clip (take (i + 1) ss)) ≡ kept (map clip (take i ss)) ++ kept (clip (get_or ss i d) ∷ [])
-kept-more clip ss i d l =
-    ap (λ ps. kept (map clip ps)) (take_more ss i d l) ∙ (ap kept (map-append clip (take i ss) (get_or ss i d ∷ [])) ∙ filter-append (λ (p : Piece). ltb 0 p.len) (map clip (take i ss)) (clip (get_or ss i d) ∷ []))
-
-pub clip_below : (low high label : ℕ) (s : Stretch) → source_end s ≤ low → (clipped low high label s).len ≡ 0
-clip_below low high label s h = omega arith
-
-pub clip_above : (low high label : ℕ) (s : Stretch) → high ≤ s.source → (clipped low high label s).len ≡ 0
-clip_above low high label s h = omega arith
-
 pub length-kept : (ps : List Piece) → length (kept ps) ≤ length ps
 length-kept [] = omega arith
 length-kept (p ∷ ps) = step p ps (ltb 0 p.len) (length-kept ps)
@@ -133,18 +97,3 @@ length_map clip (s ∷ ss) = ap (λ n. suc n) (length_map clip ss)
 
 pub length-carried : (low high label : ℕ) (ss : List Stretch) → length (carried low high label ss) ≤ length ss
 length-carried low high label ss = omega (arith, length-kept (map (clipped low high label) ss), length_map (clipped low high label) ss)
-
--- The stretches that a search leaves out give nothing.
-pub front_empty : (ss : List Stretch) (reaches : List ℕ) (low high label n : ℕ) → IsIndex ss reaches → IsPartitionPoint (λ (r : ℕ). leb r low ≡ true) (λ (r : ℕ). leb r low ≡ false) reaches n → kept (map (clipped low high label) (take n ss)) ≡ []
-front_empty ss reaches low high label n index point =
-    kept-front (clipped low high label) ss n (λ k a l.
-    let below : leb (get_or reaches k 0) low ≡ true = point.0 k 0 (omega arith) a in
-    let reach = index.reach.covers k l in
-    let h : get_or reaches k 0 ≤ low = grind (arith, nat_tests) in
-    clip_below low high label (get_or ss k no_stretch) (omega arith))
-
-pub rest_empty : (ss : List Stretch) (low high label n i : ℕ) → IsPartitionPoint (λ (s : Stretch). ltb s.source high ≡ true) (λ (s : Stretch). ltb s.source high ≡ false) ss n → n ≤ i → kept (map (clipped low high label) (take i ss)) ≡ kept (map (clipped low high label) ss)
-rest_empty ss low high label n i point h =
-    kept-rest (clipped low high label) ss i (λ k a l.
-    let above : ltb (get_or ss k no_stretch).source high ≡ false = point.1 k no_stretch (omega arith) l in
-    clip_above low high label (get_or ss k no_stretch) (grind (arith, nat_tests)))

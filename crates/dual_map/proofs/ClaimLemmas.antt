@@ -1,9 +1,8 @@
 -- The ranges of claims have the labels of the claims.
-use Rattle.std.proofs.Common.{◌≡◌, ◌+◌, ◌-◌, ◌*◌, ◌/◌, ◌%◌, ◌^◌, ◌<◌, ◌≤◌, ℕ, Bool, true, false, cond, ltb, ◌&&◌, List, [], ◌∷◌, ◌++◌, is_some, Option, None, Some, length, get_or, drop, refl, sym, ap, ◌∙◌, append_assoc, length-append, inl, inr, arith}
+use Rattle.std.proofs.Common.{◌≡◌, ◌+◌, ◌-◌, ◌*◌, ◌/◌, ◌%◌, ◌^◌, ◌<◌, ◌≤◌, ℕ, Bool, true, false, cond, ltb, ◌&&◌, List, [], ◌∷◌, is_some, Option, None, Some, length, get_or, refl, sym, ap, ◌∙◌, length-append, inl, inr, arith}
 use Rattle.std.proofs.lemmas.Bool.Decides.{nat_tests}
 use Rattle.std.proofs.lemmas.Bool.{cases_lt}
 use Rattle.std.proofs.lemmas.Option.{none-some, same_Some}
-use Rattle.std.proofs.lemmas.List.{drop_more}
 use Rattle.std.specs.List.{All}
 use Rattle.size_core.specs.declared.claim.Load.{Load}
 use Rattle.size_core.specs.declared.claim.Span.{Span}
@@ -17,10 +16,9 @@ use Rattle.size_model.specs.Claims.{span_has, address_in, offset_in, covers_offs
 use Rattle.size_model.specs.Labels.{offset_label, address_label, offset_labelling, address_labelling}
 use Rattle.range_map.specs.Ranges.{EndsBy}
 use Rattle.range_map.proofs.Pieces.{either, label_in-append, label_past}
-use Rattle.dual_map.specs.declared.way.Stretch.{Stretch}
-use Rattle.dual_map.specs.declared.way.Way.TheVariants.{ToFile, ToMemory, InMemory}
+use Rattle.dual_map.specs.declared.stretch.Stretch.{Stretch}
 use Rattle.dual_map.specs.Layout.{load_of_offset, load_of_position}
-use Rattle.dual_map.specs.Way.{position_if_any, source_of, no_load, Carries}
+use Rattle.dual_map.specs.Way.{ToFile, ToMemory, InMemory, position_if_any, source_of, no_load, Carries}
 use Rattle.dual_map.specs.Index.{kept}
 use Rattle.dual_map.specs.Ranges.{low_of, high_of, in_file, offsets_of, all_offsets, positions_of, all_positions}
 use Rattle.dual_map.proofs.Carrying.{in_bounds, labelled, label_in-kept, label_in-carried, length-kept, length-carried}
@@ -50,11 +48,11 @@ span_positions : (s : Span) (q r : ℕ) → r < 2 ^ 64 → in_bounds (low_of s) 
 span_positions s q r b = grind (arith, nat_tests)
 
 -- An offset that has an address lies in the file, and its address in its space.
-record IsLoaded (len o : ℕ) (a : ℕ × ℕ) : Type 0 where
-  fits : a.1 < 2 ^ 64
-  in_file : ltb o len ≡ true
+pub record IsLoaded (len o : ℕ) (a : ℕ × ℕ) : Type 0 where
+  pub fits : a.1 < 2 ^ 64
+  pub in_file : ltb o len ≡ true
 
-loaded_by : (len : ℕ) (ls : List Load) (o : ℕ) (a : ℕ × ℕ) (found : Option ℕ) → All IsLoad ls → load_of_offset len ls o ≡ found → addr len ls o ≡ Some a → IsLoaded len o a
+pub loaded_by : (len : ℕ) (ls : List Load) (o : ℕ) (a : ℕ × ℕ) (found : Option ℕ) → All IsLoad ls → load_of_offset len ls o ≡ found → addr len ls o ≡ Some a → IsLoaded len o a
 loaded_by len ls o a None loads e h = absurd (none-some a (sym (addr_none len 0 ls o e) ∙ h))
 loaded_by len ls o a (Some i) loads e h =
     let w = first_covers_offset len ls o i no_load e in
@@ -128,19 +126,19 @@ some_below ls ps p None ends e h = cc
 some_below ls ps p (Some i) ends e h =
     elim (cases_lt p (2 ^ 96)) [ inl l ↦ l | inr l ↦ absurd (none-some i (sym (label_past ps (2 ^ 96) p ends l) ∙ e)) ]
 
-mapped_below : (ls : List Load) (ps : List Piece) (p : ℕ) → EndsBy (2 ^ 96) ps → IsCut (load_of_position ls) ps → is_mapped ls p ≡ true → p < 2 ^ 96
+pub mapped_below : (ls : List Load) (ps : List Piece) (p : ℕ) → EndsBy (2 ^ 96) ps → IsCut (load_of_position ls) ps → is_mapped ls p ≡ true → p < 2 ^ 96
 mapped_below ls ps p ends c h =
     some_below ls ps p (label_in ps p) ends refl (ap is_some (c.labels p) ∙ (is_some-load ls p (load_of_position ls p) refl ∙ h))
 
 -- The ranges of all claims have the labelling of the mapped positions.
-pub label_in-all_positions : (len : ℕ) (ls : List Load) (ps : List Piece) (to_memory in_memory : List Stretch) (unmapped : ℕ) (cs : List Claim) (p : ℕ) → EndsBy (2 ^ 96) ps → IsCut (load_of_position ls) ps → Carries (source_of ToMemory len ls) to_memory → Carries (source_of InMemory len ls) in_memory → label_in (all_positions to_memory in_memory unmapped cs) p ≡ address_labelling len ls unmapped cs p
-label_in-all_positions len ls ps to_memory in_memory unmapped [] p ends f c d =
-    label_in-carried (source_of InMemory len ls) 0 (2 ^ 96) unmapped in_memory p d ∙ all_mapped_label unmapped p (is_mapped ls p) (mapped_below ls ps p ends f)
-label_in-all_positions len ls ps to_memory in_memory unmapped (k ∷ cs) p ends f c d =
+pub label_in-all_positions : (len : ℕ) (ls : List Load) (to_memory in_memory : List Stretch) (unmapped : ℕ) (cs : List Claim) (p : ℕ) → (is_mapped ls p ≡ true → p < 2 ^ 96) → Carries (source_of ToMemory len ls) to_memory → Carries (source_of InMemory len ls) in_memory → label_in (all_positions to_memory in_memory unmapped cs) p ≡ address_labelling len ls unmapped cs p
+label_in-all_positions len ls to_memory in_memory unmapped [] p h c d =
+    label_in-carried (source_of InMemory len ls) 0 (2 ^ 96) unmapped in_memory p d ∙ all_mapped_label unmapped p (is_mapped ls p) h
+label_in-all_positions len ls to_memory in_memory unmapped (k ∷ cs) p h c d =
     let qs = positions_of k.side to_memory in_memory k.vm k.file k.label in
     let rest = all_positions to_memory in_memory unmapped cs in
     let b = covers_address len ls k.side k.vm k.file (space_of p) (address_of p) in
-    label_in-append qs rest p ∙ (ap (λ x. either x (label_in rest p)) (positions_label k.side len ls to_memory in_memory k.vm k.file k.label p c d) ∙ (ap (λ x. either (within (is_mapped ls p) b k.label) x) (label_in-all_positions len ls ps to_memory in_memory unmapped cs p ends f c d) ∙ joined (is_mapped ls p) b k.label (address_label len ls unmapped cs (space_of p) (address_of p))))
+    label_in-append qs rest p ∙ (ap (λ x. either x (label_in rest p)) (positions_label k.side len ls to_memory in_memory k.vm k.file k.label p c d) ∙ (ap (λ x. either (within (is_mapped ls p) b k.label) x) (label_in-all_positions len ls to_memory in_memory unmapped cs p h c d) ∙ joined (is_mapped ls p) b k.label (address_label len ls unmapped cs (space_of p) (address_of p))))
 
 -- The number of ranges.
 length-offsets_of : (side : Side) (len : ℕ) (to_file : List Stretch) (vm file : Span) (label m : ℕ) → length to_file ≤ m → 1 ≤ m → length (offsets_of side len to_file vm file label) ≤ m
@@ -166,12 +164,3 @@ length-all_positions to_memory in_memory unmapped (k ∷ cs) m a b =
     let one = length-positions_of k.side to_memory in_memory k.vm k.file k.label m a b in
     let more = length-all_positions to_memory in_memory unmapped cs m a b in
     omega (arith, length-append (positions_of k.side to_memory in_memory k.vm k.file k.label) (all_positions to_memory in_memory unmapped cs))
-
--- One more claim.
-pub all_offsets_more : (len : ℕ) (to_file : List Stretch) (unmapped : ℕ) (rs : List Piece) (cs : List Claim) (k : ℕ) (d : Claim) → k < length cs → rs ++ all_offsets len to_file unmapped (drop k cs) ≡ all_offsets len to_file unmapped cs → (rs ++ offsets_of (get_or cs k d).side len to_file (get_or cs k d).vm (get_or cs k d).file (get_or cs k d).label) ++ all_offsets len to_file unmapped (drop (k + 1) cs) ≡ all_offsets len to_file unmapped cs
-all_offsets_more len to_file unmapped rs cs k d h e =
-    append_assoc rs (offsets_of (get_or cs k d).side len to_file (get_or cs k d).vm (get_or cs k d).file (get_or cs k d).label) (all_offsets len to_file unmapped (drop (k + 1) cs)) ∙ (ap (λ q. rs ++ all_offsets len to_file unmapped q) (sym (drop_more cs k d h)) ∙ e)
-
-pub all_positions_more : (to_memory in_memory : List Stretch) (unmapped : ℕ) (rs : List Piece) (cs : List Claim) (k : ℕ) (d : Claim) → k < length cs → rs ++ all_positions to_memory in_memory unmapped (drop k cs) ≡ all_positions to_memory in_memory unmapped cs → (rs ++ positions_of (get_or cs k d).side to_memory in_memory (get_or cs k d).vm (get_or cs k d).file (get_or cs k d).label) ++ all_positions to_memory in_memory unmapped (drop (k + 1) cs) ≡ all_positions to_memory in_memory unmapped cs
-all_positions_more to_memory in_memory unmapped rs cs k d h e =
-    append_assoc rs (positions_of (get_or cs k d).side to_memory in_memory (get_or cs k d).vm (get_or cs k d).file (get_or cs k d).label) (all_positions to_memory in_memory unmapped (drop (k + 1) cs)) ∙ (ap (λ q. rs ++ all_positions to_memory in_memory unmapped q) (sym (drop_more cs k d h)) ∙ e)

@@ -1,14 +1,11 @@
 -- The stretches that are made of the pieces of a cut.
-use Rattle.std.proofs.Common.{◌≡◌, ◌+◌, ◌-◌, ◌*◌, ◌/◌, ◌%◌, ◌^◌, ◌<◌, ◌≤◌, ℕ, zero, suc, Bool, true, false, cond, ltb, ◌||◌, List, [], ◌∷◌, map, Option, None, Some, length, get_or, drop, slice_get, ◌++◌, append_assoc, refl, sym, ap, ◌∙◌, inl, inr, arith}
+use Rattle.std.proofs.Common.{◌≡◌, ◌+◌, ◌-◌, ◌*◌, ◌/◌, ◌%◌, ◌^◌, ◌<◌, ◌≤◌, ℕ, zero, suc, Bool, true, false, cond, ltb, ◌||◌, List, [], ◌∷◌, map, Option, None, Some, length, get_or, refl, sym, ap, ◌∙◌, inl, inr, arith}
 use Rattle.std.proofs.lemmas.Bool.Decides.{nat_tests}
 use Rattle.std.proofs.lemmas.Bool.{cases_lt}
-use Rattle.std.proofs.lemmas.Option.{none-some, slice_get_within, get_or_from_slice_get}
-use Rattle.std.proofs.lemmas.List.{drop_more}
-use Rattle.std.proofs.lemmas.List.Elements.{All-head, All-tail, All-filter, All-map, filter-append}
-use Rattle.std.proofs.lemmas.List.Sorted.{All-permutation, list_any-IsPermutation}
+use Rattle.std.proofs.lemmas.Option.{none-some}
+use Rattle.std.proofs.lemmas.List.Elements.{All-head, All-tail, All-filter, All-map}
 use Rattle.std.proofs.lemmas.Map.Views.{any-filter_same}
 use Rattle.std.specs.List.{All, list_any}
-use Rattle.std.specs.List.Sorted.{IsPermutation}
 use Rattle.size_core.specs.declared.claim.Load.{Load}
 use Rattle.size_model.specs.declared.piece.Piece.{Piece}
 use Rattle.size_model.specs.Cut.{end_of, has, label_in, IsTidy, IsCut}
@@ -16,18 +13,16 @@ use Rattle.size_model.specs.Loads.{load_len, addr, place_in, is_mapped, space_of
 use Rattle.range_map.specs.Ranges.{EndsBy}
 use Rattle.range_map.proofs.Pieces.{EndsBy-get}
 use Rattle.range_map.proofs.LookUp.{label_at-get}
-use Rattle.dual_map.specs.declared.way.Stretch.{Stretch}
-use Rattle.dual_map.specs.declared.way.Way.{Way}
-use Rattle.dual_map.specs.declared.way.Way.TheVariants.{ToFile, ToMemory, InMemory}
+use Rattle.dual_map.specs.declared.stretch.Stretch.{Stretch}
 use Rattle.dual_map.specs.Layout.{load_of_offset, load_of_position}
-use Rattle.dual_map.specs.Way.{position_if_any, position_of_load, source_of, stretch_of, stretches_of, some_of, load_of, no_load, first_of, has_target, Carries, IsPieceOf}
+use Rattle.dual_map.specs.Way.{Way, ToFile, ToMemory, InMemory, position_if_any, position_of_load, source_of, stretch_of, stretches_of, some_of, load_of, no_load, first_of, has_target, Carries, IsPieceOf}
 use Rattle.dual_map.proofs.Carrying.{Sound, target_bounds, has_target-in}
 use Rattle.dual_map.proofs.LoadLemmas.{first_covers_offset, offset_bounds, addr_none, first_covers_address, address_bounds, unmapped, placed_mapped}
 
 -- A stretch is sound, and it has each number of its piece that has a source.
-record Fits (source : ℕ → Option ℕ) (make : Piece → Stretch) (p : Piece) : Type 0 where
-  inside : (y : ℕ) → has_target (make p) y ≡ true → source y ≡ Some ((make p).source + (y - (make p).target))
-  covered : (y v : ℕ) → has p y ≡ true → source y ≡ Some v → has_target (make p) y ≡ true
+pub record Fits (source : ℕ → Option ℕ) (make : Piece → Stretch) (p : Piece) : Type 0 where
+  pub inside : (y : ℕ) → has_target (make p) y ≡ true → source y ≡ Some ((make p).source + (y - (make p).target))
+  pub covered : (y v : ℕ) → has p y ≡ true → source y ≡ Some v → has_target (make p) y ≡ true
 
 any_step : (b c d e : Bool) → (b ≡ true → d ≡ true) → (c ≡ true → e ≡ true) → b || c ≡ true → d || e ≡ true
 any_step true c true e f g h = refl
@@ -50,17 +45,10 @@ Carries-made source make ps a h = record {
       any-filter_same (λ (s : Stretch). has_target s y) (λ (s : Stretch). ltb 0 s.len) true (λ s t. target_some s y t) (map make ps) ∙ any_target source make ps y v a e (h y v e);
 }
 
--- The order of stretches doesn't matter.
-pub Carries-permutation : (source : ℕ → Option ℕ) (ss ts : List Stretch) → IsPermutation ss ts → Carries source ss → Carries source ts
-Carries-permutation source ss ts perm c = record {
-  sound = All-permutation (Sound source) ss ts perm c.sound;
-  whole = λ y v e. sym (list_any-IsPermutation (λ (s : Stretch). has_target s y) ss ts perm) ∙ c.whole y v e;
-}
-
 has_bounds : (p : Piece) (y : ℕ) → has p y ≡ true → (p.start ≤ y) × (y < end_of p)
 has_bounds p y e = (grind (arith, nat_tests), grind (arith, nat_tests))
 
-has_from : (p : Piece) (y : ℕ) → p.start ≤ y → y < end_of p → has p y ≡ true
+pub has_from : (p : Piece) (y : ℕ) → p.start ≤ y → y < end_of p → has p y ≡ true
 has_from p y a b = grind (arith, nat_tests)
 
 -- A position that has a label lies in a piece.
@@ -126,7 +114,7 @@ address_pieces way ls ps same ends c k d l =
     let at = same (load_of ls p) in
     record { within = first.within; lies = record { low = omega arith; high = omega arith; fits = EndsBy-get ps (2 ^ 96) k d ends l } }
 
-offset_fits : (len : ℕ) (ls : List Load) (ps : List Piece) → len < 2 ^ 63 → IsCut (load_of_offset len ls) ps → All (Fits (source_of ToFile len ls) (λ p. stretch_of ToFile len (load_of ls p) p)) ps
+pub offset_fits : (len : ℕ) (ls : List Load) (ps : List Piece) → len < 2 ^ 63 → IsCut (load_of_offset len ls) ps → All (Fits (source_of ToFile len ls) (λ p. stretch_of ToFile len (load_of ls p) p)) ps
 offset_fits len ls ps small c k d l =
     let p = get_or ps k d in
     let start = (offset_pieces len ls ps small c k d l).lies.low in
@@ -152,7 +140,7 @@ place_in-bounds len l r v e =
       | inr a ↦ absurd (none-some v (let n : place_in len l r ≡ None = grind (arith, nat_tests) in sym n ∙ e))
     ]
 
-memory_fits : (len : ℕ) (ls : List Load) (ps : List Piece) → IsCut (load_of_position ls) ps → All (Fits (source_of ToMemory len ls) (λ p. stretch_of ToMemory len (load_of ls p) p)) ps
+pub memory_fits : (len : ℕ) (ls : List Load) (ps : List Piece) → IsCut (load_of_position ls) ps → All (Fits (source_of ToMemory len ls) (λ p. stretch_of ToMemory len (load_of ls p) p)) ps
 memory_fits len ls ps c k d l =
     let p = get_or ps k d in
     let q = load_of ls p in
@@ -222,14 +210,6 @@ Carries-in_memory len ls ps c =
     Carries-made (source_of InMemory len ls) (λ p. stretch_of InMemory len (load_of ls p) p) ps (still_fits len ls ps c) (λ y v e.
     let w = some_mapped ls y (load_of_position ls y) refl (if_mapped (is_mapped ls y) y v e) in
     any_some (load_of_position ls) ps y w.0 c w.1)
-
--- One more piece.
-pub some_more : (make : Piece → Stretch) (rs : List Stretch) (ps : List Piece) (k : ℕ) (p : Piece) (whole : List Stretch) → slice_get ps k ≡ Some p → rs ++ some_of (map make (drop k ps)) ≡ whole → (rs ++ some_of (make p ∷ [])) ++ some_of (map make (drop (k + 1) ps)) ≡ whole
-some_more make rs ps k p whole e h =
-    append_assoc rs (some_of (make p ∷ [])) (some_of (map make (drop (k + 1) ps)))
-    ∙ (ap (λ ss. rs ++ ss) (sym (filter-append (λ (s : Stretch). ltb 0 s.len) (make p ∷ []) (map make (drop (k + 1) ps))))
-    ∙ (ap (λ q. rs ++ some_of (map make (q ∷ drop (k + 1) ps))) (sym (get_or_from_slice_get ps k p p e))
-    ∙ (ap (λ qs. rs ++ some_of (map make qs)) (sym (drop_more ps k p (slice_get_within ps k p e))) ∙ h)))
 
 length_some : (ss : List Stretch) → length (some_of ss) ≤ length ss
 length_some [] = omega arith

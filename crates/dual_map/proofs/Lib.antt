@@ -2,4 +2,8 @@ pub mod BaseLemmas
 pub mod Carrying
 pub mod ClaimLemmas
 pub mod Gathering
+pub mod LayerLemmas
 pub mod LoadLemmas
+pub mod PaintLemmas
+pub mod RunLemmas
+pub mod WalkLemmas

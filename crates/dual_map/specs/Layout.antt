@@ -1,9 +1,9 @@
 -- A base and a pair of maps as contracts see them, and the first load that covers an offset or a position.
-use Rattle.std.specs.Prelude.{◌≡◌, ◌+◌, ◌<◌, ℕ, max, length, All, Bool, nat_lt, is_some, if◌then◌else◌, List, [], ◌∷◌, Option, None, Some}
+use Rattle.std.specs.Prelude.{◌≡◌, ◌+◌, ◌*◌, ◌^◌, ◌<◌, ◌≤◌, ℕ, max, length, All, Bool, true, nat_lt, is_some, if◌then◌else◌, List, [], ◌∷◌, Option, None, Some}
 use Rattle.size_core.specs.declared.claim.Load.{Load}
 use Rattle.size_model.specs.declared.piece.Piece.{Piece}
 use Rattle.size_model.specs.Cut.{label_in, IsCut, IsTidy}
-use Rattle.size_model.specs.Loads.{load_has_offset, load_has_address, is_mapped, space_of, address_of}
+use Rattle.size_model.specs.Loads.{load_has_offset, load_has_address, is_mapped, space_of, address_of, IsLoad}
 
 -- A file: its length in bytes, and its loads in order.
 pub record Layout : Type 0 where
@@ -50,3 +50,10 @@ pub record HasPieces (layout : Layout) (b : ℕ) : Type 0 where
   pub offsets_cut : IsCut (load_of_offset layout.len layout.loads) offsets
   pub positions_cut : IsCut (load_of_position layout.loads) positions
   pub larger : b ≡ max (length offsets) (length positions)
+
+-- What is known of each base: the length and the loads of its file, and a bound on the number of its pieces.
+pub record IsLayout (layout : Layout) : Type 0 where
+  pub len_fits : layout.len < 2 ^ 63
+  pub loads_fit : All IsLoad layout.loads
+  pub mapped_fits : (p : ℕ) → is_mapped layout.loads p ≡ true → p < 2 ^ 96
+  pub pieces : (b : ℕ) × HasPieces layout b × (b ≤ 2 * length layout.loads)

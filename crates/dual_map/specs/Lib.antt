@@ -1,6 +1,9 @@
 pub mod Base
 pub mod Index
+pub mod Layers
 pub mod Layout
 pub mod Loads
+pub mod Paint
 pub mod Ranges
+pub mod Runs
 pub mod Way

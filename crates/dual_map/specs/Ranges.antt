@@ -5,7 +5,7 @@ use Rattle.size_core.specs.declared.claim.Claim.{Claim}
 use Rattle.size_core.specs.declared.claim.Side.{Side}
 use Rattle.size_core.specs.declared.claim.Side.TheVariants.{File, Vm, Both}
 use Rattle.size_model.specs.declared.piece.Piece.{Piece}
-use Rattle.dual_map.specs.declared.way.Stretch.{Stretch}
+use Rattle.dual_map.specs.declared.stretch.Stretch.{Stretch}
 use Rattle.dual_map.specs.Index.{carried, kept}
 
 -- The first position of a span of addresses.

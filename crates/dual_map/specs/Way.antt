@@ -5,9 +5,14 @@ use Rattle.size_core.specs.declared.claim.Load.{Load}
 use Rattle.size_model.specs.declared.piece.Piece.{Piece}
 use Rattle.size_model.specs.Cut.{end_of}
 use Rattle.size_model.specs.Loads.{load_len, addr, place, is_mapped, space_of, address_of}
-use Rattle.dual_map.specs.declared.way.Stretch.{Stretch}
-use Rattle.dual_map.specs.declared.way.Way.{Way}
-use Rattle.dual_map.specs.declared.way.Way.TheVariants.{ToFile, ToMemory, InMemory}
+use Rattle.dual_map.specs.declared.stretch.Stretch.{Stretch}
+
+-- The direction of a translation: from positions to the offsets that are loaded there, from offsets to the
+-- positions that they are loaded to, and from each mapped position to itself.
+pub data Way : Type 0 where
+  ToFile : Way
+  ToMemory : Way
+  InMemory : Way
 
 -- The position of an address in an address space.
 abbrev pub position_at : ℕ × ℕ → ℕ
@@ -17,12 +22,12 @@ position_at a = a.0 * 2 ^ 64 + a.1
 abbrev pub position_of_load : Load → ℕ
 position_of_load l = l.space * 2 ^ 64 + l.vaddr
 
--- The position of an address, where there is one.
+-- The position of an address, if there is one.
 abbrev pub position_if_any : Option (ℕ × ℕ) → Option ℕ
 position_if_any None = None
 position_if_any (Some a) = Some (position_at a)
 
--- The source of a number in a translation, where it has one.
+-- The source of a number in a translation, if it has one.
 abbrev pub source_of : Way → ℕ → List Load → ℕ → Option ℕ
 source_of ToFile len loads o = position_if_any (addr len loads o)
 source_of ToMemory len loads p = place len loads (space_of p) (address_of p)
@@ -41,6 +46,10 @@ stretch_of InMemory len l p = record { source = p.start; target = p.start; len =
 -- The load without a byte.
 abbrev pub no_load : Load
 no_load = record { space = 0; vaddr = 0; memsz = 0; offset = 0; filesz = 0 }
+
+-- The stretch to these targets, without a source that matters.
+abbrev pub gap_of : ℕ → ℕ → Stretch
+gap_of from to = record { source = 0; target = from; len = to - from }
 
 -- The stretch without a number.
 abbrev pub no_stretch : Stretch

@@ -1,19 +1,20 @@
 //! The loads of a file, with indices for translating between file offsets and virtual addresses.
 
-ghost use Rattle.std.specs.Prelude.{◌≡◌, ◌+◌, ◌*◌, ◌^◌, ◌<◌, ◌≤◌, ℕ, length, max, IfOk, All};
+ghost use Rattle.std.specs.Prelude.{◌≡◌, ◌+◌, ◌*◌, ◌^◌, ◌<◌, ◌≤◌, length, IfOk, OnOk, All};
 ghost use Rattle.size_model.specs.Cut.{IsCut};
-ghost use Rattle.size_model.specs.Labels.{offset_labelling, address_labelling};
 ghost use Rattle.size_model.specs.Loads.{addr, mapped, mapped_count, place, place_in, IsLoad};
 ghost use Rattle.range_map.specs.Ranges.{IsRange};
-ghost use Rattle.dual_map.specs.Layout.{HasPieces};
+ghost use Rattle.dual_map.specs.Layout.{HasPieces, IsLayout};
 ghost use Rattle.dual_map.specs.Loads.{file_ranges, address_ranges};
+ghost use Rattle.dual_map.specs.Paint.{offset_labels, position_labels, IsLabelled, HasNumbers};
 
-use crate::ranges::{push_offsets, push_positions};
+use crate::layers::Layers;
+use crate::paint::paint;
+use crate::position::{position, position_of};
 use crate::reads::{label_of, piece_of};
-use crate::stretches::{Stretches, push_some};
-use crate::way::{Way, position, position_of};
+use crate::stretch::{Stretch, to_file, to_memory};
 use range_map::{Piece, RangeMap};
-use size_core::{Claim, Load, NoMemory};
+use size_core::{Load, NoMemory};
 use std::alloc::{AllocError, Global};
 use std::marker::Model;
 
@@ -26,11 +27,6 @@ pub struct Base {
     // For each offset, and for each position, the number of the first load that covers it.
     offsets: RangeMap,
     positions: RangeMap,
-    // Three translations: from positions to the offsets that are loaded there, from offsets to the positions
-    // that they are loaded to, and from each mapped position to itself.
-    to_file: Stretches,
-    to_memory: Stretches,
-    in_memory: Stretches,
 }
 
 impl Model for Base {
@@ -78,7 +74,7 @@ fn positions_of(alloc: Global, loads: &[Load]) -> Result<Vec<Piece>, AllocError>
     Ok(ranges)
 }
 
-// The file offset of an address in this load. `None` where the load doesn't cover the address, or has no byte
+// The file offset of an address in this load. `None` if the load doesn't cover the address, or has no byte
 // of the file there.
 fn offset_in(file_len: u64, load: &Load, address: u64) -> Option<u64>
     ensures { result ≡ place_in file_len load.now address }
@@ -105,17 +101,11 @@ impl Base {
         let offsets = RangeMap::build(alloc, ranges.as_slice())?;
         let ranges = positions_of(alloc, loads)?;
         let positions = RangeMap::build(alloc, ranges.as_slice())?;
-        let to_file = Stretches::build(alloc, &offsets, Way::ToFile, file_len, loads)?;
-        let to_memory = Stretches::build(alloc, &positions, Way::ToMemory, file_len, loads)?;
-        let in_memory = Stretches::build(alloc, &positions, Way::InMemory, file_len, loads)?;
         Ok(Base {
             file_len,
             loads: loads.to_vec(alloc)?,
             offsets,
             positions,
-            to_file,
-            to_memory,
-            in_memory,
         })
     }
 
@@ -127,7 +117,7 @@ impl Base {
     }
 
     /// The address space and the virtual address of a file offset, by the first load that covers it. `None`
-    /// where no load does.
+    /// if no load does.
     pub fn to_vm(&self, offset: u64) -> Option<(u32, u64)>
         ensures { result ≡ addr self.now.len self.now.loads offset }
     {
@@ -137,7 +127,7 @@ impl Base {
     }
 
     /// The file offset of a virtual address in an address space, by the first load that covers the address.
-    /// `None` where no load does, or where the load has no byte of the file there.
+    /// `None` if no load does, or if the load has no byte of the file there.
     pub fn to_file(&self, space: u32, address: u64) -> Option<u64>
         ensures { result ≡ place self.now.len self.now.loads space address }
     {
@@ -173,50 +163,76 @@ impl Base {
         self.offsets.len().max(self.positions.len())
     }
 
-    // The label of each offset, by the first claim that covers it.
-    pub(crate) fn file_map(
-        &self,
-        alloc: Global,
-        claims: &[Claim],
-        unmapped: usize,
-    ) -> Result<RangeMap, NoMemory>
-        ensures cut { IfOk result (IsCut (offset_labelling self.now.len self.now.loads unmapped claims.now)) }
-        ensures few { IfOk result (λ map. (b : ℕ) → HasPieces self.now b
-            → length map ≤ 2 * (length claims.now * max 1 b + 1)) }
-        ensures few_by_loads { IfOk result
-            (λ map. length map ≤ 2 * (length claims.now * (2 * length self.now.loads + 1) + 1)) }
+    // The label of each offset, as ranges in ascending order.
+    fn painted_offsets(&self, alloc: Global, layers: &Layers) -> Result<Vec<Piece>, AllocError>
+        requires { HasNumbers layers.now.labels.items layers.now.file }
+        ensures labels { IfOk result
+            (λ v. IsLabelled (offset_labels self.now.len self.now.loads layers.now) v.items) }
+        ensures layout { OnOk result (IsLayout self.now) }
     {
-        let mut ranges = Vec::new(alloc);
-        for claim in claims {
-            push_offsets(&mut ranges, self.file_len, &self.to_file, claim)?;
+        let labels = layers.labels.as_slice();
+        let nothing = RangeMap::new(alloc);
+        let mut out = Vec::new(alloc);
+        let mut from = 0;
+        for i in 0..self.offsets.len() {
+            let piece = piece_of(&self.offsets, i);
+            let before = Stretch::gap(from, piece.start);
+            paint(&mut out, &layers.file, &nothing, labels, &before)?;
+            let stretch = to_file(&self.loads[piece.label], &piece);
+            paint(
+                &mut out,
+                &layers.file,
+                &layers.memory.alone,
+                labels,
+                &stretch,
+            )?;
+            from = piece.start + piece.len;
         }
-        let whole = Piece {
-            start: 0,
-            len: u128::from(self.file_len),
-            label: unmapped,
-        };
-        push_some(&mut ranges, whole)?;
+        let after = Stretch::gap(from, u128::from(self.file_len));
+        paint(&mut out, &layers.file, &nothing, labels, &after)?;
+        Ok(out)
+    }
+
+    // The label of each mapped position, as ranges in ascending order.
+    fn painted_positions(&self, alloc: Global, layers: &Layers) -> Result<Vec<Piece>, AllocError>
+        requires { HasNumbers layers.now.labels.items layers.now.memory }
+        ensures { IfOk result (λ v. IsLabelled (position_labels self.now.len self.now.loads layers.now) v.items) }
+    {
+        let labels = layers.labels.as_slice();
+        let nothing = RangeMap::new(alloc);
+        let mut out = Vec::new(alloc);
+        for i in 0..self.positions.len() {
+            let piece = piece_of(&self.positions, i);
+            let stretch = to_memory(self.file_len, &self.loads[piece.label], &piece);
+            paint(
+                &mut out,
+                &layers.memory,
+                &layers.file.alone,
+                labels,
+                &stretch,
+            )?;
+            let rest = Stretch::gap(piece.start + stretch.len, piece.start + piece.len);
+            paint(&mut out, &layers.memory, &nothing, labels, &rest)?;
+        }
+        Ok(out)
+    }
+
+    // The label of each offset, by the first claim that covers it.
+    pub(crate) fn file_map(&self, alloc: Global, layers: &Layers) -> Result<RangeMap, NoMemory>
+        requires { HasNumbers layers.now.labels.items layers.now.file }
+        ensures cut { IfOk result (IsCut (offset_labels self.now.len self.now.loads layers.now)) }
+        ensures layout { OnOk result (IsLayout self.now) }
+    {
+        let ranges = self.painted_offsets(alloc, layers)?;
         RangeMap::build(alloc, ranges.as_slice())
     }
 
-    // The label of each mapped address, by the first claim that covers it.
-    pub(crate) fn vm_map(
-        &self,
-        alloc: Global,
-        claims: &[Claim],
-        unmapped: usize,
-    ) -> Result<RangeMap, NoMemory>
-        ensures cut { IfOk result (IsCut (address_labelling self.now.len self.now.loads unmapped claims.now)) }
-        ensures few { IfOk result (λ map. (b : ℕ) → HasPieces self.now b
-            → length map ≤ 2 * ((length claims.now + 1) * max 1 b)) }
-        ensures few_by_loads { IfOk result
-            (λ map. length map ≤ 2 * ((length claims.now + 1) * (2 * length self.now.loads + 1))) }
+    // The label of each mapped position, by the first claim that covers it.
+    pub(crate) fn vm_map(&self, alloc: Global, layers: &Layers) -> Result<RangeMap, NoMemory>
+        requires { HasNumbers layers.now.labels.items layers.now.memory }
+        ensures { IfOk result (IsCut (position_labels self.now.len self.now.loads layers.now)) }
     {
-        let mut ranges = Vec::new(alloc);
-        for claim in claims {
-            push_positions(&mut ranges, &self.to_memory, &self.in_memory, claim)?;
-        }
-        self.in_memory.carry(&mut ranges, 0, 1 << 96, unmapped)?;
+        let ranges = self.painted_positions(alloc, layers)?;
         RangeMap::build(alloc, ranges.as_slice())
     }
 }

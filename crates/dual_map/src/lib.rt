@@ -5,11 +5,13 @@
 #![tactic(auto)]
 
 mod base;
+mod layers;
 mod maps;
-mod ranges;
+mod paint;
+mod position;
 mod reads;
-mod stretches;
-mod way;
+mod run;
+mod stretch;
 
 pub use base::Base;
 pub use maps::DualMap;

@@ -6,6 +6,7 @@ ghost use Rattle.size_model.specs.Labels.{offset_labelling, address_labelling};
 ghost use Rattle.dual_map.specs.Layout.{HasPieces, IsOver, LabelsBelow};
 
 use crate::base::Base;
+use crate::layers::Layers;
 use range_map::RangeMap;
 use size_core::{Claim, NoMemory};
 use std::alloc::Global;
@@ -55,8 +56,9 @@ impl DualMap {
         ensures few_by_loads { IfOk result (λ m. length m.file + length m.vm
             ≤ 4 * length claims.now * (2 * length base.now.loads + 1) + 2 * (2 * length base.now.loads + 1) + 4) }
     {
-        let file = base.file_map(alloc, claims, unmapped)?;
-        let vm = base.vm_map(alloc, claims, unmapped)?;
+        let layers = Layers::build(alloc, claims, unmapped)?;
+        let file = base.file_map(alloc, &layers)?;
+        let vm = base.vm_map(alloc, &layers)?;
         Ok(DualMap { file, vm })
     }
 

@@ -14,7 +14,7 @@ use Rattle.std.specs.Int.{Width, byte_len, w8, w32, w64}
 use Rattle.dwarf_abbrev.specs.declared.constants.TheConstants.{DW_FORM_IMPLICIT_CONST, WIDE_LENGTH}
 use Rattle.dwarf_abbrev.specs.declared.declaration.Head.{Head}
 use Rattle.dwarf_abbrev.specs.Reads.{uleb_from, sleb_from, byte_from, num_from, faults_at}
-use Rattle.dwarf_abbrev.specs.Lengths.{length_behind, checked_length, initial_length_from}
+use Rattle.dwarf_abbrev.specs.Lengths.{checked_length, initial_length_from, rest_of_length}
 use Rattle.dwarf_abbrev.specs.Listing.{left, listing_from, going_on, Shortens}
 use Rattle.dwarf_abbrev.specs.Declarations.{constant_from, is_end, rest_of_spec, spec_from, specs_from, rest_of_head, head_from, Declaration, rest_of_declaration, declaration_from, declarations_from}
 
@@ -213,8 +213,8 @@ num_below width order w some = by_size (nat_lt (length w.bytes) (w.at + byte_len
     by_size true is = tt
     by_size false is = let within : w.at + byte_len width ≤ length w.bytes = grind (arith, common_steps) in omega arith
 
-length_behind_below : (order : Order) (first : ℕ × Window) → Below (suc (left first.1)) (length_behind order first)
-length_behind_below order first = if_below (suc (left first.1)) (first.0 == WIDE_LENGTH) (num_from w64 order first.1 >>= (λ n. Ok (record { len = n.0; wide = true }, n.1))) (Ok (record { len = first.0; wide = false }, first.1))
+rest_of_length_below : (order : Order) (first : ℕ × Window) → Below (suc (left first.1)) (rest_of_length order first)
+rest_of_length_below order first = if_below (suc (left first.1)) (first.0 == WIDE_LENGTH) (num_from w64 order first.1 >>= (λ n. Ok (record { len = n.0; wide = true }, n.1))) (Ok (record { len = first.0; wide = false }, first.1))
     (bind_below (left first.1) (suc (left first.1)) (num_from w64 order first.1) _ (num_below w64 order first.1 (omega arith)) (λ n fewer. omega arith)) (omega arith)
 
 check_below : {X : Type 0} (n : ℕ) (c : Check) (r : Result (X × Window) BadFile) → Below n r → Below n (c >> r)
@@ -229,5 +229,5 @@ placed_below n place (Err e) h = tt
 pub length_below : (order : Order) (w : Window) → Below (left w) (initial_length_from order w)
 unfolding initial_length_from checked_length
 length_below order w = placed_below (left w) (place_of w) _ (bind_below (left w) (left w) (num_from w32 order w) _ (num_below w32 order w (omega arith)) (λ first fewer.
-    check_below (left w) _ _ (bind_below (suc (left first.1)) (left w) (length_behind order first) _ (length_behind_below order first) (λ initial less.
+    check_below (left w) _ _ (bind_below (suc (left first.1)) (left w) (rest_of_length order first) _ (rest_of_length_below order first) (λ initial less.
     let shorter : left initial.1 < left w = omega arith in check_below (left w) _ (Ok initial) shorter))))

@@ -83,7 +83,7 @@ abbrev pub table_in : Option Window → ℕ → Result Table BadFile
 table_in None place = bad OffsetOutside place
 table_in (Some w) place = (declarations_from w).end >>= λ next. Ok (record { place = place_of w; len = left w - left next; declarations = (declarations_from w).items })
 
--- The table at an offset of the section, or its first fault. Where the offset is outside the section, the fault
+-- The table at an offset of the section, or its first fault. If the offset is outside the section, the fault
 -- has the file offset `place` (DWARF 5, section 7.5.3).
 unfoldable pub table_at : Window → ℕ → ℕ → Result Table BadFile
 table_at section offset place = table_in (inside section offset) place

@@ -12,8 +12,8 @@ use Rattle.dwarf_abbrev.specs.Reads.{num_from, faults_at}
 
 -- The rest of an initial length after its first four bytes, with whether offsets have eight bytes (DWARF 5,
 -- section 7.4).
-abbrev pub length_behind : Order → ℕ × Window → Result (InitialLength × Window) BadFile
-length_behind order first =
+abbrev pub rest_of_length : Order → ℕ × Window → Result (InitialLength × Window) BadFile
+rest_of_length order first =
     if first.0 == WIDE_LENGTH then num_from w64 order first.1 >>= (λ n. Ok (record { len = n.0; wide = true }, n.1))
     else Ok (record { len = first.0; wide = false }, first.1)
 
@@ -26,12 +26,12 @@ unfoldable pub checked_length : Order → Window → Result (InitialLength × Wi
 checked_length order w = do
   first ← num_from w32 order w
   demand (not (is_reserved first.0)) BadUnit (place_of w)
-  initial ← length_behind order first
+  initial ← rest_of_length order first
   demand (nat_le (initial.1.at + initial.0.len) (length initial.1.bytes)) BadUnit (place_of w)
   Ok initial
 
--- An initial length, and the window after it. Each fault has the length's file offset: Truncated where it isn't
--- complete, BadUnit where its first four bytes are reserved or the contents reach past the end of the window
+-- An initial length, and the window after it. Each fault has the length's file offset: Truncated if it isn't
+-- complete, BadUnit if its first four bytes are reserved or the contents reach past the end of the window
 -- (DWARF 5, section 7.4).
 unfoldable pub initial_length_from : Order → Window → Result (InitialLength × Window) BadFile
 initial_length_from order w = faults_at (place_of w) (checked_length order w)

@@ -89,7 +89,7 @@ offset_from order wide w = number_from order (offset_digits wide) w
 abbrev pub address_from : Order → ℕ → Window → Result (ℕ × Window) BadFile
 address_from order size w = number_from order (address_digits size) w
 
--- The window at an offset of a section, where the section is what its window has left. None where the offset
+-- The window at an offset of a section. The section begins at the position of its window. None if the offset
 -- isn't below the section's length.
 abbrev pub inside : Window → ℕ → Option Window
 inside section offset = if nat_lt (section.at + offset) (length section.bytes) then Some (record section { at = section.at + offset }) else None

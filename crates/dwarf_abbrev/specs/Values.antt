@@ -66,7 +66,7 @@ number_content SectionOffset n = ASecOffset n
 number_content ListIndex n = AListIndex n
 number_content Other n = NoMeaning
 
--- A value whose form is given, that is neither implicit nor indirect (DWARF 5, section 7.5.5).
+-- A value in this encoding. UnknownForm for an implicit or indirect one (DWARF 5, section 7.5.5).
 unfoldable pub plain_from : Order → Layout → Window → Result (Meaning × Window) BadFile
 plain_from order (Number digits sense) w = do
   n ← number_from order digits w
@@ -87,11 +87,11 @@ plain_from order (Bytes count) w = do
 plain_from order Implicit w = bad UnknownForm (place_of w)
 plain_from order Indirect w = bad UnknownForm (place_of w)
 
--- The encoding of the form with this number, where there is such a form.
+-- The encoding of the form with this number, if there is such a form.
 abbrev pub layout_of_number : UnitShape → ℕ → Option Layout
 layout_of_number s n = option_map (layout_of s) (form_of n)
 
--- A value in this encoding; UnknownForm where there is none.
+-- A value in this encoding; UnknownForm if there is none.
 abbrev pub known_from : Order → Option Layout → Window → Result (Meaning × Window) BadFile
 known_from order None w = bad UnknownForm (place_of w)
 known_from order (Some layout) w = plain_from order layout w
@@ -106,8 +106,8 @@ content_by s constant (Some Indirect) w = do
   known_from s.order (layout_of_number s form.0) form.1
 content_by s constant (Some layout) w = plain_from s.order layout w
 
--- The value of an attribute. Each fault has its file offset: UnknownForm, Truncated where it reaches past the
--- end of the window, BadLeb where a number in it is too large (DWARF 5, section 7.5.5).
+-- The value of an attribute. Each fault has its file offset: UnknownForm, Truncated if it reaches past the
+-- end of the window, BadLeb if a number in it is too large (DWARF 5, section 7.5.5).
 unfoldable pub value_from : UnitShape → Spec → Window → Result (ValueRecord × Window) BadFile
 value_from s spec w = faults_at (place_of w) do
   content ← content_by s spec.constant (layout_of_number s spec.form) w

@@ -73,7 +73,7 @@ pub fn pass_specs(cursor: &mut Cursor) -> Result<(), BadFile>
 }
 
 /// The rest of a declaration's head, after its code: the tag and the byte that says whether entries have
-/// children. `None` where the code is 0, the end of the table.
+/// children. `None` if the code is 0, the end of the table.
 #[tactic(auto, unfolding(crate::specs::Declarations::rest_of_head))]
 fn rest_of_head(cursor: &mut Cursor, code: u64) -> Result<Option<Head>, BadFile>
     ensures { Reads (λ x. x) result cursor.new (rest_of_head code cursor.old) }

@@ -3,7 +3,7 @@
 ghost use Rattle.std.specs.Prelude.{◌≡◌};
 ghost use Rattle.size_core.specs.Checks.{bad};
 ghost use Rattle.size_core.specs.declared.fault.Fault.TheVariants.{BadUnit};
-ghost use Rattle.dwarf_abbrev.specs.Lengths.{checked_length, initial_length_from, is_reserved, length_behind};
+ghost use Rattle.dwarf_abbrev.specs.Lengths.{checked_length, initial_length_from, is_reserved, rest_of_length};
 ghost use Rattle.dwarf_abbrev.specs.Reads.{Reads, Takes};
 
 use crate::constants::{FIRST_RESERVED_LENGTH, WIDE_LENGTH};
@@ -21,8 +21,8 @@ pub struct InitialLength {
 }
 
 /// The rest of a length, after its first four bytes.
-fn length_behind(cursor: &mut Cursor, first: u32, order: Order) -> Result<InitialLength, BadFile>
-    ensures { Reads (λ x. x) result cursor.new (length_behind order (first, cursor.old)) }
+fn rest_of_length(cursor: &mut Cursor, first: u32, order: Order) -> Result<InitialLength, BadFile>
+    ensures { Reads (λ x. x) result cursor.new (rest_of_length order (first, cursor.old)) }
 {
     if first == WIDE_LENGTH {
         let len = u64_from(cursor, order)?;
@@ -62,15 +62,15 @@ fn checked_length(cursor: &mut Cursor, order: Order) -> Result<InitialLength, Ba
     if is_reserved(first) {
         return bad_unit(place);
     }
-    let initial = length_behind(cursor, first, order)?;
+    let initial = rest_of_length(cursor, first, order)?;
     if cursor.left() < initial.len {
         return bad_unit(place);
     }
     Ok(initial)
 }
 
-/// Reads an initial length: 4 bytes, or ffffffff and 8 bytes. Truncated where it isn't complete. BadUnit where
-/// its first four bytes are fffffff0 to fffffffe, or where the contents reach past the end of the window.
+/// Reads an initial length: 4 bytes, or ffffffff and 8 bytes. Truncated if it isn't complete. BadUnit if
+/// its first four bytes are fffffff0 to fffffffe, or if the contents reach past the end of the window.
 #[tactic(auto, unfolding(crate::specs::Lengths::initial_length_from))]
 pub fn initial_length(cursor: &mut Cursor, order: Order) -> Result<InitialLength, BadFile>
     ensures { Takes (λ x. x) result cursor.old cursor.new (initial_length_from order cursor.old) }

@@ -10,7 +10,7 @@ use crate::form::{Digits, address_digits, offset_digits};
 use byte_cursor::{Cursor, Order};
 use size_core::BadFile;
 
-/// Reads a byte. Truncated where none is left.
+/// Reads a byte. Truncated if none is left.
 #[tactic(auto, unfolding(crate::specs::Reads::num_from))]
 pub fn u8_from(cursor: &mut Cursor) -> Result<u8, BadFile>
     ensures { Takes (λ n. n) result cursor.old cursor.new (byte_from cursor.old) }
@@ -18,7 +18,7 @@ pub fn u8_from(cursor: &mut Cursor) -> Result<u8, BadFile>
     cursor.u8()
 }
 
-/// Reads a two-byte number. Truncated where fewer bytes are left.
+/// Reads a two-byte number. Truncated if fewer bytes are left.
 #[tactic(auto, unfolding(crate::specs::Reads::num_from))]
 pub fn u16_from(cursor: &mut Cursor, order: Order) -> Result<u16, BadFile>
     ensures { Takes (λ n. n) result cursor.old cursor.new (num_from w16 order cursor.old) }
@@ -26,7 +26,7 @@ pub fn u16_from(cursor: &mut Cursor, order: Order) -> Result<u16, BadFile>
     cursor.u16(order)
 }
 
-/// Reads a four-byte number. Truncated where fewer bytes are left.
+/// Reads a four-byte number. Truncated if fewer bytes are left.
 #[tactic(auto, unfolding(crate::specs::Reads::num_from))]
 pub fn u32_from(cursor: &mut Cursor, order: Order) -> Result<u32, BadFile>
     ensures { Takes (λ n. n) result cursor.old cursor.new (num_from w32 order cursor.old) }
@@ -34,7 +34,7 @@ pub fn u32_from(cursor: &mut Cursor, order: Order) -> Result<u32, BadFile>
     cursor.u32(order)
 }
 
-/// Reads an eight-byte number. Truncated where fewer bytes are left.
+/// Reads an eight-byte number. Truncated if fewer bytes are left.
 #[tactic(auto, unfolding(crate::specs::Reads::num_from))]
 pub fn u64_from(cursor: &mut Cursor, order: Order) -> Result<u64, BadFile>
     ensures { Takes (λ n. n) result cursor.old cursor.new (num_from w64 order cursor.old) }
@@ -42,7 +42,7 @@ pub fn u64_from(cursor: &mut Cursor, order: Order) -> Result<u64, BadFile>
     cursor.u64(order)
 }
 
-/// Reads an unsigned LEB128 number. Truncated where it doesn't end in the window, and BadLeb where it exceeds
+/// Reads an unsigned LEB128 number. Truncated if it doesn't end in the window, and BadLeb if it exceeds
 /// 2^64 - 1.
 #[tactic(auto, unfolding(crate::specs::Reads::uleb_from))]
 pub fn uleb_from(cursor: &mut Cursor) -> Result<u64, BadFile>
@@ -51,7 +51,7 @@ pub fn uleb_from(cursor: &mut Cursor) -> Result<u64, BadFile>
     cursor.uleb()
 }
 
-/// Reads a signed LEB128 number. Truncated where it doesn't end in the window, and BadLeb where it doesn't fit
+/// Reads a signed LEB128 number. Truncated if it doesn't end in the window, and BadLeb if it doesn't fit
 /// in 64 bits.
 #[tactic(auto, unfolding(crate::specs::Reads::sleb_from))]
 pub fn sleb_from(cursor: &mut Cursor) -> Result<i64, BadFile>
@@ -60,7 +60,7 @@ pub fn sleb_from(cursor: &mut Cursor) -> Result<i64, BadFile>
     cursor.sleb()
 }
 
-/// Reads the bytes up to the next null byte, and skips the null byte. Truncated where there is none.
+/// Reads the bytes up to the next null byte, and skips the null byte. Truncated if there is none.
 #[tactic(auto, unfolding(crate::specs::Reads::text_from))]
 pub fn text_from<'a>(cursor: &mut Cursor<'a>) -> Result<&'a [u8], BadFile>
     ensures { Takes (λ t. t.now) result cursor.old cursor.new (text_from cursor.old) }
@@ -68,7 +68,7 @@ pub fn text_from<'a>(cursor: &mut Cursor<'a>) -> Result<&'a [u8], BadFile>
     cursor.cstr()
 }
 
-/// Skips `count` bytes. Truncated where fewer are left.
+/// Skips `count` bytes. Truncated if fewer are left.
 #[tactic(auto, unfolding(crate::specs::Reads::skip_from))]
 pub fn skip_from(cursor: &mut Cursor, count: u64) -> Result<(), BadFile>
     ensures { Takes (λ u. u) result cursor.old cursor.new (skip_from count cursor.old) }
@@ -96,7 +96,7 @@ fn three_from(cursor: &mut Cursor, order: Order) -> Result<u64, BadFile>
 }
 
 /// Reads a three-byte number. On a fault the cursor doesn't move.
-fn whole_three_from(cursor: &mut Cursor, order: Order) -> Result<u64, BadFile>
+fn try_three_from(cursor: &mut Cursor, order: Order) -> Result<u64, BadFile>
     ensures { Takes (λ n. n) result cursor.old cursor.new (three_from order cursor.old) }
 {
     let mut ahead = cursor.fork();
@@ -117,7 +117,7 @@ pub fn number_from(cursor: &mut Cursor, order: Order, digits: Digits) -> Result<
     match digits {
         Digits::One => Ok(u8_from(cursor)? as u64),
         Digits::Two => Ok(u16_from(cursor, order)? as u64),
-        Digits::Three => whole_three_from(cursor, order),
+        Digits::Three => try_three_from(cursor, order),
         Digits::Four => Ok(u32_from(cursor, order)? as u64),
         Digits::Eight => u64_from(cursor, order),
         Digits::Uleb => uleb_from(cursor),
@@ -125,14 +125,14 @@ pub fn number_from(cursor: &mut Cursor, order: Order, digits: Digits) -> Result<
 }
 
 /// Reads an offset: 8 bytes in the 64-bit format, 4 in the 32-bit format (DWARF 5, section 7.4). Truncated
-/// where fewer bytes are left.
+/// if fewer bytes are left.
 pub fn offset_from(cursor: &mut Cursor, order: Order, wide: bool) -> Result<u64, BadFile>
     ensures { Takes (λ n. n) result cursor.old cursor.new (offset_from order wide cursor.old) }
 {
     number_from(cursor, order, offset_digits(wide))
 }
 
-/// Reads an address of 2, 4 or 8 bytes. A `size` other than 2 and 4 is read as 8. Truncated where fewer bytes
+/// Reads an address of 2, 4 or 8 bytes. A `size` other than 2 and 4 is read as 8. Truncated if fewer bytes
 /// are left.
 pub fn address_from(cursor: &mut Cursor, order: Order, size: u8) -> Result<u64, BadFile>
     ensures { Takes (λ n. n) result cursor.old cursor.new (address_from order size cursor.old) }
@@ -140,8 +140,8 @@ pub fn address_from(cursor: &mut Cursor, order: Order, size: u8) -> Result<u64, 
     number_from(cursor, order, address_digits(size))
 }
 
-/// The window at an offset of a section. The section is what its cursor has left. `None` where the offset isn't
-/// below the section's length.
+/// A cursor at an offset of a section. The section begins at the position of its cursor. `None` if the offset
+/// isn't below the section's length.
 pub fn inside<'a>(section: &Cursor<'a>, offset: u64) -> Option<Cursor<'a>>
     ensures { result ≡ inside section.now offset }
 {

@@ -7,7 +7,7 @@ pub struct Spec {
     pub attribute: u64,
     /// The number of the form of its values, `DW_FORM_*`.
     pub form: u64,
-    /// The value that all these entries share, where the form is `DW_FORM_implicit_const`; 0 for any other
+    /// The value that all these entries share, if the form is `DW_FORM_implicit_const`; 0 for any other
     /// form.
     pub constant: i64,
 }

@@ -44,10 +44,10 @@ impl<'a> Model for Abbrevs<'a> {
 }
 
 impl<'a> Abbrevs<'a> {
-    /// The table at an offset of `.debug_abbrev`. The section is what its cursor has left. The table ends with
+    /// The table at an offset of `.debug_abbrev`. The section begins at the position of its cursor. The table ends with
     /// a code of 0 or at the end of the section.
     ///
-    /// OffsetOutside at the file offset `place` where `offset` isn't below the section's length. Truncated or
+    /// OffsetOutside at the file offset `place` if `offset` isn't below the section's length. Truncated or
     /// BadLeb at the file offset of a number in the table that can't be read.
     #[tactic(auto, unfolding(crate::specs::Declarations::table_at), using(crate::proofs::Tables::is_whole))]
     pub fn at(section: &Cursor<'a>, offset: u64, place: u64) -> Result<Abbrevs<'a>, BadFile>
@@ -100,7 +100,7 @@ impl<'a> Abbrevs<'a> {
         self.cursor.place()
     }
 
-    /// The table's length in bytes, with the final code 0 where there is one.
+    /// The table's length in bytes, with the final code 0 if there is one.
     pub fn table_len(&self) -> u64
         ensures { result ≡ self.now.len }
     {

@@ -78,9 +78,13 @@ fn unknown_form<'a>(cursor: &Cursor) -> Result<Content<'a>, BadFile>
     })
 }
 
-/// Reads a value whose form is given, that is neither implicit nor indirect.
+/// Reads a value in this encoding. UnknownForm for an implicit or indirect one.
 #[tactic(auto, unfolding(crate::specs::Values::plain_from))]
-fn plain<'a>(cursor: &mut Cursor<'a>, order: Order, layout: Layout) -> Result<Content<'a>, BadFile>
+fn plain_content<'a>(
+    cursor: &mut Cursor<'a>,
+    order: Order,
+    layout: Layout,
+) -> Result<Content<'a>, BadFile>
     ensures { Reads meaning result cursor.new (plain_from order layout cursor.old) }
 {
     match layout {
@@ -126,7 +130,7 @@ fn indirect_content<'a>(cursor: &mut Cursor<'a>, shape: &UnitShape) -> Result<Co
 {
     let form = uleb_from(cursor)?;
     match layout_of_number(shape, form) {
-        Some(layout) => plain(cursor, shape.order, layout),
+        Some(layout) => plain_content(cursor, shape.order, layout),
         None => unknown_form(cursor),
     }
 }
@@ -145,12 +149,12 @@ fn content_by<'a>(
         None => unknown_form(cursor),
         Some(Layout::Implicit) => Ok(Content::Signed(spec.constant)),
         Some(Layout::Indirect) => indirect_content(cursor, shape),
-        Some(layout) => plain(cursor, shape.order, layout),
+        Some(layout) => plain_content(cursor, shape.order, layout),
     }
 }
 
-/// Reads the value of an attribute. UnknownForm where the form is unknown, or where an indirect form names an
-/// implicit or another indirect one. Truncated where the value reaches past the end of the window. BadLeb where
+/// Reads the value of an attribute. UnknownForm if the form is unknown, or if an indirect form names an
+/// implicit or another indirect one. Truncated if the value reaches past the end of the window. BadLeb if
 /// a number in it is too large. Each fault has the value's file offset.
 #[tactic(auto, unfolding(crate::specs::Values::value_from))]
 pub fn read_form<'a>(

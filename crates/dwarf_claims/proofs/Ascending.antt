@@ -11,7 +11,7 @@ use Rattle.byte_cursor.specs.Reads.{sub_window, whole}
 use Rattle.byte_cursor.specs.Window.{Window, place_of, moved}
 use Rattle.dwarf_abbrev.specs.declared.constants.TheConstants.{WIDE_LENGTH}
 use Rattle.dwarf_abbrev.specs.declared.length.InitialLength.{InitialLength}
-use Rattle.dwarf_abbrev.specs.Lengths.{checked_length, initial_length_from, is_reserved, length_behind}
+use Rattle.dwarf_abbrev.specs.Lengths.{checked_length, initial_length_from, is_reserved, rest_of_length}
 use Rattle.dwarf_abbrev.specs.Listing.{going_on, left, listing, listing_from}
 use Rattle.dwarf_abbrev.specs.Reads.{faults_at, num_from}
 use Rattle.dwarf_units.specs.declared.header.Header.{Header}
@@ -55,7 +55,7 @@ num_past : (width : Width) (order : Order) (w : Window) → 0 < byte_len width �
 unfolding num_from Every
 num_past width order w some = bind_every (IsPast ℕ (place_of w)) (whole (num w.bytes w.at width order) (place_of w)) (λ n. Ok (n, moved w true (byte_len width))) (λ n. omega arith)
 
-behind_past : (order : Order) (place : ℕ) (first : ℕ × Window) → place < place_of first.1 → Every (IsPast InitialLength place) (length_behind order first)
+behind_past : (order : Order) (place : ℕ) (first : ℕ × Window) → place < place_of first.1 → Every (IsPast InitialLength place) (rest_of_length order first)
 unfolding Every
 behind_past order place first past = by_width (first.0 == WIDE_LENGTH)
   where
@@ -68,7 +68,7 @@ unfolding initial_length_from checked_length Every
 length_past order w = faults_every (IsPast InitialLength (place_of w)) (place_of w) (checked_length order w)
     (bind_some (IsPast ℕ (place_of w)) (IsPast InitialLength (place_of w)) (num_from w32 order w) _ (num_past w32 order w (omega arith)) (λ first past.
     behind_every (IsPast InitialLength (place_of w)) (demand (not (is_reserved first.0)) BadUnit (place_of w)) _ (
-    bind_some (IsPast InitialLength (place_of w)) (IsPast InitialLength (place_of w)) (length_behind order first) _ (behind_past order (place_of w) first past) (λ initial more.
+    bind_some (IsPast InitialLength (place_of w)) (IsPast InitialLength (place_of w)) (rest_of_length order first) _ (behind_past order (place_of w) first past) (λ initial more.
     behind_every (IsPast InitialLength (place_of w)) (demand (nat_le (initial.1.at + initial.0.len) (length initial.1.bytes)) BadUnit (place_of w)) (Ok initial) more))))
 
 contents_past : (place len : ℕ) (w : Window) → place < place_of w → Every (IsPast Window place) (contents_from len w)

@@ -7,9 +7,13 @@ use Rattle.std.proofs.Math.ListN.{get_or-map}
 use Rattle.std.proofs.lemmas.Bool.Decides.{nat_tests}
 use Rattle.std.proofs.lemmas.Cmp.{ranked}
 use Rattle.std.proofs.lemmas.List.{length-map}
+use Rattle.size_core.specs.declared.fault.BadFile.{BadFile}
+use Rattle.size_model.specs.declared.view.LabelledClaim.{LabelledClaim}
+use Rattle.claim_sheet.specs.Sheets.{Sheet, adding_read}
+use Rattle.claim_sheet.proofs.KnownLemmas.{known_read}
 use Rattle.dwarf_claims.specs.declared.known.KnownUnit.{KnownUnit}
 use Rattle.dwarf_claims.specs.SetClaims.{label_at}
-use Rattle.dwarf_claims.specs.Tables.{Ascends, shown_unit, shown_units}
+use Rattle.dwarf_claims.specs.Tables.{AreKnownUnits, Ascends, shown_unit, shown_units}
 
 abbrev Labels : Type 0
 Labels = List (ℕ × List ℕ)
@@ -60,7 +64,7 @@ module _ (units : List KnownUnit) (up : Ascends 0 (shown_units units)) (offset :
       grind (arith, nat_tests)
 
   pub searched : (r : Result ℕ ℕ) → IsSearchInRange r (length units) → IsBinarySearchResult (λ u. nat_cmp u.offset offset) units r
-      → MatchResult r (λ i. (d : KnownUnit) → label_at (shown_units units) offset ≡ Some (get_or units i d).label.now) (λ i. label_at (shown_units units) offset ≡ None)
+      → MatchResult r (λ i. (d : KnownUnit) → label_at (shown_units units) offset ≡ Some (get_or units i d).label.text.now) (λ i. label_at (shown_units units) offset ≡ None)
   searched (Ok i) in_range equal = λ d.
       let key : (get_or units i d).offset ≡ offset = ranked _ offset _ (sym (equal d)) in
       let within : i < length (shown_units units) = omega (arith, length-map units shown_unit) in
@@ -73,3 +77,7 @@ module _ (units : List KnownUnit) (up : Ascends 0 (shown_units units)) (offset :
           let before : k < i → (get_or units k d).offset < offset = λ low. ranked _ offset _ (sym ((parted comparisons_rise).0 k d (omega arith) low)) in
           let behind : i ≤ k → offset < (get_or units k d).offset = λ high. ranked _ offset _ (sym ((parted comparisons_rise).1 k d high lt)) in
           grind (arith, before, behind)
+
+-- units that are known before claims are added are known after that
+pub units_after : (s t : Sheet) (r : Result (List LabelledClaim) BadFile) (units : List KnownUnit) → adding_read s r ≡ Ok t → AreKnownUnits s.made units → AreKnownUnits t.made units
+units_after s t r units e known = λ k d lt. known_read s t r (get_or units k d).label.text.now (get_or units k d).label.claim e (known k d lt)

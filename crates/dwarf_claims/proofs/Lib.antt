@@ -1,5 +1,7 @@
 pub mod Ascending
 pub mod KnownLemmas
+pub mod KnownRowLemmas
+pub mod LabelLemmas
 pub mod Lists
 pub mod ProgramLemmas
 pub mod RangeLemmas

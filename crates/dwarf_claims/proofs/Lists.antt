@@ -12,7 +12,7 @@ module _ {A : Type 0} (f : A → List LabelledClaim) where
   pub left_goes : (s t : Sheet) (x : A) (xs ys : List A) → ys ≡ x ∷ xs → t ≡ adding s (f x) → adding t (flat_map f xs) ≡ adding s (flat_map f ys)
   left_goes s t x xs ys is e = list_goes f s t x xs e ∙ ap (λ (zs : List A). adding s (flat_map f zs)) (sym is)
 
-  -- and where none is left, nothing is added
+  -- and if none is left, nothing is added
   pub left_ends : (s : Sheet) (xs : List A) → xs ≡ [] → adding s (flat_map f xs) ≡ s
   left_ends s xs none = rw none (adding_none s)
 

@@ -2,11 +2,10 @@
 use Rattle.std.proofs.Common.{◌≡◌, ℕ, Bool, true, false, not, List, [], ◌∷◌, ◌++◌, Option, None, Some, Result, Ok, Err, refl, sym, ap, ◌∙◌, append_assoc}
 use Rattle.std.proofs.lemmas.List.{append-nil}
 use Rattle.std.specs.List.{flat_map}
-use Rattle.std.specs.Prelude.{◌-◌, ◌&&◌, ◌||◌, IsOkAnd, nat_lt, if◌then◌else◌}
+use Rattle.std.specs.Prelude.{IsOkAnd, if◌then◌else◌}
 use Rattle.size_core.specs.declared.fault.BadFile.{BadFile}
 use Rattle.size_core.specs.Checks.{◌>>=◌}
 use Rattle.size_model.specs.declared.view.LabelledClaim.{LabelledClaim}
-use Rattle.claim_sheet.specs.Reaches.{claim_on, in_memory, span}
 use Rattle.claim_sheet.specs.Read.{joined}
 use Rattle.claim_sheet.specs.Sheets.{Sheet, adding, adding_read}
 use Rattle.claim_sheet.proofs.LoopLemmas.{read_joined}
@@ -15,9 +14,8 @@ use Rattle.dwarf_lines.specs.declared.registers.LineRow.{LineRow}
 use Rattle.dwarf_lines.specs.Header.{LineHeader}
 use Rattle.dwarf_ranges.specs.Claims.{claims_nothing}
 use Rattle.dwarf_claims.specs.declared.row.Before.{Before}
-use Rattle.dwarf_claims.specs.declared.row.Walk.{Walk}
-use Rattle.dwarf_claims.specs.LineClaims.{in_front, pair_claim, pair_claims, row_label, rows_claims, sequence_claims, sequences_of, whole_rows}
-use Rattle.dwarf_claims.specs.RowSteps.{behind, claim_before, claims_from, has_claim, next_walk}
+use Rattle.dwarf_claims.specs.LineClaims.{in_front, pair_claim, pair_claims, rows_claims, sequence_claims, sequences_of, whole_rows}
+use Rattle.dwarf_claims.specs.RowSteps.{behind, claim_before, claims_from}
 
 module _ (h : LineHeader) (size : ℕ) where
   abbrev all : List (List LineRow) → List LabelledClaim
@@ -116,49 +114,11 @@ module _ (h : LineHeader) (size : ℕ) where
   unfolding claims_from
   goes_on s t before row rows e = sym (read_joined s t (Ok (claim_before h before row)) (claims_from h size (behind size before row) rows) (ap (λ (u : Sheet). Ok u) (sym e)))
 
-  -- the same, where the row was read
-  pub passes : (s t : Sheet) (walk next : Walk) (row : Result LineRow BadFile) (rows items : List (Result LineRow BadFile)) → items ≡ row ∷ rows
-      → IsOkAnd row (λ r. (t ≡ adding s (claim_before h walk.before r)) × (next ≡ next_walk size walk r)) → adding_read t (claims_from h size next.before rows) ≡ adding_read s (claims_from h size walk.before items)
-  passes s t walk next (Ok row) rows items is made = rw (is, made.1) (goes_on s t walk.before row rows made.0)
-  passes s t walk next (Err e) rows items is made = absurd made
-
-  no_claim : (before : Option Before) (row : LineRow) → has_claim before row ≡ false → claim_before h before row ≡ []
-  unfolding pair_claim
-  no_claim None row none = refl
-  no_claim (Some before) row none = by_claims before.claims (nat_lt before.row.address row.address) none
-    where
-      by_claims : (b c : Bool) → (b && c) ≡ false → (if b then (if c then claim_on (in_memory (span 0 before.row.address (row.address - before.row.address))) (row_label h before.row) else []) else []) ≡ []
-      by_claims true true e = cc e
-      by_claims true false e = refl
-      by_claims false c e = refl
-
-  joined_none : (r : Result (List LabelledClaim) BadFile) → joined (Ok []) r ≡ r
-  unfolding joined
-  joined_none (Ok xs) = refl
-  joined_none (Err e) = refl
-
-  both_false : (b c : Bool) → (b || c) ≡ false → (b ≡ false) × (c ≡ false)
-  both_false true c e = cc e
-  both_false false c e = (refl, e)
-
-  -- while there was no claim, the rows that are left have the claims of all rows
-  pub none_passes : (s t : Sheet) (walk next : Walk) (row : Result LineRow BadFile) (rows items : List (Result LineRow BadFile)) (all : Result (List LabelledClaim) BadFile) → items ≡ row ∷ rows
-      → IsOkAnd row (λ r. (t ≡ adding s (claim_before h walk.before r)) × (next ≡ next_walk size walk r))
-      → (walk.claims ≡ false → claims_from h size walk.before items ≡ all) → next.claims ≡ false → claims_from h size next.before rows ≡ all
-  unfolding claims_from
-  none_passes s t walk next (Ok row) rows items all is made whole none =
-      let both = both_false walk.claims (has_claim walk.before row) (ap (λ (w : Walk). w.claims) (sym made.1) ∙ none) in
-      ap (λ (w : Walk). claims_from h size w.before rows) made.1
-      ∙ sym (joined_none (claims_from h size (behind size walk.before row) rows))
-      ∙ ap (λ (xs : List LabelledClaim). joined (Ok xs) (claims_from h size (behind size walk.before row) rows)) (sym (no_claim walk.before row both.1))
-      ∙ ap (λ (xs : List (Result LineRow BadFile)). claims_from h size walk.before xs) (sym is)
-      ∙ whole both.0
-  none_passes s t walk next (Err e) rows items all is made whole none = absurd made
-
-  pub none_ends : (walk : Walk) (items : List (Result LineRow BadFile)) (all : Result (List LabelledClaim) BadFile) → items ≡ []
-      → (walk.claims ≡ false → claims_from h size walk.before items ≡ all) → walk.claims ≡ false → all ≡ Ok []
-  unfolding claims_from
-  none_ends walk items all is whole none = sym (whole none) ∙ rw is refl
+  -- the same, if the row was read
+  pub passes : (s t : Sheet) (before next : Option Before) (row : Result LineRow BadFile) (rows items : List (Result LineRow BadFile)) → items ≡ row ∷ rows
+      → IsOkAnd row (λ r. (t ≡ adding s (claim_before h before r)) × (next ≡ behind size before r)) → adding_read t (claims_from h size next rows) ≡ adding_read s (claims_from h size before items)
+  passes s t before next (Ok row) rows items is made = rw (is, made.1) (goes_on s t before row rows made.0)
+  passes s t before next (Err e) rows items is made = absurd made
 
   pub ends : (s : Sheet) (before : Option Before) (items : List (Result LineRow BadFile)) → items ≡ [] → adding_read s (claims_from h size before items) ≡ Ok s
   unfolding claims_from

@@ -1,3 +1,4 @@
+pub mod KnownLabels
 pub mod KnownRanges
 pub mod LineClaims
 pub mod RowSteps

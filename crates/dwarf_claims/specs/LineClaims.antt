@@ -6,6 +6,7 @@ use Rattle.size_core.specs.Checks.{◌>>=◌}
 use Rattle.size_model.specs.declared.view.LabelledClaim.{LabelledClaim}
 use Rattle.claim_sheet.specs.Reaches.{claim_on, in_memory, span}
 use Rattle.claim_sheet.specs.Read.{read_list}
+use Rattle.dwarf_abbrev.specs.declared.shape.UnitShape.{UnitShape}
 use Rattle.dwarf_lines.specs.declared.registers.LineRow.{LineRow}
 use Rattle.dwarf_lines.specs.Header.{LineHeader}
 use Rattle.dwarf_lines.specs.Paths.{path_of}
@@ -62,10 +63,15 @@ whole_rows (Err e ∷ rows) = Err e
 unfoldable pub rows_claims : LineHeader → ℕ → List (Result LineRow BadFile) → Reading
 rows_claims h size rows = whole_rows rows >>= λ all. Ok (flat_map (sequence_claims h size) (sequences_of all))
 
+-- The claims of the line program at an offset of `.debug_line`, as units of this shape read it, or the first fault. If
+-- the offset is outside the section, the fault has the file offset `place` (DWARF 5, section 6.2).
+abbrev pub reading_at : Sections → UnitShape → ℕ → ℕ → Reading
+reading_at s shape offset place = program_at s offset place shape >>= λ h. rows_claims h shape.address (line_rows h)
+
 -- The claims of the line program that a unit names, if it names one, or the first fault (DWARF 5, section 6.2).
 abbrev pub program_claims : Sections → RootRecord → Option (ℕ × ℕ) → Reading
 program_claims s root None = Ok []
-program_claims s root (Some p) = program_at s p.0 p.1 root.shape >>= λ h. rows_claims h root.shape.address (line_rows h)
+program_claims s root (Some p) = reading_at s root.shape p.0 p.1
 
 -- The claims of the lines of a unit, or the first fault (DWARF 5, section 6.2).
 unfoldable pub line_claims : Sections → DwarfUnit → Reading

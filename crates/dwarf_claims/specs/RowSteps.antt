@@ -1,15 +1,17 @@
 -- The claims of rows, one row at a time: what the walk over the rows of a program does at each.
-use Rattle.std.specs.Prelude.{◌≡◌, ℕ, ◌&&◌, ◌||◌, nat_lt, not, Bool, false, List, [], ◌∷◌, take, Option, None, Some, Result, Ok, Err, if◌then◌else◌}
+use Rattle.std.specs.Prelude.{◌≡◌, ℕ, not, All, Bool, List, [], ◌∷◌, ◌++◌, codes, decimal, take, Option, None, Some, Result, Ok, Err, if◌then◌else◌}
 use Rattle.size_core.specs.declared.fault.BadFile.{BadFile}
 use Rattle.size_model.specs.declared.view.LabelledClaim.{LabelledClaim}
+use Rattle.claim_sheet.specs.Known.{IsKnownBy}
 use Rattle.claim_sheet.specs.Read.{joined}
 use Rattle.dwarf_lines.specs.declared.registers.LineRow.{LineRow}
 use Rattle.dwarf_lines.specs.Header.{LineHeader}
 use Rattle.dwarf_lines.specs.Paths.{path_of}
 use Rattle.dwarf_ranges.specs.Claims.{claims_nothing}
 use Rattle.dwarf_claims.specs.declared.row.Before.{Before}
-use Rattle.dwarf_claims.specs.declared.row.Walk.{Walk}
+use Rattle.dwarf_claims.specs.declared.known_rows.KnownRow.{KnownRow}
 use Rattle.dwarf_claims.specs.declared.row_label.RowLabel.{RowLabel}
+use Rattle.dwarf_claims.specs.declared.row_labels.RowLabels.{RowLabels}
 use Rattle.dwarf_claims.specs.UnitClaims.{Reading}
 use Rattle.dwarf_claims.specs.LineClaims.{pair_claim}
 
@@ -29,21 +31,28 @@ goes size (Some before) row = before.claims
 abbrev pub behind : ℕ → Option Before → LineRow → Option Before
 behind size before row = if row.end then None else Some (record { row = row; claims = goes size before row })
 
--- The previous row has a claim: its sequence makes claims, and its address is below that of this row.
-abbrev pub has_claim : Option Before → LineRow → Bool
-has_claim None row = false
-has_claim (Some before) row = before.claims && nat_lt before.row.address row.address
-
--- The state of the walk after a row.
-abbrev pub next_walk : ℕ → Walk → LineRow → Walk
-next_walk size walk row = record { before = behind size walk.before row; claims = walk.claims || has_claim walk.before row }
-
 -- The claims of these rows after a previous row, or the fault among them.
 unfoldable pub claims_from : LineHeader → ℕ → Option Before → List (Result LineRow BadFile) → Reading
 claims_from h size before [] = Ok []
 claims_from h size before (Ok row ∷ rows) = joined (Ok (claim_before h before row)) (claims_from h size (behind size before row) rows)
 claims_from h size before (Err e ∷ rows) = Err e
 
+-- The label of a file and a line: the path of the file, a colon and the line.
+abbrev pub label_by : LineHeader → ℕ → ℕ → List ℕ
+label_by h file line = path_of h file ++ codes ":" ++ decimal line
+
 -- The label begins with the path of its file.
 abbrev pub HasPath : LineHeader → RowLabel → Type 0
 HasPath h label = take label.path_len label.text.items ≡ path_of h label.file
+
+-- The claim of a known row, if it has one, has the row's label.
+abbrev pub IsKnownRow : List LabelledClaim → LineHeader → KnownRow → Type 0
+IsKnownRow made h known = IsKnownBy made (label_by h known.file known.line) known.claim
+
+-- The same of all known rows.
+abbrev pub AreKnownRows : List LabelledClaim → LineHeader → List KnownRow → Type 0
+AreKnownRows made h rows = All (IsKnownRow made h) rows
+
+-- The last label begins with the path of its file, and the claims of the known rows have their labels.
+abbrev pub AreRowLabels : List LabelledClaim → LineHeader → RowLabels → Type 0
+AreRowLabels made h labels = HasPath h labels.last × AreKnownRows made h labels.known.rows.items

@@ -1,9 +1,10 @@
 -- What is kept while units are read, and that it is the same as if it were read again.
-use Rattle.std.specs.Prelude.{◌≡◌, ℕ, ◌+◌, ◌≤◌, false, List, [], ◌∷◌, map, Option, None, Some, Ok}
+use Rattle.std.specs.Prelude.{◌≡◌, ℕ, ◌+◌, ◌≤◌, All, List, [], ◌∷◌, map, Option, None, Some, Ok}
+use Rattle.size_model.specs.declared.view.LabelledClaim.{LabelledClaim}
+use Rattle.claim_sheet.specs.Known.{AreAdded, IsKnown}
+use Rattle.claim_sheet.specs.Sheets.{Sheet}
 use Rattle.dwarf_abbrev.specs.Declarations.{table_at}
 use Rattle.dwarf_units.specs.declared.sections.Sections.{Sections}
-use Rattle.dwarf_lines.specs.Programs.{program_at}
-use Rattle.dwarf_lines.specs.Rows.{line_rows}
 use Rattle.dwarf_claims.specs.declared.last_program.LastProgram.{LastProgram}
 use Rattle.dwarf_claims.specs.declared.lines.LastRead.{LastRead}
 use Rattle.dwarf_claims.specs.declared.table.LastTable.{LastTable}
@@ -11,7 +12,8 @@ use Rattle.dwarf_claims.specs.declared.table.LastTables.{LastTables}
 use Rattle.dwarf_claims.specs.declared.known.KnownUnit.{KnownUnit}
 use Rattle.dwarf_claims.specs.declared.unit.LastUnit.{LastUnit}
 use Rattle.dwarf_claims.specs.KnownRanges.{AreRangesOf}
-use Rattle.dwarf_claims.specs.LineClaims.{rows_claims}
+use Rattle.dwarf_claims.specs.KnownLabels.{IsLabelOf}
+use Rattle.dwarf_claims.specs.LineClaims.{reading_at}
 
 -- The kept table of abbreviations is the one at its offset in `.debug_abbrev`.
 abbrev pub IsTableOf : Sections → Option LastTable → Type 0
@@ -22,30 +24,40 @@ IsTableOf s (Some t) = (place : ℕ) → table_at s.abbrev t.offset place ≡ Ok
 abbrev pub AreTablesOf : Sections → LastTables → Type 0
 AreTablesOf s t = IsTableOf s t.recent × IsTableOf s t.older
 
--- A kept line program that is marked as having no claims has none.
-abbrev pub HasClaims : LastProgram → Type 0
-HasClaims p = p.claims ≡ false → rows_claims p.program p.shape.address (line_rows p.program) ≡ Ok []
+-- The kept line program was read at its offset in `.debug_line`, as units of its shape read it, and its claims were
+-- added to the sheet at its positions.
+pub record IsAddedProgram (s : Sections) (sheet : Sheet) (p : LastProgram) : Type 0 where
+  pub claims : List LabelledClaim
+  pub read : (place : ℕ) → reading_at s p.shape p.offset place ≡ Ok claims
+  pub added : AreAdded sheet p.first p.end claims
 
--- The kept line program is the one at its offset in `.debug_line`, as units of its shape read it.
-abbrev pub IsProgramOf : Sections → Option LastProgram → Type 0
-IsProgramOf s None = Unit {0}
-IsProgramOf s (Some p) = ((place : ℕ) → program_at s p.offset place p.shape ≡ Ok p.program) × HasClaims p
+-- The same, if a line program is kept.
+abbrev pub IsProgramOf : Sections → Sheet → Option LastProgram → Type 0
+IsProgramOf s sheet None = Unit {0}
+IsProgramOf s sheet (Some p) = IsAddedProgram s sheet p
 
--- The kept tables and the kept line program are those at their offsets.
-abbrev pub IsReadOf : Sections → LastRead → Type 0
-IsReadOf s last = AreTablesOf s last.tables × IsProgramOf s last.program
+-- The kept tables are those at their offsets, and the kept line program is on the sheet.
+abbrev pub IsReadOf : Sections → Sheet → LastRead → Type 0
+IsReadOf s sheet last = AreTablesOf s last.tables × IsProgramOf s sheet last.program
 
--- The kept tables and the kept ranges are what reading them again would return.
-abbrev pub IsUnitOf : Sections → LastUnit → Type 0
-IsUnitOf s last = AreTablesOf s last.tables × AreRangesOf s last.ranges
+-- The kept tables, ranges and label are what reading them again would return, and the label is known on the sheet.
+pub record IsUnitOf (s : Sections) (sheet : Sheet) (last : LastUnit) : Type 0 where
+  pub tables : AreTablesOf s last.tables
+  pub ranges : AreRangesOf s last.ranges
+  pub label : IsLabelOf s last.label
+  pub known : IsKnown sheet.made last.label.label
 
 -- A unit that was read: its offset in `.debug_info`, and its label.
 abbrev pub shown_unit : KnownUnit → ℕ × List ℕ
-shown_unit u = (u.offset, u.label.now)
+shown_unit u = (u.offset, u.label.text.now)
 
 -- The units that were read, in order.
 abbrev pub shown_units : List KnownUnit → List (ℕ × List ℕ)
 shown_units units = map shown_unit units
+
+-- The claims of the labels of these units, if they have some, have their labels.
+abbrev pub AreKnownUnits : List LabelledClaim → List KnownUnit → Type 0
+AreKnownUnits made units = All (λ u. IsKnown made u.label) units
 
 -- The offsets of these units rise, and none is below n.
 abbrev pub Ascends : ℕ → List (ℕ × List ℕ) → Type 0

@@ -1,12 +1,13 @@
 //! The line program that was read last. Units in a row often share one: a type unit names the program of its compile
 //! unit (DWARF 5, section 3.1.4).
 
-ghost use Rattle.std.specs.Prelude.{◌≡◌};
+ghost use Rattle.std.specs.Prelude.{◌≡◌, ◌≤◌, List, Ok, OnOk, length};
+ghost use Rattle.size_model.specs.declared.view.LabelledClaim.{LabelledClaim};
 ghost use Rattle.claim_sheet.specs.Adds.{AddsRead};
-ghost use Rattle.dwarf_lines.specs.Rows.{line_rows};
+ghost use Rattle.claim_sheet.specs.Known.{AreAdded};
 ghost use Rattle.dwarf_units.specs.Roots.{shown_root};
-ghost use Rattle.dwarf_claims.specs.LineClaims.{program_claims, rows_claims};
-ghost use Rattle.dwarf_claims.specs.Tables.{HasClaims, IsProgramOf};
+ghost use Rattle.dwarf_claims.specs.LineClaims.{program_claims, reading_at};
+ghost use Rattle.dwarf_claims.specs.Tables.{IsProgramOf};
 ghost use Rattle.dwarf_claims.specs.UnitClaims.{program_of};
 
 use crate::program::program_of;
@@ -17,61 +18,75 @@ use dwarf_lines::LineProgram;
 use dwarf_units::{Root, Sections};
 use std::alloc::Global;
 
-/// A line program that was read for units of this shape, with its offset in `.debug_line`.
-#[derive(Drop)]
-pub struct LastProgram<'a> {
+/// A line program that was read for units of this shape, with its offset in `.debug_line`, and the positions of its
+/// claims on the sheet.
+#[derive(Clone, Copy)]
+pub struct LastProgram {
     pub offset: u64,
     pub shape: UnitShape,
-    pub program: LineProgram<'a>,
-    /// Whether its rows have a claim.
-    pub claims: bool,
+    /// The position of the first claim.
+    pub first: usize,
+    /// The position after the last claim.
+    pub end: usize,
 }
 
-// Adds the claims of a program again. If it has none, its rows aren't read again.
-#[tactic(auto, using(claim_sheet::proofs::SheetLemmas::adding_none))]
-fn add_again(alloc: Global, last: &LastProgram<'_>, sheet: &mut ClaimSheet) -> Result<(), Stop>
-    requires { HasClaims last.now }
-    ensures { AddsRead result sheet.old sheet.new
-        (rows_claims last.now.program last.now.shape.address (line_rows last.now.program)) }
+// Adds the claims of a program again.
+fn add_again(last: &LastProgram, sheet: &mut ClaimSheet) -> Result<(), Stop>
+    requires order { last.now.first ≤ last.now.end }
+    requires within { last.now.end ≤ length sheet.old.made }
+    ensures { (claims : List LabelledClaim) → AreAdded sheet.old last.now.first last.now.end claims
+        → AddsRead result sheet.old sheet.new (Ok claims) }
 {
-    if !last.claims {
-        return Ok(());
-    }
-    add_rows(alloc, &last.program, last.shape.address, sheet)?;
+    sheet.add_again(last.first, last.end)?;
     Ok(())
 }
 
-/// Adds the claims of the line program that a unit names, if it names one. A program that was read for the unit before
-/// isn't read again. Its file names are kept in memory, since many rows name the same file.
-#[tactic(auto, using(claim_sheet::proofs::SheetLemmas::adding_none, crate::proofs::ProgramLemmas::same_program, crate::proofs::ProgramLemmas::program_again))]
-pub fn add_program<'a>(
+// Reads a program and adds its claims. Its file names are kept in memory, since many rows name the same file.
+fn read_program(
     alloc: Global,
-    sections: &Sections<'a>,
-    root: &Root<'a>,
-    last: &mut Option<LastProgram<'a>>,
+    sections: &Sections<'_>,
+    shape: &UnitShape,
+    named: (u64, u64),
     sheet: &mut ClaimSheet,
 ) -> Result<(), Stop>
-    requires { IsProgramOf sections.now last.old }
+    ensures { AddsRead result sheet.old sheet.new
+        (reading_at sections.now shape.now named.0 named.1) }
+{
+    let program = LineProgram::at(sections, named.0, named.1, shape)?.kept(alloc)?;
+    add_rows(alloc, &program, shape.address, sheet)
+}
+
+/// Adds the claims of the line program that a unit names, if it names one. A program that was read for the unit before
+/// isn't read again: its claims are copied.
+#[tactic(auto, using(claim_sheet::proofs::SheetLemmas::adding_none))]
+pub fn add_program(
+    alloc: Global,
+    sections: &Sections<'_>,
+    root: &Root<'_>,
+    last: &mut Option<LastProgram>,
+    sheet: &mut ClaimSheet,
+) -> Result<(), Stop>
+    requires { IsProgramOf sections.now sheet.old last.old }
     ensures adds { AddsRead result sheet.old sheet.new
         (program_claims sections.now (shown_root root.now) (program_of (shown_root root.now))) }
-    ensures program { IsProgramOf sections.now last.new }
+    ensures program { OnOk result (IsProgramOf sections.now sheet.new last.new) }
 {
-    let Some((offset, place)) = program_of(root) else {
+    let Some(named) = program_of(root) else {
         return Ok(());
     };
     if let Some(known) = last
-        && known.offset == offset
+        && known.offset == named.0
         && known.shape == root.shape
     {
-        return add_again(alloc, known, sheet);
+        return add_again(known, sheet);
     }
-    let program = LineProgram::at(sections, offset, place, &root.shape)?.kept(alloc)?;
-    let claims = add_rows(alloc, &program, root.shape.address, sheet)?;
+    let first = sheet.len();
+    read_program(alloc, sections, &root.shape, named, sheet)?;
     *last = Some(LastProgram {
-        offset,
+        offset: named.0,
         shape: root.shape,
-        program,
-        claims,
+        first,
+        end: sheet.len(),
     });
     Ok(())
 }

@@ -1,71 +1,21 @@
 //! The ranges that were read last. Units in a row may name one range list.
 
-ghost use Rattle.std.specs.Prelude.{◌≡◌, true, Ok, Err, IfOk, IfSome, OnOk, IsErrOf};
+ghost use Rattle.std.specs.Prelude.{◌≡◌, true, Ok, Err, IfOk, OnOk, IsErrOf};
 ghost use Rattle.size_core.specs.declared.fault.BadFile.{BadFile as BadFileSpec};
-ghost use Rattle.dwarf_abbrev.specs.Values.{meaning};
-ghost use Rattle.dwarf_ranges.specs.Ranges.{ranges_of, told_address};
+ghost use Rattle.dwarf_ranges.specs.Ranges.{ranges_of};
 ghost use Rattle.dwarf_units.specs.Roots.{shown_root};
-ghost use Rattle.dwarf_claims.specs.KnownRanges.{AreRangesOf, AreSameKeys, IsKeyOf, section_offset};
+ghost use Rattle.dwarf_claims.specs.KnownRanges.{AreRangesOf, AreSameKeys};
 
 use claim_sheet::Stop;
-use dwarf_abbrev::{Content, UnitShape, Value};
-use dwarf_ranges::{RangeAnswer, unit_ranges};
-use dwarf_units::{Root, Sections, base_or, table_header};
+use dwarf_ranges::{RangeAnswer, RangeKey, range_key, unit_ranges};
+use dwarf_units::{Root, Sections};
 use std::alloc::Global;
 
-/// What the ranges of a unit depend on if it names a range list by its offset.
-#[derive(Clone, Copy, PartialEq, Eq)]
-pub struct RangeKey {
-    /// The offset of the list.
-    pub offset: u64,
-    pub shape: UnitShape,
-    /// The unit's first address, which is the first base of the list.
-    pub low: Option<u64>,
-    /// The offset of the unit's table in `.debug_addr`.
-    pub table: u64,
-}
-
-/// The ranges of the unit that was read last. They have a key if the unit names a range list by its offset.
+/// The ranges of the unit that was read last. They have a key if the unit names a range list.
 #[derive(Drop)]
 pub struct LastRanges {
     pub key: Option<RangeKey>,
     pub ranges: Vec<(u64, u64)>,
-}
-
-fn section_offset(value: &Value<'_>) -> Option<u64>
-    ensures { result ≡ section_offset (meaning value.now.content) }
-{
-    match value.content {
-        Content::SecOffset(offset) => Some(offset),
-        _ => None,
-    }
-}
-
-// Returns the unit's first address, if it names one, or None if that has a fault.
-fn first_address(root: &Root<'_>, sections: &Sections<'_>) -> Option<Option<u64>>
-    ensures { IfSome result (λ low. told_address sections.now (shown_root root.now) (shown_root root.now).low ≡ Ok low) }
-{
-    match &root.low {
-        Some(value) => root.address(value, sections).ok(),
-        None => Some(None),
-    }
-}
-
-// Returns the key of a unit that names a range list by its offset.
-#[tactic(auto, using(crate::proofs::RangeLemmas::key_is))]
-fn key_of(root: &Root<'_>, sections: &Sections<'_>) -> Option<RangeKey>
-    ensures { IfSome result (λ key. IsKeyOf sections.now (shown_root root.now) key) }
-{
-    let value = root.ranges.as_ref()?;
-    let offset = section_offset(value)?;
-    let low = first_address(root, sections)?;
-    let table = base_or(&root.addr_base, table_header(root.shape.wide));
-    Some(RangeKey {
-        offset,
-        shape: root.shape,
-        low,
-        table,
-    })
 }
 
 // Returns whether there is a key and it is the same as the last one.
@@ -73,7 +23,7 @@ fn is_last(last: Option<RangeKey>, key: Option<RangeKey>) -> bool
     ensures { result ≡ true → AreSameKeys last key }
 {
     match (last, key) {
-        (Some(last), Some(key)) => last == key,
+        (Some(last), Some(key)) => last.is_same(&key),
         _ => false,
     }
 }
@@ -106,12 +56,13 @@ pub fn read_ranges(
     last: &mut LastRanges,
 ) -> Result<(), Stop>
     requires { AreRangesOf sections.now last.old }
-    ensures made { OnOk result (ranges_of sections.now (shown_root root.now) ≡ Ok last.new.ranges.items) }
+    ensures made { OnOk result
+        (ranges_of sections.now (shown_root root.now) ≡ Ok last.new.ranges.items) }
     ensures bad { (bad : BadFileSpec) → IsErrOf result (Stop.Bad bad)
         → ranges_of sections.now (shown_root root.now) ≡ Err bad }
     ensures last { AreRangesOf sections.now last.new }
 {
-    let key = key_of(root, sections);
+    let key = range_key(root, sections);
     if is_last(last.key, key) {
         return Ok(());
     }

@@ -3,13 +3,16 @@
 #![tactic(auto)]
 
 mod known;
+mod known_rows;
 mod label;
+mod last_label;
 mod last_program;
 mod last_ranges;
 mod lines;
 mod program;
 mod row;
 mod row_label;
+mod row_labels;
 mod sets;
 mod table;
 mod unit;

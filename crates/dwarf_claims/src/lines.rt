@@ -1,5 +1,6 @@
 //! The claims of source lines: the walk over the units and their line programs.
 
+ghost use Rattle.std.specs.Prelude.{OnOk};
 ghost use Rattle.claim_sheet.specs.Adds.{AddsRead};
 ghost use Rattle.dwarf_claims.specs.LineClaims.{handed_lines, lines_claims};
 ghost use Rattle.dwarf_claims.specs.Tables.{IsReadOf};
@@ -15,7 +16,7 @@ use std::alloc::Global;
 #[derive(Drop)]
 pub struct LastRead<'a> {
     pub tables: LastTables<'a>,
-    pub program: Option<LastProgram<'a>>,
+    pub program: Option<LastProgram>,
 }
 
 // Adds the claims of the lines of a unit. Bad is its first fault.
@@ -27,9 +28,9 @@ fn add_unit_lines<'a>(
     last: &mut LastRead<'a>,
     sheet: &mut ClaimSheet,
 ) -> Result<(), Stop>
-    requires { IsReadOf sections.now last.old }
+    requires { IsReadOf sections.now sheet.old last.old }
     ensures adds { AddsRead result sheet.old sheet.new (handed_lines sections.now unit.entry) }
-    ensures last { IsReadOf sections.now last.new }
+    ensures last { OnOk result (IsReadOf sections.now sheet.new last.new) }
 {
     let unit = unit?;
     let root = root_of(sections, &unit, &mut last.tables)?;

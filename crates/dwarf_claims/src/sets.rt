@@ -1,15 +1,16 @@
 //! The claims of the sets of `.debug_aranges` (DWARF 5, section 6.1.2).
 
-ghost use Rattle.std.specs.Prelude.{◌≡◌, Ok, Option};
+ghost use Rattle.std.specs.Prelude.{◌≡◌, OnOk, IfSome};
 ghost use Rattle.std.specs.List.{flat_map};
-ghost use Rattle.std.specs.Option.{option_copied};
+ghost use Rattle.std.specs.Option.{option_map};
 ghost use Rattle.claim_sheet.specs.Adds.{Adds, AddsRead};
+ghost use Rattle.claim_sheet.specs.Known.{IsKnown};
 ghost use Rattle.dwarf_units.specs.Units.{units_of};
 ghost use Rattle.dwarf_claims.specs.SetClaims.{labels_of, named_claims, set_claims, sets_claims, tuple_claim};
-ghost use Rattle.dwarf_claims.specs.Tables.{Ascends, shown_units};
+ghost use Rattle.dwarf_claims.specs.Tables.{AreKnownUnits, Ascends, shown_units};
 
 use crate::known::{KnownUnit, label_at};
-use claim_sheet::{ClaimSheet, Reach, Stop, Wrap, span};
+use claim_sheet::{ClaimSheet, KnownLabel, Reach, Stop, span};
 use dwarf_ranges::{AddressSet, Tuples, arange_sets, claims_nothing};
 use dwarf_units::Sections;
 use size_core::{BadFile, NoMemory};
@@ -19,29 +20,32 @@ use size_core::{BadFile, NoMemory};
 fn add_tuple(
     size: u8,
     tuple: (u64, u64),
-    label: &[u8],
+    label: &mut KnownLabel<'_>,
     sheet: &mut ClaimSheet,
 ) -> Result<(), NoMemory>
-    ensures { Adds result sheet.old sheet.new (tuple_claim label.now size tuple) }
+    requires { IsKnown sheet.old.made label.old }
+    ensures adds { Adds result sheet.old sheet.new (tuple_claim label.old.text.now size tuple) }
+    ensures known { OnOk result (IsKnown sheet.new.made label.new) }
+    ensures text { label.new.text.now ≡ label.old.text.now }
 {
     if claims_nothing(size, tuple.0, tuple.1) {
         return Ok(());
     }
-    sheet.add(
-        Reach::in_memory(span(0, tuple.0, tuple.1)),
-        Wrap::Plain,
-        label,
-    )
+    sheet.add_known(Reach::in_memory(span(0, tuple.0, tuple.1)), label)
 }
 
 // Adds the claims of tuples, in order.
 fn add_tuples(
     size: u8,
     tuples: Tuples<'_>,
-    label: &[u8],
+    label: &mut KnownLabel<'_>,
     sheet: &mut ClaimSheet,
 ) -> Result<(), NoMemory>
-    ensures { Adds result sheet.old sheet.new (flat_map (tuple_claim label.now size) tuples.entry) }
+    requires { IsKnown sheet.old.made label.old }
+    ensures adds { Adds result sheet.old sheet.new
+        (flat_map (tuple_claim label.old.text.now size) tuples.entry) }
+    ensures known { OnOk result (IsKnown sheet.new.made label.new) }
+    ensures text { label.new.text.now ≡ label.old.text.now }
 {
     for tuple in tuples {
         add_tuple(size, tuple, label, sheet)?;
@@ -53,17 +57,19 @@ fn add_tuples(
 #[tactic(auto, using(claim_sheet::proofs::SheetLemmas::adding_none, claim_sheet::proofs::SheetLemmas::adding_more), unfolding(crate::specs::SetClaims::named_claims))]
 fn add_labelled(
     set: AddressSet<'_>,
-    label: Option<&[u8]>,
+    label: Option<KnownLabel<'_>>,
     sheet: &mut ClaimSheet,
 ) -> Result<(), NoMemory>
-    ensures { Adds result sheet.old sheet.new (named_claims set.entry (option_copied label.entry)) }
+    requires { IfSome label (λ l. IsKnown sheet.old.made l) }
+    ensures { Adds result sheet.old sheet.new
+        (named_claims set.entry (option_map (λ l. l.text.now) label.entry)) }
 {
-    let Some(label) = label else {
+    let Some(mut label) = label else {
         return Ok(());
     };
     let bytes = Reach::in_file(span(0, set.place, set.len));
-    add_tuples(set.address, set.tuples, label, sheet)?;
-    sheet.add(bytes, Wrap::Plain, label)
+    add_tuples(set.address, set.tuples, &mut label, sheet)?;
+    sheet.add_known(bytes, &mut label)
 }
 
 // Adds the claims of a set. Bad is the fault that ends the sets.
@@ -72,7 +78,8 @@ fn add_set(
     set: Result<AddressSet<'_>, BadFile>,
     sheet: &mut ClaimSheet,
 ) -> Result<(), Stop>
-    requires { Ascends 0 (shown_units units.now) }
+    requires ascend { Ascends 0 (shown_units units.now) }
+    requires known { AreKnownUnits sheet.old.made units.now }
     ensures { AddsRead result sheet.old sheet.new (set_claims (shown_units units.now) set.entry) }
 {
     let set = set?;
@@ -90,6 +97,7 @@ pub fn add_sets(
 ) -> Result<(), Stop>
     requires labels { shown_units units.now ≡ labels_of sections.now (units_of sections.now) }
     requires ascend { Ascends 0 (shown_units units.now) }
+    requires known { AreKnownUnits sheet.old.made units.now }
     ensures { AddsRead result sheet.old sheet.new (sets_claims sections.now) }
 {
     for set in arange_sets(sections) {

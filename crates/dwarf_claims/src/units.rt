@@ -1,26 +1,35 @@
 //! The claims of the units of `.debug_info` and of the sets of `.debug_aranges`.
 
-ghost use Rattle.std.specs.Prelude.{◌≡◌, Ok, ◌++◌, ◌∷◌, [], IfOk, OnOk};
+ghost use Rattle.std.specs.Prelude.{◌≡◌, Ok, ◌++◌, ◌∷◌, [], List, IfOk, OnOk};
+ghost use Rattle.size_model.specs.declared.view.LabelledClaim.{LabelledClaim};
 ghost use Rattle.claim_sheet.specs.Adds.{AddsRead};
+ghost use Rattle.claim_sheet.specs.Known.{IsKnown};
 ghost use Rattle.dwarf_units.specs.Units.{units_of};
 ghost use Rattle.dwarf_claims.specs.SetClaims.{compile_units_claims, labelled, labels_of};
-ghost use Rattle.dwarf_claims.specs.Tables.{IsUnitOf, shown_units};
+ghost use Rattle.dwarf_claims.specs.Tables.{AreKnownUnits, IsUnitOf, shown_units};
 ghost use Rattle.dwarf_claims.specs.UnitClaims.{handed_claims, units_claims};
 
 use crate::known::KnownUnit;
+use crate::last_label::LastLabel;
 use crate::last_ranges::LastRanges;
 use crate::sets::add_sets;
 use crate::table::LastTables;
 use crate::unit::{LastUnit, add_unit};
-use claim_sheet::{ClaimSheet, Stop};
+use claim_sheet::{ClaimSheet, KnownLabel, Stop};
 use dwarf_units::{DwarfUnit, Sections, Units};
 use size_core::{BadFile, NoMemory};
 use std::alloc::Global;
 
 // Keeps the label of a unit for the address sets.
-fn keep<'a>(units: &mut Vec<KnownUnit<'a>>, offset: u64, label: &'a [u8]) -> Result<(), NoMemory>
-    ensures { OnOk result (shown_units units.new.items
-        ≡ shown_units units.old.items ++ (offset, label.entry.now) ∷ []) }
+fn keep<'a>(
+    units: &mut Vec<KnownUnit<'a>>,
+    offset: u64,
+    label: KnownLabel<'a>,
+) -> Result<(), NoMemory>
+    ensures labels { OnOk result (shown_units units.new.items
+        ≡ shown_units units.old.items ++ (offset, label.entry.text.now) ∷ []) }
+    ensures known { (made : List LabelledClaim) → AreKnownUnits made units.old.items
+        → IsKnown made label.entry → OnOk result (AreKnownUnits made units.new.items) }
 {
     units.push(KnownUnit { offset, label })?;
     Ok(())
@@ -35,11 +44,13 @@ fn add_item<'a>(
     units: &mut Vec<KnownUnit<'a>>,
     sheet: &mut ClaimSheet,
 ) -> Result<(), Stop>
-    requires { IsUnitOf sections.now last.old }
+    requires last { IsUnitOf sections.now sheet.old last.old }
+    requires known { AreKnownUnits sheet.old.made units.old.items }
     ensures adds { AddsRead result sheet.old sheet.new (handed_claims sections.now unit.entry) }
     ensures labels { OnOk result (shown_units units.new.items
         ≡ shown_units units.old.items ++ labelled sections.now unit.entry) }
-    ensures last { IsUnitOf sections.now last.new }
+    ensures known { OnOk result (AreKnownUnits sheet.new.made units.new.items) }
+    ensures last { OnOk result (IsUnitOf sections.now sheet.new last.new) }
 {
     let unit = unit?;
     let label = add_unit(alloc, sections, &unit, last, sheet)?;
@@ -55,7 +66,9 @@ fn add_each<'a>(
     sheet: &mut ClaimSheet,
 ) -> Result<Vec<KnownUnit<'a>>, Stop>
     ensures adds { AddsRead result sheet.old sheet.new (units_claims sections.now) }
-    ensures labels { IfOk result (λ v. shown_units v.items ≡ labels_of sections.now (units_of sections.now)) }
+    ensures labels { IfOk result
+        (λ v. shown_units v.items ≡ labels_of sections.now (units_of sections.now)) }
+    ensures known { IfOk result (λ v. AreKnownUnits sheet.new.made v.items) }
 {
     let mut last = LastUnit {
         tables: LastTables {
@@ -65,6 +78,13 @@ fn add_each<'a>(
         ranges: LastRanges {
             key: None,
             ranges: Vec::new(alloc),
+        },
+        label: LastLabel {
+            name: None,
+            label: KnownLabel {
+                text: b"",
+                claim: None,
+            },
         },
     };
     let mut units = Vec::new(alloc);

@@ -30,7 +30,7 @@ items_before : {X : Type 0} (x : X) (r : Reading (List X)) → is_ok (before x r
 items_before x (Ok xs) good = refl
 items_before x (Err e) good = cc
 
--- Where a pair follows, its value is read, and then the values of the other pairs.
+-- If a pair follows, its value is read, and then the values of the other pairs.
 pub gathered_more : (s : UnitShape) (held : EntryValues) (n i : ℕ) (pairs pairs' w next : Window) (p : Spec) (v : ValueRecord) → i < n → pair_from pairs ≡ Ok (p, pairs') → value_from s p w ≡ Ok (v, next) → is_ok (many_from pair_from (n - i) pairs) ≡ true
     → gathered s held (many_from pair_from (n - i) pairs) w ≡ gathered s (with_value held (record { content = p.attribute; value = v })) (many_from pair_from (n - (i + 1)) pairs') next
 unfolding gathered values_from
@@ -68,7 +68,7 @@ pairs_good n i pairs pairs' p lt pair good =
 pub pairs_stop : (n i : ℕ) (pairs : Window) (e : BadFile) → i < n → pair_from pairs ≡ Err e → is_ok (many_from pair_from (n - i) pairs) ≡ false
 pairs_stop n i pairs e lt bad = rw (many_bad pair_from n i pairs e lt bad) refl
 
--- Where nothing is known, the result is that of the values alone.
+-- If nothing is known, the result is that of the values alone.
 pub gathered_is : (s : UnitShape) (pairs : Reading (List Spec)) (w : Window) → gathered s (record { path = None; directory = None }) pairs w ≡ entry_values_from s (items_of pairs) w
 unfolding gathered entry_values_from
 gathered_is s pairs w = by_values (values_from s (items_of pairs) w)

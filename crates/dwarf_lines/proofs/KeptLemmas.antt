@@ -46,7 +46,7 @@ plain_out front whole kind n i w le h =
     let m : n - i ≡ 0 = omega arith in
     none_left front whole (items_of (plain_from kind (n - i) w)) (rw m refl) h
 
--- A number of entries whose next one can't be read, or where none is left.
+-- A number of entries whose next one can't be read, or if none is left.
 pub many_bad_front : (front whole : List Entry) (read : Window → Reading Entry) (n i : ℕ) (w : Window) (e : BadFile) → i < n → read w ≡ Err e
     → front ++ items_of (many_from read (n - i) w) ≡ whole → front ≡ whole
 many_bad_front front whole read n i w e lt is h = none_left front whole (items_of (many_from read (n - i) w)) (rw (many_bad read n i w e lt is) refl) h

@@ -54,12 +54,12 @@ entry_values_from s pairs w = do
   values ← values_from s pairs w
   Ok (picked values.0, values.1)
 
--- The directory number that a value gives: 0 where it is no constant (DWARF 5, section 6.2.4.1).
+-- The directory number that a value gives: 0 if it is no constant (DWARF 5, section 6.2.4.1).
 abbrev pub constant_in : Meaning → ℕ
 constant_in (Meaning.AConstant n) = n
 constant_in other = 0
 
--- The number of an entry's directory: 0 where it has none, or one that is no constant (DWARF 5, section
+-- The number of an entry's directory: 0 if it has none, or one that is no constant (DWARF 5, section
 -- 6.2.4.1).
 abbrev pub directory_in : Option ValueRecord → ℕ
 directory_in None = 0

@@ -67,7 +67,7 @@ after s r (OtherExtended opcode) = r
 abbrev pub row : Registers → Bool → LineRow
 row r end = record { address = r.address; file = r.file; line = r.line; end = end }
 
--- The row that an instruction emits, where it emits one (DWARF 5, sections 6.2.2 and 6.2.5).
+-- The row that an instruction emits, if it emits one (DWARF 5, sections 6.2.2 and 6.2.5).
 unfoldable pub row_of : LineEncoding → Registers → Instruction → Option LineRow
 row_of s r (Special adj) = Some (row (after s r (Special adj)) false)
 row_of s r CopyRow = Some (row r false)

@@ -7,8 +7,8 @@ use Rattle.dwarf_abbrev.specs.Values.{ValueRecord}
 use Rattle.dwarf_units.specs.declared.sections.Sections.{Sections}
 use Rattle.dwarf_units.specs.Strings.{table_header, text_of}
 
--- The string that a value refers to, where the unit has no base of its own for string offsets. It is empty
--- where the value is absent or refers to no string (DWARF 5, section 6.2.4.1).
+-- The string that a value refers to, if the unit has no base of its own for string offsets. It is empty
+-- if the value is absent or refers to no string (DWARF 5, section 6.2.4.1).
 unfoldable pub name_of : Sections → UnitShape → Option ValueRecord → Result (List ℕ) BadFile
 name_of sections s None = Ok []
 name_of sections s (Some value) = text_of sections s.wide (table_header s.wide) value >>= λ name. Ok (unwrap_or name [])

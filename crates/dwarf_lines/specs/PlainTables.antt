@@ -26,13 +26,13 @@ plain_entry kind w = do
   directory ← numbers_from kind (length name.0 == 0) name.1
   Ok (record { name = name.0; directory = directory.0 }, directory.1)
 
--- The entries up to one with an empty name: none where this entry is that one, or else this one and the rest
+-- The entries up to one with an empty name: none if this entry is that one, or else this one and the rest
 -- (DWARF 4, section 6.2.4).
 abbrev pub up_to_empty : Bool → Entry × Window → Reading (List Entry) → Reading (List Entry)
 up_to_empty true x rest = Ok ([], x.1)
 up_to_empty false x rest = before x.0 rest
 
--- The entries up to one with an empty name, where that is among the first n (DWARF 4, section 6.2.4).
+-- The entries up to one with an empty name, if that is among the first n (DWARF 4, section 6.2.4).
 unfoldable pub plain_from : TableKind → ℕ → Window → Reading (List Entry)
 plain_from kind zero w = bad Truncated (place_of w)
 plain_from kind (suc n) w = do

@@ -25,7 +25,7 @@ empty_program s = record {
   instructions = record { base = 0; bytes = []; at = 0 };
 }
 
--- A version, where it is supported (DWARF 5, sections 6.2.4 and 7.4).
+-- A version, if it is supported (DWARF 5, sections 6.2.4 and 7.4).
 abbrev pub known : Option ℕ → Option ℕ
 known None = None
 known (Some version) = if nat_le 2 version && nat_le version 5 then Some version else None
@@ -53,13 +53,13 @@ program_here sections s w = do
   contents ← sub_window initial.1 initial.1.at initial.0.len
   program_of sections s (place_of w) initial.0.wide contents
 
--- The program in this window of the section; OffsetOutside where there is none (DWARF 5, sections 6.2.4 and
+-- The program in this window of the section; OffsetOutside if there is none (DWARF 5, sections 6.2.4 and
 -- 7.4).
 abbrev pub program_in : Sections → UnitShape → ℕ → Option Window → Result LineHeader BadFile
 program_in sections s place None = bad OffsetOutside place
 program_in sections s place (Some w) = program_here sections s w
 
--- The program at an offset of `.debug_line`. Where the offset is outside the section, the fault has the file
+-- The program at an offset of `.debug_line`. If the offset is outside the section, the fault has the file
 -- offset `place` (DWARF 5, sections 6.2.4 and 7.4).
 abbrev pub program_at : Sections → ℕ → ℕ → UnitShape → Result LineHeader BadFile
 program_at sections offset place s = program_in sections s place (inside sections.lines offset)

@@ -60,7 +60,7 @@ struct EntryValues<'a> {
     directory: Option<Value<'a>>,
 }
 
-/// The first value of a content type: the one that is known, or else this one, where it has this content type.
+/// The first value of a content type: the one that is known, or else this one, if it has this content type.
 fn first_of_content<'a>(
     held: Option<Value<'a>>,
     is_content: bool,
@@ -121,7 +121,7 @@ impl<'a> Model for Format<'a> {
     ghost invariant = { λ f. is_ok (many_from pair_from f.count f.pairs) ≡ true };
 }
 
-/// The directory number that a value gives. It is 0 where the value is absent or no constant.
+/// The directory number that a value gives. It is 0 if the value is absent or no constant.
 fn directory_in(value: Option<Value>) -> u64
     ensures { result ≡ directory_in (option_map value_shown value.entry) }
 {

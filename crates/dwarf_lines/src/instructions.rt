@@ -151,7 +151,7 @@ fn opcode_and_operands(
     operands(encoding, lengths, opcode, cursor)
 }
 
-/// Reads an instruction. BadLine where none can be read.
+/// Reads an instruction. BadLine if none can be read.
 pub fn instruction(
     encoding: &LineEncoding,
     lengths: &[u8],

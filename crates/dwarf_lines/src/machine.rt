@@ -84,7 +84,7 @@ fn line_step(encoding: &LineEncoding, adj: u8) -> i64
     encoding.line_base as i64 + (adj % encoding.line_range) as i64
 }
 
-/// Runs an instruction. Returns the row that it emits, where it emits one.
+/// Runs an instruction. Returns the row that it emits, if it emits one.
 #[tactic(auto, unfolding(crate::specs::Machine::advance, crate::specs::Machine::after, crate::specs::Machine::row_of))]
 pub fn apply(
     encoding: &LineEncoding,

@@ -29,7 +29,7 @@ pub fn copy_sections<'a>(sections: &Sections<'a>) -> Sections<'a>
     }
 }
 
-/// The string that a value refers to. It is empty where the value is absent or refers to no string.
+/// The string that a value refers to. It is empty if the value is absent or refers to no string.
 #[tactic(auto, unfolding(crate::specs::Names::name_of))]
 pub fn name_of<'a>(
     sections: &Sections<'a>,

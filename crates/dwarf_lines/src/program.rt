@@ -75,7 +75,7 @@ fn is_absolute(name: &[u8]) -> bool
     !name.is_empty() && name[0] == SLASH
 }
 
-/// The version of a program, where it is supported.
+/// The version of a program, if it is supported.
 fn known_version(contents: &Cursor, order: Order) -> Option<u16>
     ensures { result ≡ known (num contents.now.bytes contents.now.at w16 order) }
 {
@@ -213,9 +213,9 @@ impl<'a> LineProgram<'a> {
     /// The program at an offset of `.debug_line`. A program that has no complete version, or a version other
     /// than 2 to 5, has no rows and no files.
     ///
-    /// OffsetOutside at the file offset `place` where the offset isn't below the section's length. The other
-    /// faults have the program's file offset: Truncated or BadUnit where its length can't be read or exceeds
-    /// the section, and BadLine where its header, or a string that the header refers to, can't be read.
+    /// OffsetOutside at the file offset `place` if the offset isn't below the section's length. The other
+    /// faults have the program's file offset: Truncated or BadUnit if its length can't be read or exceeds
+    /// the section, and BadLine if its header, or a string that the header refers to, can't be read.
     pub fn at(
         sections: &Sections<'a>,
         offset: u64,
@@ -248,7 +248,7 @@ impl<'a> LineProgram<'a> {
         })
     }
 
-    /// The rows in order, and then the fault, where there is one: BadLine at the file offset of an instruction
+    /// The rows in order, and then the fault, if there is one: BadLine at the file offset of an instruction
     /// that can't be read.
     pub fn rows(&self) -> LineRows<'a>
         ensures { result ≡ line_rows self.now }
@@ -267,7 +267,7 @@ impl<'a> LineProgram<'a> {
     }
 
     /// Appends the path of the file with this number. The path is the file's name, after its directory unless
-    /// that is directory 0 or the name is absolute. It is `[Unknown file]` where there is no such file. On an
+    /// that is directory 0 or the name is absolute. It is `[Unknown file]` if there is no such file. On an
     /// error `out` is unchanged.
     #[tactic(auto, unfolding(crate::specs::Paths::path_of))]
     pub fn path(&self, file: u64, out: &mut Vec<u8>) -> Result<(), NoMemory>

@@ -1,4 +1,4 @@
-//! Reads at the cursor that return `None` where nothing can be read.
+//! Reads at the cursor that return `None` if nothing can be read.
 
 ghost use Rattle.std.specs.Prelude.{◌≡◌, true, OnSome};
 ghost use Rattle.byte_cursor.specs.Window.{moved};

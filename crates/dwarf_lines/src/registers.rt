@@ -21,7 +21,7 @@ pub struct LineRow {
     pub address: u64,
     /// A file number, as [`crate::LineProgram::path`] takes it.
     pub file: u64,
-    /// A line number, counted from 1. It is 0 where a program gives no line.
+    /// A line number, counted from 1. It is 0 if a program gives no line.
     pub line: u32,
     /// Whether the row ends its sequence. Its address is then the first one after the sequence.
     pub end: bool,

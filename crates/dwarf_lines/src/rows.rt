@@ -46,7 +46,7 @@ fn next_row(
     None
 }
 
-/// The rows of a line program in order, and then its fault, where there is one.
+/// The rows of a line program in order, and then its fault, if there is one.
 #[derive(Drop)]
 pub struct LineRows<'a> {
     encoding: LineEncoding,

@@ -13,7 +13,7 @@ use Rattle.dwarf_units.specs.Roots.{RootRecord}
 use Rattle.dwarf_units.specs.Strings.{base_or, table_header}
 use Rattle.dwarf_ranges.specs.declared.item.ListItem.{ListItem}
 use Rattle.dwarf_ranges.specs.declared.item.ListItem.TheVariants.{End, Base, Range}
-use Rattle.dwarf_ranges.specs.declared.place.ListName.{ListName}
+use Rattle.dwarf_ranges.specs.declared.list_location.ListName.{ListName}
 use Rattle.dwarf_ranges.specs.declared.ranges.High.{High}
 use Rattle.dwarf_ranges.specs.declared.ranges.High.TheVariants.{End as Before, Length}
 use Rattle.dwarf_ranges.specs.Claims.{claims_nothing, kept}

@@ -1,5 +1,6 @@
 pub mod ClaimLemmas
 pub mod ItemLemmas
+pub mod KeyLemmas
 pub mod ListLemmas
 pub mod SetLemmas
 pub mod TupleLemmas

@@ -54,12 +54,12 @@ or_bad_list place (Err e) = bad BadRangeList place
 abbrev pub kind_and_operands : Order → ℕ → Window → Result (Entry × Window) BadFile
 kind_and_operands order size w = byte_from w >>= λ kind. operands_from order size kind.0 kind.1
 
--- A range list entry; BadRangeList at its file offset where its kind is unknown or it isn't complete (DWARF 5,
+-- A range list entry; BadRangeList at its file offset if its kind is unknown or it isn't complete (DWARF 5,
 -- sections 2.17.3 and 7.25).
 unfoldable pub entry_from : Order → ℕ → Window → Result (Entry × Window) BadFile
 entry_from order size w = or_bad_list (place_of w) (kind_and_operands order size w)
 
--- The range from a start to an end. It is empty where the end isn't above the start (DWARF 5, section 2.17.3).
+-- The range from a start to an end. It is empty if the end isn't above the start (DWARF 5, section 2.17.3).
 abbrev pub range_between : ℕ → ℕ → ListItem
 range_between start end = Range start (end - start)
 

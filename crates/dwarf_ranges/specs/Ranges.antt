@@ -11,8 +11,8 @@ use Rattle.dwarf_abbrev.specs.Values.{Meaning, ValueRecord, AConstant, ASigned, 
 use Rattle.dwarf_units.specs.declared.sections.Sections.{Sections}
 use Rattle.dwarf_units.specs.Roots.{RootRecord, address_of}
 use Rattle.dwarf_units.specs.Strings.{base_or, entry_in, offset_size, table_header}
-use Rattle.dwarf_ranges.specs.declared.place.ListName.{ListName}
-use Rattle.dwarf_ranges.specs.declared.place.ListName.TheVariants.{Offset, Index}
+use Rattle.dwarf_ranges.specs.declared.list_location.ListName.{ListName}
+use Rattle.dwarf_ranges.specs.declared.list_location.ListName.TheVariants.{Offset, Index}
 use Rattle.dwarf_ranges.specs.declared.ranges.High.{High}
 use Rattle.dwarf_ranges.specs.declared.ranges.High.TheVariants.{End, Length}
 use Rattle.dwarf_ranges.specs.Claims.{kept}
@@ -26,7 +26,7 @@ list_name version (AListIndex i) = if version == 5 then Some (Index i) else None
 list_name version (AConstant n) = if nat_lt version 4 then Some (Offset n) else None
 list_name version _ = None
 
--- The size of the header of `.debug_rnglists` in bytes. Its table of offsets begins there where no attribute
+-- The size of the header of `.debug_rnglists` in bytes. Its table of offsets begins there if no attribute
 -- gives its base (DWARF 5, section 7.28).
 abbrev pub lists_header : Bool → ℕ
 lists_header wide = if wide then 20 else 12
@@ -36,7 +36,7 @@ lists_header wide = if wide then 20 else 12
 abbrev pub up_to : Window → ℕ → Option Window
 up_to section offset = if nat_le (section.at + offset) (length section.bytes) then Some (record section { at = section.at + offset }) else None
 
--- The window of a list, or OffsetOutside where there is none (DWARF 5, section 7.28; DWARF 4, section 2.17.3).
+-- The window of a list, or OffsetOutside if there is none (DWARF 5, section 7.28; DWARF 4, section 2.17.3).
 abbrev pub opened : Option Window → ℕ → Result Window BadFile
 opened None place = bad OffsetOutside place
 opened (Some w) place = Ok w
@@ -52,7 +52,12 @@ unfoldable pub list_at : Sections → UnitShape → ℕ → ℕ → ListName →
 list_at s shape base place (Offset n) = opened (if shape.version == 5 then inside s.rnglists n else up_to s.ranges n) place
 list_at s shape base place (Index i) = list_entry s shape.wide base i place >>= λ n. opened (inside s.rnglists (base + n)) place
 
--- The address that an attribute gives, where it gives one (DWARF 5, section 2.17.2).
+-- The offset of the table that an index is counted in, or 0 for an offset (DWARF 5, section 7.28).
+abbrev pub table_of : RootRecord → ListName → ℕ
+table_of r (Offset n) = 0
+table_of r (Index i) = base_or r.list_base (lists_header r.shape.wide)
+
+-- The address that an attribute gives, if it gives one (DWARF 5, section 2.17.2).
 abbrev pub told_address : Sections → RootRecord → Option ValueRecord → Result (Option ℕ) BadFile
 told_address s r None = Ok None
 told_address s r (Some v) = address_of s r v
@@ -74,7 +79,7 @@ abbrev pub high_of : Sections → RootRecord → Option ValueRecord → Result (
 high_of s r None = Ok None
 high_of s r (Some v) = high_by s r v v.content
 
--- The range from a start to an end, where both are present (DWARF 5, section 2.17.2).
+-- The range from a start to an end, if both are present (DWARF 5, section 2.17.2).
 abbrev pub range_to : ℕ → Option ℕ → Option High → List (ℕ × ℕ)
 range_to size None high = []
 range_to size (Some low) None = []
@@ -85,7 +90,7 @@ range_to size (Some low) (Some (Length n)) = kept size low n
 abbrev pub one_range : Sections → RootRecord → Option ℕ → Result (List (ℕ × ℕ)) BadFile
 one_range s r low = high_of s r r.high >>= λ high. Ok (range_to r.shape.address low high)
 
--- An address, or 0 where there is none (DWARF 5, section 2.17).
+-- An address, or 0 if there is none (DWARF 5, section 2.17).
 abbrev pub or_zero : Option ℕ → ℕ
 or_zero None = 0
 or_zero (Some n) = n
@@ -96,7 +101,7 @@ list_ranges s r low place name =
     list_at s r.shape (base_or r.list_base (lists_header r.shape.wide)) place name
     >>= λ w. list_of s r.shape (base_or r.addr_base (table_header r.shape.wide)) (or_zero low) w
 
--- The ranges of this list, or the one range where there is no list (DWARF 5, section 2.17).
+-- The ranges of this list, or the one range if there is no list (DWARF 5, section 2.17).
 abbrev pub named_ranges : Sections → RootRecord → Option ℕ → ℕ → Option ListName → Result (List (ℕ × ℕ)) BadFile
 named_ranges s r low place None = one_range s r low
 named_ranges s r low place (Some name) = list_ranges s r low place name

@@ -57,12 +57,12 @@ set_with order place wide contents h =
       tuples = tuples_from order h.address (first_tuple wide h.address contents);
     }) else None
 
--- The set with this header; none where the contents are too short for one (DWARF 5, section 6.1.2).
+-- The set with this header; none if the contents are too short for one (DWARF 5, section 6.1.2).
 abbrev pub headed : Order → ℕ → Bool → Window → Result (SetHeader × Window) BadFile → Option AddressSet
 headed order place wide contents (Ok header) = set_with order place wide contents header.0
 headed order place wide contents (Err e) = None
 
--- The set with these contents, or none where it is skipped (DWARF 5, section 6.1.2).
+-- The set with these contents, or none if it is skipped (DWARF 5, section 6.1.2).
 unfoldable pub set_in : Order → ℕ → Bool → Window → Option AddressSet
 set_in order place wide contents = headed order place wide contents (header_from order wide contents)
 
@@ -70,7 +70,7 @@ set_in order place wide contents = headed order place wide contents (header_from
 unfoldable pub contents_from : ℕ → Window → Result (Window × Window) BadFile
 contents_from len w = sub_window w w.at len >>= λ contents. Ok (contents, moved w true len)
 
--- The set at the begin of a window, or none where it is skipped, and the window after it (DWARF 5, section
+-- The set at the begin of a window, or none if it is skipped, and the window after it (DWARF 5, section
 -- 6.1.2).
 unfoldable pub set_from : Order → Window → Result (Option AddressSet × Window) BadFile
 set_from order w = do
@@ -82,7 +82,7 @@ set_from order w = do
 abbrev pub at_end : Window → Result (Option (Option AddressSet) × Window) BadFile
 at_end w = Ok (None, w)
 
--- The set at the begin of a window, or none where it is skipped, up to the end of the section (DWARF 5, section
+-- The set at the begin of a window, or none if it is skipped, up to the end of the section (DWARF 5, section
 -- 6.1.2).
 unfoldable pub record_from : Order → Window → Result (Option (Option AddressSet) × Window) BadFile
 record_from order w = if left w == 0 then at_end w else set_from order w >>= (λ set. Ok (Some set.0, set.1))
@@ -93,7 +93,7 @@ handed_out [] = []
 handed_out (None ∷ sets) = handed_out sets
 handed_out (Some set ∷ sets) = Ok set ∷ handed_out sets
 
--- The fault that ends the sets, where one does (DWARF 5, section 6.1.2).
+-- The fault that ends the sets, if one does (DWARF 5, section 6.1.2).
 abbrev pub last_fault : Result Window BadFile → List (Result AddressSet BadFile)
 last_fault (Ok next) = []
 last_fault (Err e) = Err e ∷ []

@@ -93,7 +93,7 @@ fn kind_and_operands(cursor: &mut Cursor, order: Order, size: u8) -> Result<Entr
     operands_from(cursor, order, size, kind)
 }
 
-/// Reads an entry. BadRangeList at its file offset where its kind is unknown or an operand can't be read.
+/// Reads an entry. BadRangeList at its file offset if its kind is unknown or an operand can't be read.
 #[tactic(auto, unfolding(crate::specs::Entries::entry_from))]
 pub fn entry_from(cursor: &mut Cursor, order: Order, size: u8) -> Result<Entry, BadFile>
     ensures { Reads (λ e. e) result cursor.new (entry_from order size cursor.old) }

@@ -107,7 +107,7 @@ fn pair_item(size: u8, base: u64, begin: u64, end: u64) -> ListItem
     }
 }
 
-/// Reads a pair of `.debug_ranges`. BadRangeList at its file offset where it isn't complete.
+/// Reads a pair of `.debug_ranges`. BadRangeList at its file offset if it isn't complete.
 #[tactic(auto, unfolding(crate::specs::Entries::pair_item_from))]
 fn pair_item_from(
     cursor: &mut Cursor,

@@ -10,8 +10,8 @@ mod header;
 mod item;
 mod laws;
 mod list;
+mod list_location;
 mod operands;
-mod place;
 mod ranges;
 mod set;
 mod sets;
@@ -20,9 +20,10 @@ mod tuples;
 pub use answer::RangeAnswer;
 pub use claims::claims_nothing;
 pub use laws::{
-    each_range_claims_something, lists_are_read_one_entry_after_another, standard_numbers,
+    each_range_claims_something, lists_are_read_one_entry_after_another,
+    sets_are_read_one_after_another, standard_numbers,
 };
-pub use ranges::unit_ranges;
+pub use ranges::{RangeKey, range_key, unit_ranges};
 pub use set::AddressSet;
 pub use sets::{AddressSets, arange_sets};
 pub use tuples::Tuples;

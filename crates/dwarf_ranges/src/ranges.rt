@@ -1,21 +1,22 @@
 //! The ranges of units (DWARF 5, section 2.17).
 
-ghost use Rattle.std.specs.Prelude.{◌≡◌, Ok, IfErr, OnErr, OnOk, MatchResult};
+ghost use Rattle.std.specs.Prelude.{◌≡◌, true, Ok, IfErr, IfSome, OnErr, OnOk, MatchResult};
 ghost use Rattle.std.specs.Option.{option_to_list};
 ghost use Rattle.dwarf_units.specs.Roots.{shown_root, shown_value};
+ghost use Rattle.dwarf_ranges.specs.Keys.{IsKeyOf};
 ghost use Rattle.dwarf_ranges.specs.Lists.{Refuses, appended};
-ghost use Rattle.dwarf_ranges.specs.Ranges.{high_of, list_ranges, one_range, range_to, ranges_of, signed_length, told_address, attribute_ranges};
+ghost use Rattle.dwarf_ranges.specs.Ranges.{high_of, list_ranges, one_range, range_to, ranges_of, signed_length, table_of, told_address, attribute_ranges};
 
 use crate::answer::RangeAnswer;
 use crate::claims::claims_nothing;
 use crate::list::list_of;
-use crate::place::{ListName, list_at, list_name, lists_header};
-use dwarf_abbrev::{Content, Value};
+use crate::list_location::{ListName, list_at, list_name, lists_header};
+use dwarf_abbrev::{Content, UnitShape, Value};
 use dwarf_units::{Root, Sections, base_or, table_header};
 use size_core::BadFile;
 use std::alloc::Global;
 
-/// The end of a unit's range, where the unit has no range list.
+/// The end of a unit's range, if the unit has no range list.
 #[derive(Clone, Copy)]
 pub enum High {
     /// The first address after the range.
@@ -24,7 +25,29 @@ pub enum High {
     Length(u64),
 }
 
-/// The address that an attribute gives, where it gives one.
+/// What the ranges of a list depend on, beside the list.
+#[derive(Clone, Copy, PartialEq, Eq)]
+pub struct ListContext {
+    /// The offset of the unit's table in `.debug_rnglists`, or 0 if the list isn't named by an index.
+    pub lists: u64,
+    /// The format of the unit's values.
+    pub shape: UnitShape,
+    /// The unit's first address, which is the first base of the list.
+    pub low: Option<u64>,
+    /// The offset of the unit's table in `.debug_addr`.
+    pub table: u64,
+}
+
+/// What the ranges of a unit depend on if it names a range list.
+#[derive(Clone, Copy)]
+pub struct RangeKey {
+    /// The form in which the unit names the list.
+    pub name: ListName,
+    /// What its ranges depend on besides.
+    pub context: ListContext,
+}
+
+/// The address that an attribute gives, if it gives one.
 fn told_address(
     root: &Root,
     value: &Option<Value>,
@@ -66,7 +89,7 @@ fn high_of(root: &Root, sections: &Sections) -> Result<Option<High>, BadFile>
     }
 }
 
-/// The range from its start to its end. None where one of them is absent, or where the range claims nothing.
+/// The range from its start to its end. None if one of them is absent, or if the range claims nothing.
 fn range_to(size: u8, low: Option<u64>, high: Option<High>) -> Option<(u64, u64)>
     ensures { option_to_list result ≡ range_to size low high }
 {
@@ -167,11 +190,11 @@ fn ranges_of(
 /// The first fault is returned, in this order. Unless stated otherwise, it has the file offset of the value
 /// that refers outside.
 ///
-/// - OffsetOutside where the address that `DW_AT_low_pc` refers to isn't in `.debug_addr`.
-/// - OffsetOutside where the list or its offset isn't in its section.
-/// - In a list, at the entry's file offset: OffsetOutside where an address that an entry refers to isn't in
-///   `.debug_addr`; BadRangeList where an entry has an unknown kind or isn't complete.
-/// - Without a list: OffsetOutside where the address that `DW_AT_high_pc` refers to isn't in `.debug_addr`.
+/// - OffsetOutside if the address that `DW_AT_low_pc` refers to isn't in `.debug_addr`.
+/// - OffsetOutside if the list or its offset isn't in its section.
+/// - In a list, at the entry's file offset: OffsetOutside if an address that an entry refers to isn't in
+///   `.debug_addr`; BadRangeList if an entry has an unknown kind or isn't complete.
+/// - Without a list: OffsetOutside if the address that `DW_AT_high_pc` refers to isn't in `.debug_addr`.
 pub fn unit_ranges(
     alloc: Global,
     root: &Root,
@@ -186,4 +209,40 @@ pub fn unit_ranges(
     let ranges = ranges_of(alloc, root, sections)?;
     out.extend_from_slice(ranges.as_slice())?;
     Ok(())
+}
+
+/// Returns the offset of the table in `.debug_rnglists` that an index is counted in, or 0 if the name is no index.
+fn table_of(root: &Root, name: ListName) -> u64
+    ensures { result ≡ table_of (shown_root root.now) name }
+{
+    match name {
+        ListName::Index(_) => base_or(&root.list_base, lists_header(root.shape.wide)),
+        ListName::Offset(_) => 0,
+    }
+}
+
+/// Returns what the ranges of a unit depend on. It is None if the unit names no range list, or if its first address
+/// has a fault.
+pub fn range_key(root: &Root, sections: &Sections) -> Option<RangeKey>
+    ensures { IfSome result (λ key. IsKeyOf sections.now (shown_root root.now) key) }
+{
+    let value = root.ranges.as_ref()?;
+    let name = list_name(root.shape.version, value)?;
+    let low = told_address(root, &root.low, sections).ok()?;
+    let context = ListContext {
+        lists: table_of(root, name),
+        shape: root.shape,
+        low,
+        table: base_or(&root.addr_base, table_header(root.shape.wide)),
+    };
+    Some(RangeKey { name, context })
+}
+
+impl RangeKey {
+    /// Returns whether two keys are the same.
+    pub fn is_same(&self, other: &RangeKey) -> bool
+        ensures { result ≡ true → self.now ≡ other.now }
+    {
+        self.name == other.name && self.context == other.context
+    }
 }

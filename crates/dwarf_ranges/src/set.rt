@@ -52,7 +52,7 @@ fn first_tuple<'a>(wide: bool, address: u8, contents: &Cursor<'a>) -> Cursor<'a>
     cursor
 }
 
-/// The set with this header and these contents. `None` where it is skipped.
+/// The set with this header and these contents. `None` if it is skipped.
 fn set_with<'a>(
     order: Order,
     place: u64,
@@ -75,7 +75,7 @@ fn set_with<'a>(
     })
 }
 
-/// Reads the set with these contents. `None` where it is skipped.
+/// Reads the set with these contents. `None` if it is skipped.
 #[tactic(auto, unfolding(crate::specs::Sets::set_in))]
 fn set_in<'a>(order: Order, place: u64, wide: bool, contents: &Cursor<'a>) -> Option<AddressSet<'a>>
     ensures { result ≡ set_in order place wide contents.now }
@@ -95,7 +95,7 @@ fn contents_from<'a>(cursor: &mut Cursor<'a>, len: u64) -> Result<Cursor<'a>, Ba
     cursor.take(len)
 }
 
-/// Reads the set at the cursor. `None` where it is skipped: it is too short for its header, has a version other
+/// Reads the set at the cursor. `None` if it is skipped: it is too short for its header, has a version other
 /// than 2, has segments, or has addresses of a size other than 2, 4 and 8.
 #[tactic(auto, unfolding(crate::specs::Sets::set_from))]
 pub fn set_from<'a>(

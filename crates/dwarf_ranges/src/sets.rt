@@ -30,7 +30,7 @@ fn next_set<'a>(cursor: &mut Cursor<'a>, order: Order) -> Option<Result<AddressS
     None
 }
 
-/// The address sets of `.debug_aranges` in order, and then its fault, where there is one. Sets are skipped that
+/// The address sets of `.debug_aranges` in order, and then its fault, if there is one. Sets are skipped that
 /// are too short for a header, have a version other than 2, have addresses of a size other than 2, 4 and 8, or
 /// have segments.
 #[derive(Drop)]
@@ -57,7 +57,7 @@ impl<'a> Iterator for AddressSets<'a> {
 
     ghost remaining = { item_count (λ s. s) };
 
-    /// The next set. Truncated or BadUnit at the set's file offset where its length can't be read, is reserved,
+    /// The next set. Truncated or BadUnit at the set's file offset if its length can't be read, is reserved,
     /// or reaches past the end of the section. After a fault no set follows.
     fn next(&mut self) -> Option<Result<AddressSet<'a>, BadFile>> {
         next_set(&mut self.cursor, self.order)

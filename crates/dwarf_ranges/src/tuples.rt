@@ -24,7 +24,7 @@ fn tuple_from(cursor: &mut Cursor, order: Order, size: u8) -> Result<Option<(u64
 }
 
 /// The tuples of an address set in order, each an address and a length in bytes. Tuples that claim nothing are
-/// included. The list ends before a tuple of zeros, or where fewer bytes are left than a tuple has.
+/// included. The list ends before a tuple of zeros, or if fewer bytes are left than a tuple has.
 #[derive(Drop)]
 pub struct Tuples<'a> {
     order: Order,

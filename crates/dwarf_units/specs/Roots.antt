@@ -1,5 +1,5 @@
 -- The root of a unit: the entry for the unit itself (DWARF 5, section 3.1), and the values of its attributes.
-use Rattle.std.specs.Prelude.{ℕ, ◌==◌, List, [], ◌∷◌, Option, Some, None, Result, Ok, if◌then◌else◌}
+use Rattle.std.specs.Prelude.{◌≡◌, ℕ, ◌==◌, List, [], ◌∷◌, Option, Some, None, Result, Ok, if◌then◌else◌}
 use Rattle.std.specs.Option.{option_map}
 use Rattle.size_core.specs.declared.fault.BadFile.{BadFile}
 use Rattle.size_core.specs.declared.fault.Fault.TheVariants.{BadAbbrev}
@@ -16,7 +16,8 @@ use Rattle.dwarf_units.specs.declared.constants.TheConstants.{DW_AT_NAME, DW_AT_
 use Rattle.dwarf_units.specs.declared.sections.Sections.{Sections}
 use Rattle.dwarf_units.specs.declared.unit.DwarfUnit.{DwarfUnit}
 use Rattle.dwarf_units.specs.declared.root.Root.{Root}
-use Rattle.dwarf_units.specs.Strings.{base_or, table_header, text_of, address_by}
+use Rattle.dwarf_units.specs.declared.strings.StringAt.{StringAt}
+use Rattle.dwarf_units.specs.Strings.{address_by, base_or, named, string_in_section, table_header, text_of}
 
 -- The values of the attributes of an entry, in order, each with its attribute's number (DWARF 5, sections 7.5.2
 -- and 7.5.3).
@@ -61,14 +62,14 @@ root_with unit table values = record {
   list_base = first_value DW_AT_RNGLISTS_BASE values;
 }
 
--- The values of an entry with this declaration; BadAbbrev where its code isn't declared (DWARF 5, section
+-- The values of an entry with this declaration; BadAbbrev if its code isn't declared (DWARF 5, section
 -- 7.5.2).
 abbrev pub declared_values : UnitShape → ℕ → Option Declaration → Window → Result (List (ℕ × ValueRecord)) BadFile
 declared_values shape place None w = bad BadAbbrev place
 declared_values shape place (Some d) w = values_from shape d.specs w
 
--- The values of a unit's root: none where its code is 0 or no byte is left. BadAbbrev at the unit's file offset
--- where the table doesn't declare the code (DWARF 5, section 7.5.2).
+-- The values of a unit's root: none if its code is 0 or no byte is left. BadAbbrev at the unit's file offset
+-- if the table doesn't declare the code (DWARF 5, section 7.5.2).
 unfoldable pub root_values : Table → DwarfUnit → Result (List (ℕ × ValueRecord)) BadFile
 root_values table unit =
     if left unit.body == 0 then Ok []
@@ -105,15 +106,20 @@ shown_root r = record {
   list_base = shown_value r.list_base;
 }
 
--- The unit's name by this value, where there is one (DWARF 5, section 3.1.1).
+-- The unit's name by this value, if there is one (DWARF 5, section 3.1.1).
 abbrev pub name_by : Sections → RootRecord → Option ValueRecord → Result (Option (List ℕ)) BadFile
 name_by s r None = Ok None
 name_by s r (Some v) = text_of s r.shape.wide (base_or r.str_base (table_header r.shape.wide)) v
 
--- The unit's name, where it has one (DWARF 5, section 3.1.1).
+-- The unit's name, if it has one (DWARF 5, section 3.1.1).
 abbrev pub name_of : Sections → RootRecord → Result (Option (List ℕ)) BadFile
 name_of s r = name_by s r r.name
 
--- The address that a value of the unit gives, where it gives one (DWARF 5, section 7.5.5).
+-- The unit's name is this string of a section (DWARF 5, section 3.1.1).
+pub record IsNameAt (s : Sections) (r : RootRecord) (at : StringAt) : Type 0 where
+  pub place : ℕ
+  pub is : name_of s r ≡ named (string_in_section s at place)
+
+-- The address that a value of the unit gives, if it gives one (DWARF 5, section 7.5.5).
 abbrev pub address_of : Sections → RootRecord → ValueRecord → Result (Option ℕ) BadFile
 address_of s r v = address_by s r.shape (base_or r.addr_base (table_header r.shape.wide)) v.place v.content

@@ -9,6 +9,8 @@ use Rattle.dwarf_abbrev.specs.declared.shape.UnitShape.{UnitShape}
 use Rattle.dwarf_abbrev.specs.Reads.{inside, offset_from, address_from}
 use Rattle.dwarf_abbrev.specs.Values.{Meaning, ValueRecord, AnAddress, AnAddrIndex, AText, AStrOffset, ALineStrOffset, AStrIndex, ASecOffset}
 use Rattle.dwarf_units.specs.declared.sections.Sections.{Sections}
+use Rattle.dwarf_units.specs.declared.strings.StringAt.{StringAt}
+use Rattle.dwarf_units.specs.declared.strings.StringAt.TheVariants.{Strings, LineStrings}
 
 -- A string that has a null byte, or BadString at the file offset of the value that refers to it (DWARF 5,
 -- section 7.5.5).
@@ -16,7 +18,7 @@ abbrev pub ended : Option (List ℕ) → ℕ → Result (List ℕ) BadFile
 ended None place = bad BadString place
 ended (Some t) place = Ok t
 
--- The string at the begin of a window; OffsetOutside where there is no such window (DWARF 5, section 7.5.5).
+-- The string at the begin of a window; OffsetOutside if there is no such window (DWARF 5, section 7.5.5).
 abbrev pub string_in : Option Window → ℕ → Result (List ℕ) BadFile
 string_in None place = bad OffsetOutside place
 string_in (Some w) place = ended (text w.bytes w.at) place
@@ -25,7 +27,7 @@ string_in (Some w) place = ended (text w.bytes w.at) place
 unfoldable pub string_at : Window → ℕ → ℕ → Result (List ℕ) BadFile
 string_at section offset place = string_in (inside section offset) place
 
--- An entry of a table of offsets or addresses; OffsetOutside where it can't be read (DWARF 5, sections 7.26 and
+-- An entry of a table of offsets or addresses; OffsetOutside if it can't be read (DWARF 5, sections 7.26 and
 -- 7.27).
 abbrev pub entry_of : Result (ℕ × Window) BadFile → ℕ → Result ℕ BadFile
 entry_of (Ok x) place = Ok x.0
@@ -44,7 +46,7 @@ offset_size wide = if wide then 8 else 4
 abbrev pub address_size : UnitShape → ℕ
 address_size s = if s.address == 2 then 2 else if s.address == 4 then 4 else 8
 
--- The size of the header of a table of offsets or addresses. Its entries begin there where no attribute gives
+-- The size of the header of a table of offsets or addresses. Its entries begin there if no attribute gives
 -- their offset (DWARF 5, sections 7.4, 7.26 and 7.27).
 abbrev pub table_header : Bool → ℕ
 table_header wide = if wide then 16 else 8
@@ -61,6 +63,11 @@ address_at s shape base index place = entry_in (address_from s.order shape.addre
 abbrev pub named : Result (List ℕ) BadFile → Result (Option (List ℕ)) BadFile
 named string = string >>= λ t. Ok (Some t)
 
+-- The string in a section, by its offset. Its faults have the file offset `place` (DWARF 5, section 7.5.5).
+abbrev pub string_in_section : Sections → StringAt → ℕ → Result (List ℕ) BadFile
+string_in_section s (Strings n) place = string_at s.strings n place
+string_in_section s (LineStrings n) place = string_at s.line_strings n place
+
 -- The string that a value refers to: its own text, a string of `.debug_str` or `.debug_line_str` by its offset,
 -- or a string of `.debug_str` by the index of its offset. Other values refer to none (DWARF 5, section 7.5.5).
 unfoldable pub text_by : Sections → Bool → ℕ → ℕ → Meaning → Result (Option (List ℕ)) BadFile
@@ -74,7 +81,7 @@ text_by s wide base place _ = Ok None
 abbrev pub text_of : Sections → Bool → ℕ → ValueRecord → Result (Option (List ℕ)) BadFile
 text_of s wide base v = text_by s wide base v.place v.content
 
--- The address that a value gives, directly or by its index, where it gives one (DWARF 5, section 7.5.5).
+-- The address that a value gives, directly or by its index, if it gives one (DWARF 5, section 7.5.5).
 unfoldable pub address_by : Sections → UnitShape → ℕ → ℕ → Meaning → Result (Option ℕ) BadFile
 address_by s shape base place (AnAddress n) = Ok (Some n)
 address_by s shape base place (AnAddrIndex i) = address_at s shape base i place >>= λ n. Ok (Some n)

@@ -52,7 +52,7 @@ typed_header_from order wide kind w = do
 abbrev pub read_header : Result (Header × Window) BadFile → Result (Option Header × Window) BadFile
 read_header header = header >>= λ x. Ok (Some x.0, x.1)
 
--- The header of a unit of DWARF 5, after its version. The unit is skipped where the standard doesn't define its
+-- The header of a unit of DWARF 5, after its version. The unit is skipped if the standard doesn't define its
 -- type (DWARF 5, section 7.5.1).
 unfoldable pub new_header_from : Order → Bool → Window → Result (Option Header × Window) BadFile
 new_header_from order wide w = byte_from w >>= (λ kind.
@@ -100,25 +100,25 @@ unit_of order p version header body = record {
   body = body;
 }
 
--- The unit with this header, where there is one; BadUnit where its addresses have a size other than 2, 4 or 8
+-- The unit with this header, if there is one; BadUnit if its addresses have a size other than 2, 4 or 8
 -- (DWARF 5, section 7.5.1).
 abbrev pub headed : Order → Position → ℕ → Option Header → Window → Result (Option DwarfUnit) BadFile
 headed order p version None body = Ok None
 headed order p version (Some header) body = demand (is_address_size header.address) BadUnit p.place >> Ok (Some (unit_of order p version header body))
 
--- The unit after its version, or none where the version isn't supported (DWARF 5, section 7.5.1).
+-- The unit after its version, or none if the version isn't supported (DWARF 5, section 7.5.1).
 unfoldable pub versioned : Order → Position → ℕ → Window → Result (Option DwarfUnit) BadFile
 versioned order p version w =
     if is_version version then or_bad_unit p.place (header_from order p.wide version w) >>= (λ header. headed order p version header.0 header.1)
     else Ok None
 
--- The unit with these contents. It is skipped where it is too short for a version, has a version other than 2
--- to 5, or has a type that the standard doesn't define. BadUnit at its file offset where its header doesn't
+-- The unit with these contents. It is skipped if it is too short for a version, has a version other than 2
+-- to 5, or has a type that the standard doesn't define. BadUnit at its file offset if its header doesn't
 -- fit, or its addresses have a size other than 2, 4 and 8 (DWARF 5, section 7.5.1).
 unfoldable pub unit_in : Order → Position → Window → Result (Option DwarfUnit) BadFile
 unit_in order p contents = if nat_lt (left contents) 2 then Ok None else num_from w16 order contents >>= (λ version. versioned order p version.0 version.1)
 
--- The unit at the begin of a window, or none where it is skipped, and the window after it (DWARF 5, section
+-- The unit at the begin of a window, or none if it is skipped, and the window after it (DWARF 5, section
 -- 7.5.1).
 unfoldable pub unit_from : Order → ℕ → Window → Result (Option DwarfUnit × Window) BadFile
 unit_from order start w = do
@@ -137,7 +137,7 @@ handed_out [] = []
 handed_out (None ∷ us) = handed_out us
 handed_out (Some u ∷ us) = Ok u ∷ handed_out us
 
--- The fault that ends the units, where one does.
+-- The fault that ends the units, if one does.
 abbrev pub last_fault : Result Window BadFile → List (Result DwarfUnit BadFile)
 last_fault (Ok next) = []
 last_fault (Err e) = Err e ∷ []

@@ -67,7 +67,7 @@ fn typed_header(cursor: &mut Cursor, order: Order, wide: bool, kind: u8) -> Resu
     })
 }
 
-/// Reads the header of a unit of DWARF 5, after its version. `None` where the standard doesn't define its type.
+/// Reads the header of a unit of DWARF 5, after its version. `None` if the standard doesn't define its type.
 #[tactic(auto, unfolding(crate::specs::Units::new_header_from))]
 fn new_header(cursor: &mut Cursor, order: Order, wide: bool) -> Result<Option<Header>, BadFile>
     ensures { Reads (λ x. x) result cursor.new (new_header_from order wide cursor.old) }
@@ -81,7 +81,7 @@ fn new_header(cursor: &mut Cursor, order: Order, wide: bool) -> Result<Option<He
     }
 }
 
-/// Reads the header of a unit, after its version. `None` where the unit is skipped.
+/// Reads the header of a unit, after its version. `None` if the unit is skipped.
 pub fn header_from(
     cursor: &mut Cursor,
     order: Order,

@@ -12,9 +12,9 @@ mod strings;
 mod unit;
 mod units;
 
-pub use laws::{standard_numbers, units_are_known};
+pub use laws::{standard_numbers, units_are_known, units_are_read_one_after_another};
 pub use root::Root;
 pub use sections::Sections;
-pub use strings::{address_by, base_or, table_header, text_of};
+pub use strings::{StringAt, address_by, base_or, table_header, text_of};
 pub use unit::DwarfUnit;
 pub use units::Units;

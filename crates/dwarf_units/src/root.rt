@@ -1,23 +1,23 @@
 //! The roots of units (DWARF 5, section 3.1).
 
-ghost use Rattle.std.specs.Prelude.{◌≡◌};
+ghost use Rattle.std.specs.Prelude.{◌≡◌, IfSome};
 ghost use Rattle.std.specs.Option.{option_copied};
 ghost use Rattle.size_core.specs.Checks.{Gives};
 ghost use Rattle.dwarf_abbrev.specs.Values.{shown};
 ghost use Rattle.dwarf_units.specs.Filling.{earlier_value, with_value};
-ghost use Rattle.dwarf_units.specs.Roots.{address_of, name_of, shown_root, shown_value};
+ghost use Rattle.dwarf_units.specs.Roots.{IsNameAt, address_of, name_of, shown_root, shown_value};
 
 use crate::constants::{
     DW_AT_ADDR_BASE, DW_AT_HIGH_PC, DW_AT_LOW_PC, DW_AT_NAME, DW_AT_RANGES, DW_AT_RNGLISTS_BASE,
     DW_AT_STMT_LIST, DW_AT_STR_OFFSETS_BASE,
 };
 use crate::sections::Sections;
-use crate::strings::{address_by, base_or, table_header, text_of};
+use crate::strings::{StringAt, address_by, base_or, string_of, table_header, text_of};
 use dwarf_abbrev::{UnitShape, Value};
 use size_core::BadFile;
 
 /// The attribute values of a unit's root that this crate distinguishes. Of each attribute it has the first
-/// value, where there is one.
+/// value, if there is one.
 #[derive(Clone, Copy, Debug)]
 pub struct Root<'a> {
     /// The unit's file offset.
@@ -56,7 +56,7 @@ fn earlier_value<'a>(old: Option<Value<'a>>, value: Value<'a>) -> Option<Value<'
     }
 }
 
-/// Adds the next value of the root. A value counts only where it is the first of its attribute.
+/// Adds the next value of the root. A value counts only if it is the first of its attribute.
 pub fn add_value<'a>(root: &mut Root<'a>, attribute: u64, value: Value<'a>)
     ensures { shown_root root.new ≡ with_value attribute (shown value.entry) (shown_root root.old) }
 {
@@ -74,10 +74,10 @@ pub fn add_value<'a>(root: &mut Root<'a>, attribute: u64, value: Value<'a>)
 }
 
 impl<'a> Root<'a> {
-    /// The unit's name, where it has one. It is a string in the unit, in `.debug_str` or in `.debug_line_str`.
+    /// The unit's name, if it has one. It is a string in the unit, in `.debug_str` or in `.debug_line_str`.
     ///
-    /// OffsetOutside where its offset isn't below the section's length, or where the entry that has the offset
-    /// isn't completely inside `.debug_str_offsets`. BadString where it has no null byte. Each fault has the
+    /// OffsetOutside if its offset isn't below the section's length, or if the entry that has the offset
+    /// isn't completely inside `.debug_str_offsets`. BadString if it has no null byte. Each fault has the
     /// value's file offset.
     pub fn name_text(&self, sections: &Sections<'a>) -> Result<Option<&'a [u8]>, BadFile>
         ensures { Gives option_copied result (name_of sections.now (shown_root self.now)) }
@@ -91,8 +91,18 @@ impl<'a> Root<'a> {
         }
     }
 
-    /// The address that a value of the unit gives, directly or by its index in `.debug_addr`. `None` where it
-    /// gives none. OffsetOutside at the value's file offset where the entry isn't completely inside the
+    /// The section and the offset of the unit's name, if it is in a section of strings and the index of its offset has
+    /// no fault.
+    pub fn name_at(&self, sections: &Sections<'a>) -> Option<StringAt>
+        ensures { IfSome result (λ at. IsNameAt sections.now (shown_root self.now) at) }
+    {
+        let name = self.name.as_ref()?;
+        let base = base_or(&self.str_base, table_header(self.shape.wide));
+        string_of(name, self.shape.wide, base, sections)
+    }
+
+    /// The address that a value of the unit gives, directly or by its index in `.debug_addr`. `None` if it
+    /// gives none. OffsetOutside at the value's file offset if the entry isn't completely inside the
     /// section.
     pub fn address(
         &self,

@@ -56,8 +56,8 @@ impl<'a> DwarfUnit<'a> {
     /// Units that share a table need it read only once. The table caches the declaration that it found, so
     /// roots with the same code don't search for it again.
     ///
-    /// The root has no values where its code is 0, or where no byte follows the header. Truncated or BadLeb at
-    /// the code's file offset where the code can't be read. BadAbbrev at the unit's file offset where the table
+    /// The root has no values if its code is 0, or if no byte follows the header. Truncated or BadLeb at
+    /// the code's file offset if the code can't be read. BadAbbrev at the unit's file offset if the table
     /// doesn't declare the code. After those comes the first fault of `read_form` among the values.
     #[tactic(auto, unfolding(crate::specs::Roots::root_values, crate::specs::Filling::filled_from, crate::specs::Roots::first_value))]
     pub fn root_in(&self, table: &mut Abbrevs<'a>) -> Result<Root<'a>, BadFile>

@@ -3,7 +3,7 @@
 use byte_cursor::{Cursor, Order};
 
 /// The debug sections of a file (DWARF 5, section 7, and `.debug_ranges` of DWARF 4). Each section is what its
-/// cursor has left. The cursor is empty where the section is absent or has no bytes.
+/// cursor has left. The cursor is empty if the section is absent or has no bytes.
 #[derive(Drop)]
 pub struct Sections<'a> {
     /// The byte order.

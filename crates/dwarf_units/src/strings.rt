@@ -1,18 +1,27 @@
 //! Strings and addresses that attribute values refer to (DWARF 5, sections 7.26 and 7.27).
 
-ghost use Rattle.std.specs.Prelude.{◌≡◌, ◌+◌, ◌*◌};
+ghost use Rattle.std.specs.Prelude.{◌≡◌, ◌+◌, ◌*◌, IfSome};
 ghost use Rattle.std.specs.Option.{option_copied};
 ghost use Rattle.size_core.specs.Checks.{Gives, bad};
 ghost use Rattle.size_core.specs.declared.fault.Fault.TheVariants.{OffsetOutside};
 ghost use Rattle.dwarf_abbrev.specs.Reads.{inside};
 ghost use Rattle.dwarf_abbrev.specs.Values.{meaning, shown};
-ghost use Rattle.dwarf_units.specs.Strings.{address_at, address_by, address_size, base_or, offset_size, string_at, string_offset_at, table_header, text_by, text_of};
+ghost use Rattle.dwarf_units.specs.Strings.{address_at, address_by, address_size, base_or, named, offset_size, string_at, string_in_section, string_offset_at, table_header, text_by, text_of};
 ghost use Rattle.dwarf_units.specs.Roots.{shown_value};
 
 use crate::sections::Sections;
 use byte_cursor::Cursor;
 use dwarf_abbrev::{Content, UnitShape, Value, address_from, inside, offset_from};
 use size_core::{BadFile, Fault};
+
+/// A string in a section, by its offset.
+#[derive(Clone, Copy, Debug, PartialEq, Eq)]
+pub enum StringAt {
+    /// In `.debug_str`.
+    Strings(u64),
+    /// In `.debug_line_str`.
+    LineStrings(u64),
+}
 
 /// The string at an offset of a section. Its faults have the file offset `place`.
 #[tactic(auto, unfolding(crate::specs::Strings::string_at))]
@@ -34,7 +43,7 @@ fn string_at<'a>(section: &Cursor<'a>, offset: u64, place: u64) -> Result<&'a [u
     }
 }
 
-/// The cursor at an entry of a table, where the entry begins inside the section.
+/// The cursor at an entry of a table, if the entry begins inside the section.
 fn entry_inside<'a>(section: &Cursor<'a>, base: u64, index: u64, size: u8) -> Option<Cursor<'a>>
     ensures { result ≡ inside section.now (base + index * size) }
 {
@@ -115,7 +124,7 @@ fn address_at(
     }
 }
 
-/// The offset in the section of the first entry of a table of offsets or addresses, where no attribute gives
+/// The offset in the section of the first entry of a table of offsets or addresses, if no attribute gives
 /// it. It is the size of the table's header: 8 bytes, or 16 in the 64-bit format (DWARF 5, sections 7.26 and
 /// 7.27).
 pub fn table_header(wide: bool) -> u64
@@ -141,10 +150,10 @@ pub fn base_or(value: &Option<Value>, other: u64) -> u64
 
 /// The string that a value refers to: its own text, a string of `.debug_str` or `.debug_line_str` by its
 /// offset, or a string of `.debug_str` by the index of its offset. The entries of the index begin at `base` in
-/// `.debug_str_offsets`. `None` where the value refers to no string.
+/// `.debug_str_offsets`. `None` if the value refers to no string.
 ///
-/// OffsetOutside where an offset isn't below the length of its section, or where the entry isn't completely
-/// inside it. BadString where the string has no null byte. Each fault has the value's file offset.
+/// OffsetOutside if an offset isn't below the length of its section, or if the entry isn't completely
+/// inside it. BadString if the string has no null byte. Each fault has the value's file offset.
 #[tactic(auto, unfolding(crate::specs::Strings::text_by))]
 pub fn text_of<'a>(
     value: &Value<'a>,
@@ -173,8 +182,26 @@ pub fn text_of<'a>(
     }
 }
 
+/// The section and the offset of the string that a value refers to, if it is in a section. `None` also if the index of
+/// its offset has a fault. The arguments are those of `text_of`.
+#[tactic(auto, unfolding(crate::specs::Strings::text_by))]
+pub fn string_of(value: &Value, wide: bool, base: u64, sections: &Sections) -> Option<StringAt>
+    ensures { IfSome result (λ at. text_of sections.now wide base (shown value.now)
+        ≡ named (string_in_section sections.now at value.now.place)) }
+{
+    match value.content {
+        Content::StrOffset(offset) => Some(StringAt::Strings(offset)),
+        Content::LineStrOffset(offset) => Some(StringAt::LineStrings(offset)),
+        Content::StrIndex(index) => {
+            let offset = string_offset_at(sections, wide, base, index, value.place).ok()?;
+            Some(StringAt::Strings(offset))
+        }
+        _ => None,
+    }
+}
+
 /// The address that a value gives, directly or by its index. The entries of the index begin at `base` in
-/// `.debug_addr`. `None` where it gives none, and OffsetOutside at the value's file offset where the entry
+/// `.debug_addr`. `None` if it gives none, and OffsetOutside at the value's file offset if the entry
 /// isn't completely inside the section.
 #[tactic(auto, unfolding(crate::specs::Strings::address_by))]
 pub fn address_by(

@@ -129,7 +129,7 @@ fn versioned<'a>(
     }
 }
 
-/// Reads the unit with these contents. `None` where it is skipped.
+/// Reads the unit with these contents. `None` if it is skipped.
 #[tactic(auto, unfolding(crate::specs::Units::unit_in))]
 fn unit_in<'a>(
     order: Order,
@@ -153,7 +153,7 @@ fn contents_from<'a>(cursor: &mut Cursor<'a>, len: u64) -> Result<Cursor<'a>, Ba
     cursor.take(len)
 }
 
-/// Reads the unit at the cursor. `None` where it is skipped.
+/// Reads the unit at the cursor. `None` if it is skipped.
 #[tactic(auto, unfolding(crate::specs::Units::unit_from))]
 pub fn unit_from<'a>(
     cursor: &mut Cursor<'a>,

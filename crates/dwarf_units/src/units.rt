@@ -34,7 +34,7 @@ fn next_unit<'a>(
     None
 }
 
-/// The units of `.debug_info` in order, and then its fault, where there is one. Three kinds of units are
+/// The units of `.debug_info` in order, and then its fault, if there is one. Three kinds of units are
 /// skipped: those too short for a version, those of a version other than 2 to 5, and those of a type that the
 /// standard doesn't define.
 #[derive(Drop)]
@@ -75,7 +75,7 @@ impl<'a> Iterator for Units<'a> {
 
     ghost remaining = { item_count (λ s. s) };
 
-    /// The next unit. Truncated or BadUnit at the unit's file offset where its length or its header can't be
+    /// The next unit. Truncated or BadUnit at the unit's file offset if its length or its header can't be
     /// read or doesn't fit the section. After a fault no unit follows.
     fn next(&mut self) -> Option<Result<DwarfUnit<'a>, BadFile>> {
         next_unit(&mut self.cursor, self.order, self.start)

@@ -90,7 +90,7 @@ fn window_named<'a>(file: &ElfFile<'a>, section: DebugSection) -> Cursor<'a>
     }
 }
 
-// Returns the debug sections, without a look at whether they are compressed.
+// Returns the debug sections. It doesn't check whether they are compressed.
 #[tactic(auto, unfolding(crate::specs::DebugSections::sections_of))]
 fn sections_of<'a>(file: &ElfFile<'a>) -> Sections<'a>
     ensures { result ≡ sections_of file.now }

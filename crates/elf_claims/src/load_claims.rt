@@ -19,7 +19,7 @@ fn flag_text(flag: bool, letter: &'static [u8]) -> &'static [u8]
     if flag { letter } else { b"" }
 }
 
-// Appends the letters of the flags of a program header.
+// Appends the letters R, W and X for the flags of a program header (`p_flags`).
 fn append_segment_flags(text: &mut Vec<u8>, flags: u32) -> Result<(), NoMemory>
     ensures { OnOk result (text.new.items ≡ text.old.items ++ segment_flags flags) }
 {
@@ -28,7 +28,7 @@ fn append_segment_flags(text: &mut Vec<u8>, flags: u32) -> Result<(), NoMemory>
     append(text, flag_text(flags & PF_X != 0, b"X"))
 }
 
-// Appends the letters of the flags of a section.
+// Appends the letters R, W and X for the flags of a section (`sh_flags`).
 fn append_section_flags(text: &mut Vec<u8>, flags: u64) -> Result<(), NoMemory>
     ensures { OnOk result (text.new.items ≡ text.old.items ++ section_flags flags) }
 {

@@ -16,7 +16,8 @@ pub fn is_relocatable(file: &ElfFile<'_>) -> bool
     file.header().kind == ET_REL
 }
 
-/// Returns whether a section has virtual addresses.
+/// Returns whether a section has virtual addresses: it has SHF_ALLOC, and isn't `.tbss`, which takes no memory in the
+/// image of the process.
 #[tactic(auto, unfolding(crate::specs::Loads::has_addresses))]
 pub fn has_addresses(file: &ElfFile<'_>, i: u32) -> bool
     requires { i < section_count file.now }

@@ -18,7 +18,7 @@ header_checks file =
     ∷ demand (nat_le (header_len (encoding_of file)) (length file)) Truncated 0
     ∷ []
 
--- The checks of the section table, where there is one: e_shentsize is right, section 0 exists if it holds
+-- The checks of the section table, if there is one: e_shentsize is right, section 0 exists if it holds
 -- the number of sections, and the table lies in the file (gABI, Sections).
 unfoldable pub section_table_checks : List ℕ → List Check
 section_table_checks file =
@@ -27,7 +27,7 @@ section_table_checks file =
     ∷ demand (shoff file == 0 || nat_le (section_place file (section_count file)) (length file)) TablePastEnd (shoff file)
     ∷ []
 
--- The checks of the segment table, where there are segments: e_phentsize is right, and the table lies in
+-- The checks of the segment table, if there are segments: e_phentsize is right, and the table lies in
 -- the file (gABI, Program Header).
 unfoldable pub segment_table_checks : List ℕ → List Check
 segment_table_checks file =
@@ -53,7 +53,7 @@ section_fits file i = let s = section_at file i in do
 unfoldable pub section_has_name : List ℕ → ℕ → Check
 section_has_name file i = demand (is_unnamed file i || is_some (name_text file i)) NameOutside (section_at file i).place
 
--- The check that the addresses of segment i end by 2^64, where it is loaded (gABI, Program Header).
+-- The check that the addresses of segment i end by 2^64, if it is loaded (gABI, Program Header).
 unfoldable pub segment_fits : List ℕ → ℕ → Check
 segment_fits file i = let s = segment_at file i in
     demand (not (s.kind == PT_LOAD) || nat_le (s.vaddr + s.memsz) (2 ^ 64)) RangeOverflow s.place
@@ -76,7 +76,7 @@ elf_checks file =
     header_checks file ++ section_table_checks file ++ segment_table_checks file ++ name_table_checks file
     ++ section_checks file ++ name_checks file ++ segment_checks file
 
--- The value where the checks hold, or the first fault.
+-- The value if the checks hold, or the first fault.
 abbrev pub checked : {X : Type 0} → List Check → X → Result X BadFile
 checked checks x = first_of checks >> Ok x
 

@@ -5,7 +5,7 @@ use Rattle.size_core.specs.Gather.{first_from}
 use Rattle.byte_cursor.specs.Numbers.{text}
 use Rattle.elf_file.specs.Tables.{name_index, name_offset, section_bytes, section_count, is_null}
 
--- The name of section i in the section name table, or none where it has no terminating zero byte there
+-- The name of section i in the section name table, or none if it has no terminating zero byte there
 -- (gABI, String Table).
 unfoldable pub name_text : List ℕ → ℕ → Option (List ℕ)
 name_text file i = text (section_bytes file (name_index file)) (name_offset file i)
@@ -15,7 +15,7 @@ name_text file i = text (section_bytes file (name_index file)) (name_offset file
 abbrev pub is_unnamed : List ℕ → ℕ → Bool
 is_unnamed file i = is_null file i || name_index file == 0
 
--- The name of section i, empty where it has none (gABI, Section Header: sh_name).
+-- The name of section i, empty if it has none (gABI, Section Header: sh_name).
 unfoldable pub name_of : List ℕ → ℕ → List ℕ
 name_of file i = if is_unnamed file i then [] else unwrap_or (name_text file i) []
 

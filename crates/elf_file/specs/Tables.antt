@@ -27,17 +27,17 @@ section_at file i = let place = section_place file i in record {
 unfoldable pub name_offset : List ℕ → ℕ → ℕ
 name_offset file i = four file (section_place file i) 0 0
 
--- The number of sections: 0 where e_shoff is 0, and sh_size of section 0 where e_shnum is 0 (gABI, ELF
+-- The number of sections: 0 if e_shoff is 0, and sh_size of section 0 if e_shnum is 0 (gABI, ELF
 -- Header: e_shnum).
 unfoldable pub section_count : List ℕ → ℕ
 section_count file = if shoff file == 0 then 0 else if shnum file == 0 then (section_at file 0).size else shnum file
 
--- The number of segments. Where e_phnum is PN_XNUM, it is sh_info of section 0, if there is a section 0
+-- The number of segments. If e_phnum is PN_XNUM, it is sh_info of section 0, if there is a section 0
 -- (gABI, ELF Header: e_phnum).
 unfoldable pub segment_count : List ℕ → ℕ
 segment_count file = if phnum file == PN_XNUM && nat_lt 0 (section_count file) then (section_at file 0).info else phnum file
 
--- The number of the section name table, or 0 where sections have no names. Where e_shstrndx is SHN_XINDEX,
+-- The number of the section name table, or 0 if sections have no names. If e_shstrndx is SHN_XINDEX,
 -- it is sh_link of section 0 (gABI, ELF Header: e_shstrndx).
 unfoldable pub name_index : List ℕ → ℕ
 name_index file =

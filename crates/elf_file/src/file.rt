@@ -167,7 +167,7 @@ impl<'a> ElfFile<'a> {
     }
 
     /// Returns the number of the first section with this name. Section 0 and sections of type SHT_NULL
-    /// don't count. `None` where no other section has the name.
+    /// don't count. `None` if no other section has the name.
     #[tactic(auto, using(size_core::proofs::Gathered::first_next, size_core::proofs::Gathered::first_here, size_core::proofs::Gathered::first_end))]
     pub fn find(&self, name: &[u8]) -> Option<u32>
         ensures { result ≡ section_named self.now name.now }

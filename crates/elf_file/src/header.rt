@@ -15,7 +15,7 @@ pub struct ElfHeader {
     pub machine: u16,
     /// The file offset of the program header table (`e_phoff`).
     pub phoff: u64,
-    /// The file offset of the section header table (`e_shoff`), or 0 where there is none.
+    /// The file offset of the section header table (`e_shoff`), or 0 if there is none.
     pub shoff: u64,
     /// The number of program headers.
     pub segments: u32,

@@ -37,7 +37,7 @@ impl Encoding {
         self.word(file, 0, 28, 32)
     }
 
-    /// Returns `e_shoff`, the file offset of the section header table, or 0 where there is none.
+    /// Returns `e_shoff`, the file offset of the section header table, or 0 if there is none.
     pub fn shoff(self, file: &[u8]) -> u64
         requires { HasHeader file.now self }
         ensures { result ≡ shoff file.now }

@@ -13,7 +13,7 @@ use crate::sections::{section_bytes, section_of_table, section_place};
 use byte_cursor::text_at;
 use size_core::{BadFile, Fault};
 
-/// Returns the number of the section name table, or 0 where sections have no names.
+/// Returns the number of the section name table, or 0 if sections have no names.
 #[tactic(auto, unfolding(crate::specs::Tables::name_index))]
 fn name_index(file: &[u8], encoding: Encoding, sections: u32) -> u32
     requires { HasSections file.now encoding sections }
@@ -30,7 +30,7 @@ fn name_index(file: &[u8], encoding: Encoding, sections: u32) -> u32
     }
 }
 
-/// Returns the number of the section name table, or 0 where sections have no names. BadIndex where no
+/// Returns the number of the section name table, or 0 if sections have no names. BadIndex if no
 /// section has the number.
 #[tactic(auto, unfolding(crate::specs::ElfChecks::name_table_checks))]
 pub fn name_table(file: &[u8], encoding: Encoding, sections: u32) -> Result<u32, BadFile>
@@ -63,7 +63,7 @@ pub fn names_of<'a>(file: &'a [u8], encoding: Encoding, sections: u32, index: u3
     }
 }
 
-/// Returns the name of section `i`. `None` where it has no terminating zero byte in the section name table.
+/// Returns the name of section `i`. `None` if it has no terminating zero byte in the section name table.
 #[tactic(auto, unfolding(crate::specs::Names::name_text, crate::specs::Tables::name_offset))]
 fn name_text<'a>(file: &[u8], encoding: Encoding, names: &'a [u8], i: u32) -> Option<&'a [u8]>
     requires header { HasHeader file.now encoding }

@@ -5,7 +5,7 @@
 pub struct Section<'a> {
     /// The file offset of its section header.
     pub place: u64,
-    /// Its name. Empty for section 0 and for type SHT_NULL, and where the file has no section name table.
+    /// Its name. Empty for section 0, for type SHT_NULL, and if the file has no section name table.
     pub name: &'a [u8],
     /// `sh_type`.
     pub kind: u32,

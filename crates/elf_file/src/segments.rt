@@ -88,7 +88,7 @@ pub fn segment_bytes<'a>(file: &'a [u8], encoding: Encoding, segments: u32, i: u
     &file[start as usize..(start + size) as usize]
 }
 
-/// Checks that the addresses of segment `i` end by 2^64, where it is loaded.
+/// Checks that the addresses of segment `i` end by 2^64, if it is loaded.
 #[tactic(auto, unfolding(crate::specs::ElfChecks::segment_fits))]
 fn segment_fits(file: &[u8], encoding: Encoding, segments: u32, i: u32) -> Result<(), BadFile>
     requires table { HasSegments file.now encoding segments }

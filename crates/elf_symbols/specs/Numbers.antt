@@ -8,7 +8,7 @@ use Rattle.elf_symbols.specs.declared.constants.TheConstants.{SHT_SYMTAB_SHNDX}
 use Rattle.elf_symbols.specs.declared.numbers.TableNumbers.{TableNumbers}
 use Rattle.elf_symbols.specs.Symbols.{numbers_index}
 
--- Section j with the symbol table that its sh_link names, where it has extended section indexes (gABI,
+-- Section j with the symbol table that its sh_link names, if it has extended section indexes (gABI,
 -- Sections: SHT_SYMTAB_SHNDX).
 unfoldable pub numbers_at : List ℕ → ℕ → List TableNumbers
 numbers_at file j =

@@ -25,7 +25,7 @@ pub record Table : Type 0 where
   pub file : List ℕ
   pub index : ℕ
 
--- The symbol table in section i, whose names are in section sh_link. BadIndex where there is no such
+-- The symbol table in section i, whose names are in section sh_link. BadIndex if there is no such
 -- section (gABI, Sections: sh_link).
 unfoldable pub table_at : List ℕ → ℕ → Result Table BadFile
 table_at file i = do
@@ -44,12 +44,12 @@ symbol_count file i = (section_at file i).size / symbol_len (encoding_of file)
 abbrev pub symbol_place : List ℕ → ℕ → ℕ → ℕ
 symbol_place file i k = (section_at file i).offset + k * symbol_len (encoding_of file)
 
--- The value, or this fault where there is none.
+-- The value, or this fault if there is none.
 abbrev pub present : {X : Type 0} → Option X → Fault → ℕ → Result X BadFile
 present None fault place = bad fault place
 present (Some x) fault place = Ok x
 
--- The name of the symbol at file offset place, in the names of its table. Empty where st_name is 0 (gABI,
+-- The name of the symbol at file offset place, in the names of its table. Empty if st_name is 0 (gABI,
 -- Symbol Table: st_name).
 unfoldable pub name_at : List ℕ → List ℕ → ℕ → Result (List ℕ) BadFile
 name_at file names place = if four file place 0 0 == 0 then Ok [] else present (text names (four file place 0 0)) NameOutside place
@@ -58,7 +58,7 @@ name_at file names place = if four file place 0 0 == 0 then Ok [] else present (
 abbrev pub shndx_at : List ℕ → ℕ → ℕ
 shndx_at file place = half file place 14 6
 
--- The section number of symbol k, which is at file offset place: st_shndx, or where that is SHN_XINDEX,
+-- The section number of symbol k, which is at file offset place: st_shndx, or if that is SHN_XINDEX,
 -- entry k of the table's extended section indexes (gABI, Symbol Table: st_shndx).
 unfoldable pub section_number_at : List ℕ → List ℕ → ℕ → ℕ → Result ℕ BadFile
 section_number_at file numbers place k =
@@ -78,12 +78,12 @@ has_numbers_of file i j = (section_at file j).kind == SHT_SYMTAB_SHNDX && (secti
 abbrev pub numbers_index : List ℕ → ℕ → Option ℕ
 numbers_index file i = first_from (has_numbers_of file i) 1 (section_count file - 1)
 
--- The bytes of a section, and none where there is no section (gABI, Section Header: sh_offset, sh_size).
+-- The bytes of a section, and none if there is no section (gABI, Section Header: sh_offset, sh_size).
 abbrev pub bytes_of : List ℕ → Option ℕ → List ℕ
 bytes_of file None = []
 bytes_of file (Some j) = section_bytes file j
 
--- The extended section indexes of the table in section i, and none where no section has them (gABI,
+-- The extended section indexes of the table in section i, and none if no section has them (gABI,
 -- Sections: SHT_SYMTAB_SHNDX).
 abbrev pub numbers_of : List ℕ → ℕ → List ℕ
 numbers_of file i = bytes_of file (numbers_index file i)

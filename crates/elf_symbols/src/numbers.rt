@@ -38,7 +38,7 @@ impl<'a> Model for NumbersIndex<'a> {
     ghost invariant = { λ n. IsNumbersIndex n.file.now n.known.items };
 }
 
-/// Adds section `j`, where it has extended section indexes.
+/// Adds section `j`, if it has extended section indexes.
 #[tactic(auto, unfolding(crate::specs::Numbers::numbers_at))]
 fn push_numbers(file: &ElfFile<'_>, j: u32, known: &mut Vec<TableNumbers>) -> Result<(), NoMemory>
     requires { j < section_count file.now }

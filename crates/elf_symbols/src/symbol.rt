@@ -15,7 +15,7 @@ use size_core::{BadFile, Fault};
 pub struct Symbol<'a> {
     /// Its file offset.
     pub place: u64,
-    /// Empty where `st_name` is 0.
+    /// Its name. Empty if `st_name` is 0.
     pub name: &'a [u8],
     /// `st_value`, in most files a virtual address.
     pub value: u64,
@@ -23,9 +23,9 @@ pub struct Symbol<'a> {
     pub size: u64,
     /// The type, which is the low four bits of `st_info`.
     pub kind: u8,
-    /// `st_shndx`, also where it is an escape.
+    /// `st_shndx`, even if it is an escape.
     pub shndx: u16,
-    /// The number of its section, from the extended section indexes where it doesn't fit `st_shndx`.
+    /// The number of its section, from the extended section indexes if it doesn't fit `st_shndx`.
     pub section: u32,
 }
 
@@ -36,7 +36,7 @@ pub fn symbol_len(encoding: Encoding) -> u64
     encoding.pick(16, 24)
 }
 
-/// Returns the name of the symbol at file offset `place`. NameOutside where it has no terminating zero byte
+/// Returns the name of the symbol at file offset `place`. NameOutside if it has no terminating zero byte
 /// in `names`.
 #[tactic(auto, unfolding(crate::specs::Symbols::name_at))]
 pub fn name_at<'a>(
@@ -71,7 +71,7 @@ pub fn shndx_at(file: &[u8], encoding: Encoding, place: u64) -> u16
     encoding.half(file, place, 14, 6)
 }
 
-/// Returns the section number of symbol `k`, which is at file offset `place`. BadIndex where it needs an
+/// Returns the section number of symbol `k`, which is at file offset `place`. BadIndex if it needs an
 /// extended section index and has none.
 #[tactic(auto, unfolding(crate::specs::Symbols::section_number_at))]
 pub fn section_number_at(

@@ -60,7 +60,7 @@ fn numbers_index(file: &ElfFile<'_>, i: u32) -> Option<u32>
     None
 }
 
-/// Returns the bytes of a section, and none where there is no section.
+/// Returns the bytes of a section, and none if there is no section.
 fn numbers_in<'a>(file: &ElfFile<'a>, section: Option<u32>) -> &'a [u8]
     requires { IfSome section (λ j. j < section_count file.now) }
     ensures { result.now ≡ bytes_of file.now section }
@@ -72,7 +72,7 @@ fn numbers_in<'a>(file: &ElfFile<'a>, section: Option<u32>) -> &'a [u8]
 }
 
 impl<'a> SymbolTable<'a> {
-    /// Opens the symbol table in section `i`. BadIndex where `sh_link` is no section's number.
+    /// Opens the symbol table in section `i`. BadIndex if `sh_link` is no section's number.
     pub fn at(file: &ElfFile<'a>, i: u32) -> Result<SymbolTable<'a>, BadFile>
         requires { IsSymbolTable file.now i }
         ensures { result ≡ table_at file.now i }
@@ -134,8 +134,8 @@ impl<'a> SymbolTable<'a> {
         self.count
     }
 
-    /// Returns symbol `k`. NameOutside where its name has no terminating zero byte in the table's names,
-    /// and BadIndex where it needs an extended section index and has none.
+    /// Returns symbol `k`. NameOutside if its name has no terminating zero byte in the table's names,
+    /// and BadIndex if it needs an extended section index and has none.
     #[tactic(auto, unfolding(crate::specs::Symbols::symbol_at))]
     pub fn symbol(&self, k: u32) -> Result<Symbol<'a>, BadFile>
         requires { k < symbol_count self.now.file self.now.index }

@@ -25,7 +25,7 @@ next_item front f j =
     let e : 0 + j ≡ j = omega arith in
     rw (map-range_with_len_more f 0 j j e) (append_assoc front (map f (range_with_len 0 j)) (f j ∷ []))
 
--- The length of the list where each number gives equally many items.
+-- The length of the list if each number gives equally many items.
 pub length-rows : {X : Type 0} (f : ℕ → List X) (len : ℕ) → ((k : ℕ) → length (f k) ≡ len) → (a n : ℕ) → length (flat_map f (range_with_len a n)) ≡ len * n
 length-rows f len each a zero = omega arith
 length-rows f len each a (suc n) = rw (length-append, each a, length-rows f len each (a + 1) n) (omega arith)

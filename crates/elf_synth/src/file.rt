@@ -14,7 +14,7 @@ use std::alloc::Global;
 /// file header, the program header of a load of all bytes up to the end of `.text`, the sections `.text`,
 /// `.symtab`, `.strtab` and `.shstrtab`, and the section headers. A function has 16 bytes of code. The
 /// symbols are in falling order of address, and a symbol with an odd number ends 8 bytes after its
-/// function. NoMemory where memory runs out.
+/// function. NoMemory if memory runs out.
 #[tactic(auto, unfolding(crate::specs::Made::made), using(crate::proofs::Lengths::layout_is))]
 pub fn synth(alloc: Global, n: u32) -> Result<Vec<u8>, NoMemory>
     requires { n ≤ 1_000_000 }

@@ -35,9 +35,13 @@ pub struct Part {
 /// The parts of a file that its headers describe.
 #[derive(Clone, Copy)]
 pub struct Layout {
+    /// `.text`.
     pub text: Part,
+    /// `.symtab`.
     pub symbols: Part,
+    /// `.strtab`.
     pub strings: Part,
+    /// `.shstrtab`.
     pub section_names: Part,
     /// The file offset of the section headers, which are the last part of the file.
     pub section_headers: u64,

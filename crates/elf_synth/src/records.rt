@@ -50,7 +50,7 @@ pub struct SectionHeader {
     pub link: u32,
     /// `sh_info`.
     pub info: u32,
-    /// `sh_entsize`, the size of an entry in bytes where the section is a table, and else 0.
+    /// `sh_entsize`, the size of an entry in bytes if the section is a table, and else 0.
     pub entry_size: u64,
 }
 

@@ -1,4 +1,4 @@
--- What is decided of a file without a debug file is what is decided of it once it was opened.
+-- A file without a debug file has the result of the opened file.
 use Rattle.std.proofs.Common.{◌≡◌, ℕ, List, Result, Ok, Err, refl, sym, ap, ◌∙◌}
 use Rattle.std.specs.Prelude.{IsOk}
 use Rattle.size_core.specs.declared.fault.BadFile.{BadFile}
@@ -9,11 +9,11 @@ use Rattle.file_profile.specs.declared.answer.OpenedAnswer.{OpenedAnswer}
 use Rattle.file_profile.specs.declared.answer.OpenedAnswer.TheVariants as of_opened
 use Rattle.file_profile.specs.declared.answer.ProfileAnswer.{ProfileAnswer}
 use Rattle.file_profile.specs.declared.answer.ProfileAnswer.TheVariants.{Bad}
-use Rattle.file_profile.specs.Reasons.{of_file_alone, refused_as}
+use Rattle.file_profile.specs.Answers.{of_file_alone, refused_as}
 use Rattle.file_profile.specs.Sources.{Chosen}
 use Rattle.file_profile.specs.Views.{Answers, OpenedAnswers, alone, file_view, if_opened, opened_view, opened_viewed, viewed}
 
--- another word for the refusal changes nothing of what went well, and refuses the same
+-- Mapping the error keeps an `Ok` as it is, and an `Err` an `Err`.
 pub ok-before : {X A B : Type 0} (word : A → B) (r : Result X A) (x : X) → refused_as word r ≡ Ok x → r ≡ Ok x
 ok-before word (Ok y) x e = cc
 ok-before word (Err a) x e = cc
@@ -22,9 +22,9 @@ pub err-before : {X A B : Type 0} (word : A → B) (r : Result X A) (b : B) → 
 err-before word (Ok y) b e = let wrong : ⊥ = cc in absurd wrong
 err-before word (Err a) b e = (a, refl)
 
-pub ok-behind : {X A B : Type 0} (word : A → B) (r : Result X A) → IsOk r → IsOk (refused_as word r)
-ok-behind word (Ok y) e = refl
-ok-behind word (Err a) e = cc
+pub ok-after : {X A B : Type 0} (word : A → B) (r : Result X A) → IsOk r → IsOk (refused_as word r)
+ok-after word (Ok y) e = refl
+ok-after word (Err a) e = cc
 
 refused-alone : (why : OpenedAnswer) (said : Result FileView OpenedAnswer) → OpenedAnswers (Err why) said → Answers (Err (of_file_alone why)) (refused_as of_file_alone said)
 refused-alone (of_opened.Bad k bad) said e = ap (refused_as of_file_alone) e
@@ -33,12 +33,12 @@ refused-alone of_opened.MappedTooLarge said e = ap (refused_as of_file_alone) e
 refused-alone of_opened.NoMemory said e = tt
 
 module _ (mapped limit : ℕ) (name file : List ℕ) (sources : List Chosen) where
-  -- a file that isn't opened
+  -- A file that can't be opened.
   pub viewed-bad : (bad : BadFile) → opened file ≡ Err bad → viewed mapped limit name file sources ≡ Err (Bad bad)
   unfolding viewed
   viewed-bad bad e = ap (λ o. if_opened o (λ binary. refused_as of_file_alone (opened_viewed mapped limit (alone name binary) sources))) e
 
-  -- a file that is
+  -- A file that can be opened.
   module _ (binary : Binary) (sound : opened file ≡ Ok binary) where
     pub viewed-alone : viewed mapped limit name file sources ≡ refused_as of_file_alone (opened_viewed mapped limit (alone name binary) sources)
     unfolding viewed
@@ -51,7 +51,7 @@ module _ (mapped limit : ℕ) (name file : List ℕ) (sources : List Chosen) whe
     answers-refused why e = rw viewed-alone (refused-alone why (opened_viewed mapped limit (alone name binary) sources) e)
 
     pub viewed-ok : IsOk (opened_viewed mapped limit (alone name binary) sources) → IsOk (viewed mapped limit name file sources)
-    viewed-ok e = rw viewed-alone (ok-behind of_file_alone (opened_viewed mapped limit (alone name binary) sources) e)
+    viewed-ok e = rw viewed-alone (ok-after of_file_alone (opened_viewed mapped limit (alone name binary) sources) e)
 
     pub viewed-before : (f : FileView) → viewed mapped limit name file sources ≡ Ok f → opened_viewed mapped limit (alone name binary) sources ≡ Ok f
     viewed-before f e = ok-before of_file_alone (opened_viewed mapped limit (alone name binary) sources) f (sym viewed-alone ∙ e)

@@ -1,4 +1,4 @@
--- What the maps count is what the file's bytes count.
+-- The counts by the maps are the counts by the file's bytes.
 use Rattle.std.proofs.Common.{◌≡◌, ◌<◌, ◌^◌, ℕ, zero, suc, Bool, true, false, ◌&&◌, List, [], ◌∷◌, map, Option, Some, None, refl, ap, arith}
 use Rattle.std.specs.Prelude.{slice_get, slice_index_or, unwrap_or}
 use Rattle.std.specs.List.{list_any}
@@ -13,7 +13,7 @@ use Rattle.dual_map.specs.Layout.{Layout, Maps}
 use Rattle.rollup.specs.Adding.{counts, file_count, numbers_at, passes, vm_count}
 use Rattle.file_profile.specs.Counts.{file_size_where, filter_test, marks_by, vm_size_where}
 use Rattle.file_profile.specs.Numbering.{AreTexts}
-use Rattle.file_profile.specs.Spelling.{AllSpell, file_at}
+use Rattle.file_profile.specs.MapLabels.{AllSpell, file_at}
 use Rattle.custom_rewrites.specs.Pattern.{is_found}
 
 texts-are : (pool : List (List ℕ)) (ns : List ℕ) (ls : List (List ℕ)) → AreTexts pool ns ls → map (text_of pool) ns ≡ ls
@@ -22,7 +22,7 @@ texts-are pool (n ∷ ns) (l ∷ ls) all = rw (get_or_from_slice_get pool n l []
 texts-are pool [] (l ∷ ls) all = absurd all
 texts-are pool (n ∷ ns) [] all = absurd all
 
--- the mark of a label is what the test says of it
+-- The mark of a label is the result of the test for it.
 mark-is : (test : List ℕ → Bool) (pool : List (List ℕ)) (n : ℕ) (l : List ℕ) → slice_get pool n ≡ Some l → slice_index_or (map test pool) n false ≡ test l
 mark-is test [] n l at = cc
 mark-is test (k ∷ pool) zero l at = let same : k ≡ l = cc in ap test same
@@ -43,7 +43,7 @@ counts-is : (filter : Option (List ℕ)) (test : List (List ℕ) → Bool) (pool
     → counts test pool (marks_by filter pool) ns ≡ (passes_filter (filter_test filter) ls && test ls)
 counts-is filter test pool ns ls all = rw (passes-is filter pool ns ls all, texts-are pool ns ls all) refl
 
--- the numbers of an offset, and of a mapped position
+-- The number of the label at an offset, and at a mapped position.
 some-number : (pool : List (List ℕ)) (label : Option ℕ) (n : ℕ) (l : List ℕ) → label ≡ Some n → slice_get pool n ≡ Some l → slice_get pool (unwrap_or label 0) ≡ Some l
 some-number pool label n l is at = rw is at
 

@@ -1,4 +1,4 @@
--- What is counted of a file with its debug file is of the file.
+-- With a debug file, the counted content is that of the file.
 use Rattle.std.proofs.Common.{◌≡◌, ℕ, ◌+◌, ◌-◌, ◌^◌, Bool, true, false, cond, nat_lt, List, length, Result, Ok, Err, refl, sym, ap, ◌∙◌}
 use Rattle.size_core.specs.declared.fault.BadFile.{BadFile}
 use Rattle.size_model.specs.declared.view.FileView.{FileView}
@@ -11,13 +11,14 @@ use Rattle.data_sources.specs.Opened.{opened}
 use Rattle.data_sources.proofs.OpenedLemmas.{opened-bytes}
 use Rattle.file_profile.specs.declared.answer.OpenedAnswer.{OpenedAnswer}
 use Rattle.file_profile.specs.declared.answer.OpenedAnswer.TheVariants as of_opened
+use Rattle.file_profile.specs.declared.answer.SourceAnswer.{SourceAnswer}
 use Rattle.file_profile.specs.declared.answer.PairAnswer.{PairAnswer}
 use Rattle.file_profile.specs.declared.answer.PairAnswer.TheVariants.{NoMatch}
 use Rattle.file_profile.specs.Claims.{OpenedFile}
 use Rattle.file_profile.specs.Identity.{is_pair}
 use Rattle.file_profile.specs.Laws.{IsOfFile}
-use Rattle.file_profile.specs.PairViews.{if_opened_as, if_pair, pair_viewed, paired}
-use Rattle.file_profile.specs.Reasons.{of_file_pair, refused_as}
+use Rattle.file_profile.specs.PairViews.{if_pair, opened_as, opened_pair, pair_viewed, paired, when_opened}
+use Rattle.file_profile.specs.Answers.{of_file_pair, refused_as}
 use Rattle.file_profile.specs.Sources.{Chosen}
 use Rattle.file_profile.specs.Views.{as_view, opened_viewed, view_within, views_of}
 use Rattle.file_profile.proofs.AloneLemmas.{ok-before}
@@ -26,7 +27,7 @@ pub record IsOf (binary : Binary) (f : FileView) : Type 0 where
   pub len : f.len ≡ length (bytes_of binary)
   pub loads : f.loads ≡ loads_of binary
 
-as-view-of : (binary : Binary) (r : Result (List SourceView) OpenedAnswer) (f : FileView) → as_view binary r ≡ Ok f → IsOf binary f
+as-view-of : (binary : Binary) (r : Result (List SourceView) SourceAnswer) (f : FileView) → as_view binary r ≡ Ok f → IsOf binary f
 as-view-of binary (Ok views) f e = record { len = cc; loads = cc }
 as-view-of binary (Err answer) f e = let wrong : ⊥ = cc in absurd wrong
 
@@ -42,39 +43,35 @@ pub of-viewed : (mapped limit : ℕ) (o : OpenedFile) (sources : List Chosen) (f
 unfolding opened_viewed
 of-viewed mapped limit o sources f e = as-view-of o.binary (views_of limit o sources) f (within-is mapped (as_view o.binary (views_of limit o sources)) f e)
 
-match-ok : (b : Bool) (r : Result FileView PairAnswer) (f : FileView) → cond b r (Err NoMatch) ≡ Ok f → r ≡ Ok f
-match-ok true r f e = e
-match-ok false r f e = cc
-
 ok-same : (x y : Binary) → ◌≡◌ {A = Result Binary BadFile} (Ok x) (Ok y) → x ≡ y
 ok-same x y e = cc
 
-module _ (mapped limit : ℕ) (name : List ℕ) (sources : List Chosen) (f : FileView) where
-  said : Binary → Binary → Result FileView PairAnswer
-  said binary other = if_pair binary other (refused_as of_file_pair (opened_viewed mapped limit (paired name binary other) sources))
+when-ok : {X Y : Type 0} (r : Result X PairAnswer) (next : X → Result Y PairAnswer) (y : Y) → when_opened r next ≡ Ok y → (x : X) × (r ≡ Ok x) × (next x ≡ Ok y)
+when-ok (Ok x) next y e = (x, refl, e)
+when-ok (Err answer) next y e = let wrong : ⊥ = cc in absurd wrong
 
-  of-said : (binary other : Binary) → said binary other ≡ Ok f → IsOf binary f
-  unfolding said
-  of-said binary other e =
-      let viewed = opened_viewed mapped limit (paired name binary other) sources in
-      of-viewed mapped limit (paired name binary other) sources f (ok-before of_file_pair viewed f (match-ok (is_pair binary other) (refused_as of_file_pair viewed) f e))
+opened-is : (i : ℕ) (o : Result Binary BadFile) (binary : Binary) → opened_as i o ≡ Ok binary → o ≡ Ok binary
+opened-is i (Ok b) binary e = cc
+opened-is i (Err bad) binary e = cc
 
-  of-debug : (binary : Binary) (o : Result Binary BadFile) → if_opened_as 2 o (λ other. said binary other) ≡ Ok f → IsOf binary f
-  of-debug binary (Ok other) e = of-said binary other e
-  of-debug binary (Err bad) e = let wrong : ⊥ = cc in absurd wrong
+pair-is : (b : Bool) (f o : OpenedFile) → ◌≡◌ {A = Result OpenedFile PairAnswer} (cond b (Ok f) (Err NoMatch)) (Ok o) → f ≡ o
+pair-is true f o e = cc
+pair-is false f o e = cc
 
-  of-both : (o p : Result Binary BadFile) → if_opened_as 1 o (λ binary. if_opened_as 2 p (λ other. said binary other)) ≡ Ok f → (binary : Binary) × (o ≡ Ok binary) × IsOf binary f
-  of-both (Ok binary) p e = (binary, refl, of-debug binary p e)
-  of-both (Err bad) p e = let wrong : ⊥ = cc in absurd wrong
+own-of-pair : (name file debug : List ℕ) (o : OpenedFile) → opened_pair name file debug ≡ Ok o → opened file ≡ Ok o.binary
+unfolding opened_pair
+own-of-pair name file debug o e =
+    let own = when-ok (opened_as 1 (opened file)) (λ binary. when_opened (opened_as 2 (opened debug)) (λ other. if_pair name binary other)) o e in
+    let both = when-ok (opened_as 2 (opened debug)) (λ other. if_pair name own.0 other) o own.2 in
+    opened-is 1 (opened file) own.0 own.1 ∙ ap (λ (f : OpenedFile). Ok f.binary) (pair-is (is_pair own.0 both.0) (paired name own.0 both.0) o both.2)
 
-  opened-of : (file debug : List ℕ) → pair_viewed mapped limit name file debug sources ≡ Ok f → (binary : Binary) × (opened file ≡ Ok binary) × IsOf binary f
-  unfolding pair_viewed said
-  opened-of file debug e = of-both (opened file) (opened debug) e
-
-  pub of-file : (file debug : List ℕ) → pair_viewed mapped limit name file debug sources ≡ Ok f → IsOfFile file f
-  of-file file debug e =
-      let is = opened-of file debug e in
-      record {
-        len = (is.2).len ∙ ap length (opened-bytes file is.0 is.1);
-        loads = λ binary sound. (is.2).loads ∙ ap loads_of (ok-same is.0 binary (sym is.1 ∙ sound));
-      }
+pub of-file : (mapped limit : ℕ) (name : List ℕ) (sources : List Chosen) (f : FileView) (file debug : List ℕ) → pair_viewed mapped limit name file debug sources ≡ Ok f → IsOfFile file f
+unfolding pair_viewed
+of-file mapped limit name sources f file debug e =
+    let pair = when-ok (opened_pair name file debug) (λ o. refused_as of_file_pair (opened_viewed mapped limit o sources)) f e in
+    let is = of-viewed mapped limit pair.0 sources f (ok-before of_file_pair (opened_viewed mapped limit pair.0 sources) f pair.2) in
+    let sound = own-of-pair name file debug pair.0 pair.1 in
+    record {
+      len = is.len ∙ ap length (opened-bytes file (pair.0).binary sound);
+      loads = λ binary opens. is.loads ∙ ap loads_of (ok-same (pair.0).binary binary (sym sound ∙ opens));
+    }

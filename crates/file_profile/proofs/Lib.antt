@@ -1,4 +1,6 @@
+pub mod AddedLemmas
 pub mod AloneLemmas
+pub mod ClaimLemmas
 pub mod CountLemmas
 pub mod LawLemmas
 pub mod MapLemmas
@@ -7,3 +9,4 @@ pub mod PairLemmas
 pub mod PlaceLemmas
 pub mod ProfileLemmas
 pub mod SpellLemmas
+pub mod WalkLemmas

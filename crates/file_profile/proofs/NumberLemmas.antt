@@ -1,19 +1,14 @@
 -- Labels that keep their numbers, and claims whose labels get new ones.
-use Rattle.std.proofs.Common.{◌≡◌, ℕ, ◌+◌, ◌<◌, ◌≤◌, suc, zero, List, [], ◌∷◌, ◌++◌, length, map, take, drop, get_or, Ok, Some, refl, sym, ap, ◌∙◌, subst, arith}
+use Rattle.std.proofs.Common.{◌≡◌, ℕ, ◌+◌, ◌<◌, ◌≤◌, suc, zero, List, [], ◌∷◌, ◌++◌, length, map, take, drop, get_or, Some, refl, sym, ap, ◌∙◌, subst, arith}
 use Rattle.std.specs.Prelude.{slice_get, slice_set}
-use Rattle.std.proofs.lemmas.List.{get_or_append_left, length-append, length-map, map-append, take_all}
+use Rattle.std.proofs.lemmas.List.{get_or_append_left, length-append, length-map, take_all}
 use Rattle.std.proofs.lemmas.Option.{get_or_from_slice_get, none-some, same_Some, slice_get_within, slice_get-get_or}
 use Rattle.size_model.proofs.Firsts.{map_more}
 use Rattle.size_core.specs.declared.claim.Claim.{Claim}
 use Rattle.size_model.specs.declared.view.LabelledClaim.{LabelledClaim}
 use Rattle.size_model.specs.Numbered.{text_of, labelled, numbered_view}
 use Rattle.size_model.specs.Sizes.{relabelled, with_rewriting}
-use Rattle.size_core.specs.declared.source.Source.{Source}
 use Rattle.claim_sheet.specs.Made.{AreNumbered, KeepsLabels, texts}
-use Rattle.claim_sheet.proofs.MadeLemmas.{kept-texts}
-use Rattle.data_sources.specs.declared.binary.Binary.{Binary}
-use Rattle.data_sources.specs.Sources.{claims_of, debug_claims_of}
-use Rattle.file_profile.specs.Claims.{claims_beside}
 use Rattle.file_profile.specs.Numbering.{AreTexts, IsRenumbering, renumbered}
 
 -- a number keeps its text
@@ -30,7 +25,7 @@ kept-text old new n text kept at = get_or_from_slice_get new n text [] (kept-get
 pub kept-within : (old new : List (List ℕ)) (n : ℕ) (text : List ℕ) → KeepsLabels old new → slice_get old n ≡ Some text → n < length new
 kept-within old new n text kept at = slice_get_within new n text (kept-get old new n text kept at)
 
--- the text of a number in a row
+-- The text of a number in a list of numbers.
 pub texts-at : (f : List ℕ → List ℕ) (pool : List (List ℕ)) (numbers : List ℕ) (labels : List (List ℕ)) (k : ℕ) (label : List ℕ) → AreTexts pool numbers (map f labels) → slice_get labels k ≡ Some label
     → slice_get pool (get_or numbers k 0) ≡ Some (f label)
 texts-at f pool [] [] k label all at = absurd (none-some label at)
@@ -57,7 +52,7 @@ texts-more pool (m ∷ ns) (k ∷ ls) n l all at = (all.0, texts-more pool ns ls
 texts-more pool [] (k ∷ ls) n l all at = absurd all
 texts-more pool (m ∷ ns) [] n l all at = absurd all
 
--- one label more has its new number
+-- One more label has its new number.
 pub renumbered-more : (f : List ℕ → List ℕ) (old new labels : List (List ℕ)) (numbers : List ℕ) (k n : ℕ) (label : List ℕ) → KeepsLabels old new → slice_get labels k ≡ Some label
     → slice_get new n ≡ Some (f label) → AreTexts old numbers (map f (take k labels)) → AreTexts new (numbers ++ n ∷ []) (map f (take (k + 1) labels))
 renumbered-more f old new labels numbers k n label kept at number all =
@@ -68,7 +63,7 @@ renumbered-whole f pool labels numbers k le all =
     let whole : AreTexts pool numbers (map f labels) = subst (λ ls. AreTexts pool numbers (map f ls)) (take_all k labels le) all in
     record { count = texts-length pool numbers (map f labels) whole ∙ length-map labels f; texts = whole }
 
--- the text of a new number
+-- The text of a new number is the rewritten label.
 renumbered-text : (rewritten : List ℕ → List ℕ) (labels pool : List (List ℕ)) (numbers : List ℕ) (k : ℕ) → IsRenumbering rewritten labels pool numbers → k < length labels
     → text_of pool (get_or numbers k 0) ≡ rewritten (text_of labels k)
 renumbered-text rewritten labels pool numbers k is lt =
@@ -85,7 +80,7 @@ renumbered-texts rewritten labels pool numbers [] is all = refl
 renumbered-texts rewritten labels pool numbers (c ∷ claims) is all =
     rw (renumbered-labelled rewritten labels pool numbers c is (all 0 c (omega arith)), renumbered-texts rewritten labels pool numbers claims is (λ k d lt. all (suc k) d (omega arith))) refl
 
--- what a data source says with the new numbers is what it says, rewritten
+-- The data source with the new numbers is the data source with rewritten labels.
 pub renumbered-view : (rewritten : List ℕ → List ℕ) (labels pool : List (List ℕ)) (numbers : List ℕ) (claims : List Claim) (unmapped : ℕ)
     → IsRenumbering rewritten labels pool numbers → AreNumbered labels claims → unmapped < length labels
     → numbered_view pool (map (renumbered numbers) claims) (get_or numbers unmapped 0) ≡ with_rewriting rewritten (numbered_view labels claims unmapped)
@@ -96,7 +91,7 @@ pub renumbered-within : (rewritten : List ℕ → List ℕ) (labels pool : List 
 renumbered-within rewritten labels pool numbers k is lt =
     slice_get_within pool (get_or numbers k 0) _ (texts-at rewritten pool numbers labels k (text_of labels k) is.texts (slice_get-get_or labels k [] lt))
 
--- the new numbers are ones of the pool
+-- The new numbers are numbers of the pool.
 pub renumbered-all : (rewritten : List ℕ → List ℕ) (labels pool : List (List ℕ)) (numbers : List ℕ) (claims : List Claim) → IsRenumbering rewritten labels pool numbers → AreNumbered labels claims
     → AreNumbered pool (map (renumbered numbers) claims)
 renumbered-all rewritten labels pool numbers [] is all k d lt = absurd (omega arith)
@@ -104,7 +99,7 @@ renumbered-all rewritten labels pool numbers (c ∷ claims) is all zero d lt = r
 renumbered-all rewritten labels pool numbers (c ∷ claims) is all (suc k) d lt =
     renumbered-all rewritten labels pool numbers claims is (λ j e less. all (suc j) e (omega arith)) k d (omega arith)
 
--- labels that aren't rewritten stay
+-- Rewriting by the identity changes no claim.
 relabelled-none : (claims : List LabelledClaim) → map (relabelled (λ label. label)) claims ≡ claims
 relabelled-none [] = refl
 relabelled-none (c ∷ claims) = ap (λ cs. c ∷ cs) (relabelled-none claims)
@@ -113,15 +108,15 @@ pub plain-view : (pool : List (List ℕ)) (claims : List Claim) (unmapped : ℕ)
     → numbered_view pool claims unmapped ≡ with_rewriting (λ label. label) (record { claims = texts pool claims; unmapped = text })
 plain-view pool claims unmapped text at = rw (relabelled-none (texts pool claims), at) refl
 
--- a data source without rewrites says what its claims say
+-- A data source without rewrites keeps its claims.
 pub plain-made : (made : List LabelledClaim) (unmapped : List ℕ) → with_rewriting (λ label. label) (record { claims = made; unmapped = unmapped }) ≡ record { claims = made; unmapped = unmapped }
 plain-made made unmapped = rw (relabelled-none made) refl
 
--- an item of a list whatever stands for one that isn't there
+-- An item inside a list doesn't depend on the default value.
 pub same-get : {X : Type 0} (xs : List X) (i : ℕ) (x d : X) → i < length xs → x ≡ get_or xs i x → get_or xs i d ≡ x
 same-get xs i x d lt e = get_or_from_slice_get xs i x d (slice_get-get_or xs i x lt ∙ ap Some (sym e))
 
--- a list that is changed item by item
+-- A list that is changed item by item.
 pub changed-at : (f : Claim → Claim) (old : List Claim) (i : ℕ) (d : Claim) → i < length old → get_or (map f (take i old) ++ drop i old) i d ≡ get_or old i d
 changed-at f [] i d lt = absurd (omega arith)
 changed-at f (c ∷ old) zero d lt = refl
@@ -134,10 +129,3 @@ changed-next f (x ∷ old) zero c at = ap (λ y. f y ∷ old) (sym (same_Some x 
 changed-next f (x ∷ old) (suc i) c at =
     let one : suc i + 1 ≡ suc (i + 1) = omega arith in
     rw one (ap (λ ys. f x ∷ ys) (changed-next f old i c at))
-
--- claims that keep their labels, and others behind them
-pub beside-made : (source : Source) (name : List ℕ) (binary debug : Binary) (old new : List (List ℕ)) (made own all : List Claim) → KeepsLabels old new → AreNumbered old made
-    → debug_claims_of source debug ≡ Ok (texts old made) → claims_of source name binary ≡ Ok (texts new own) → all ≡ made ++ own → claims_beside source name binary debug ≡ Ok (texts new all)
-beside-made source name binary debug old new made own all kept numbered shown claims is =
-    let first : texts new made ≡ texts old made = kept-texts old new made kept numbered in
-    rw (shown, claims, is, map-append (labelled new) made own, first) refl

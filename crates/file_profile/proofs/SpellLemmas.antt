@@ -1,4 +1,4 @@
--- What the maps of numbered claims say of each byte.
+-- The labels that the maps of numbered claims give each byte.
 use Rattle.std.proofs.Common.{◌≡◌, ◌<◌, ℕ, suc, Bool, true, false, cond, nat_lt, List, [], ◌∷◌, ◌++◌, map, length, Some, None, refl, ap, ◌∙◌, subst, arith}
 use Rattle.std.specs.Prelude.{All}
 use Rattle.std.proofs.lemmas.Bool.Decides.{nat_tests}
@@ -16,7 +16,7 @@ use Rattle.size_model.specs.Numbered.{labelled, numbered_view, text_of}
 use Rattle.size_model.specs.Sizes.{label_of_address, label_of_offset}
 use Rattle.claim_sheet.specs.Made.{AreNumbered, KeepsLabels}
 use Rattle.dual_map.specs.Layout.{Layout, Maps}
-use Rattle.file_profile.specs.Spelling.{AllSpell, HasText, Spells, file_at}
+use Rattle.file_profile.specs.MapLabels.{AllSpell, HasText, Spells, file_at}
 use Rattle.file_profile.proofs.NumberLemmas.{kept-get}
 
 first-text : (covers : Side → Span → Span → Bool) (pool : List (List ℕ)) (unmapped : ℕ) (claims : List Claim)
@@ -43,7 +43,7 @@ first-within covers n unmapped (c ∷ claims) all lt =
 below : (o n : ℕ) → o < n → nat_lt o n ≡ true
 below o n lt = grind (arith, nat_tests)
 
--- the maps of numbered claims spell what the claims say
+-- The maps of numbered claims give each byte the label of the claims.
 pub Spells-cut : (layout : Layout) (pool : List (List ℕ)) (claims : List Claim) (unmapped : ℕ) (m : Maps) (s : SourceView)
     → numbered_view pool claims unmapped ≡ s → AreNumbered pool claims → unmapped < length pool
     → IsCut (offset_labelling layout.len layout.loads unmapped claims) m.file → IsCut (address_labelling layout.len layout.loads unmapped claims) m.vm → Spells layout pool m s
@@ -68,7 +68,7 @@ Spells-cut layout pool claims unmapped m s same numbered lt file vm = subst (λ 
           slice_get-get_or pool _ [] (first-within covers (length pool) unmapped claims numbered lt) ∙ ap Some (first-text covers pool unmapped claims),
         )
 
--- a pool that keeps its labels keeps what is spelled
+-- Labels added to the pool don't change the texts of maps.
 Spells-kept : (layout : Layout) (old new : List (List ℕ)) (m : Maps) (s : SourceView) → KeepsLabels old new → Spells layout old m s → Spells layout new m s
 Spells-kept layout old new m s kept spells = record {
   file = λ o less. let t = spells.file o less in (t.0, t.1, kept-get old new t.0 _ kept t.2);
@@ -81,7 +81,7 @@ AllSpell-kept layout old new (m ∷ ms) (s ∷ ss) kept all = (Spells-kept layou
 AllSpell-kept layout old new [] (s ∷ ss) kept all = absurd all
 AllSpell-kept layout old new (m ∷ ms) [] kept all = absurd all
 
--- one pair of maps more
+-- One more pair of maps.
 pub AllSpell-more : (layout : Layout) (pool : List (List ℕ)) (ms : List Maps) (ss : List SourceView) (m : Maps) (s : SourceView) → AllSpell layout pool ms ss → Spells layout pool m s
     → AllSpell layout pool (ms ++ m ∷ []) (ss ++ s ∷ [])
 AllSpell-more layout pool [] [] m s all spells = (spells, tt)

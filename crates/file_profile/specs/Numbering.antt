@@ -1,36 +1,37 @@
--- What a data source says of a file, with its labels by the numbers of a pool.
-use Rattle.std.specs.Prelude.{◌≡◌, ℕ, ◌<◌, ◌≤◌, ⊤, List, [], ◌∷◌, length, map, get_or, slice_get, Some, Ok}
+-- The claims of a data source on a file, if labels are numbers of a pool.
+use Rattle.std.specs.Prelude.{◌≡◌, ℕ, ◌<◌, ⊤, List, [], ◌∷◌, length, map, get_or, slice_get, Some, Vec}
+use Rattle.std.specs.declared.alloc.Global.{Global}
 use Rattle.size_core.specs.declared.claim.Claim.{Claim}
 use Rattle.size_model.specs.declared.view.LabelledClaim.{LabelledClaim}
 use Rattle.size_model.specs.Numbered.{numbered_view}
-use Rattle.claim_sheet.specs.Made.{AreNumbered}
+use Rattle.claim_sheet.specs.Made.{AreNumbered, texts}
 use Rattle.file_profile.specs.declared.claims.Numbered.{Numbered}
-use Rattle.file_profile.specs.Claims.{OpenedFile, claims_on}
 use Rattle.file_profile.specs.Sources.{Chosen}
 use Rattle.file_profile.specs.Views.{source_view}
 
--- a claim with the number that stands at the place of its label
+-- A claim whose label is replaced by the number at that index.
 abbrev pub renumbered : List ℕ → Claim → Claim
 renumbered numbers c = record c { label = get_or numbers c.label 0 }
 
--- numbers of a pool whose texts are these labels
+-- The texts that these numbers have in the pool are these labels.
 abbrev pub AreTexts : List (List ℕ) → List ℕ → List (List ℕ) → Type 0
 AreTexts pool [] [] = ⊤
 AreTexts pool (n ∷ ns) (l ∷ ls) = (slice_get pool n ≡ Some l) × AreTexts pool ns ls
 AreTexts pool [] (l ∷ ls) = ⊥
 AreTexts pool (n ∷ ns) [] = ⊥
 
--- each label of a pool has a number in another one, where its text is the rewritten one
+-- Each label of one pool has a number in another pool, and the text of that number is the rewritten label.
 pub record IsRenumbering (rewritten : List ℕ → List ℕ) (labels pool : List (List ℕ)) (numbers : List ℕ) : Type 0 where
   pub count : length numbers ≡ length labels
   pub texts : AreTexts pool numbers (map rewritten labels)
 
--- this is what a data source says of a file: it has no fault, its claims are within the limit, and each
--- label has a number of the pool
-pub record Says (limit : ℕ) (chosen : Chosen) (f : OpenedFile) (pool : List (List ℕ)) (n : Numbered) : Type 0 where
-  pub made : List LabelledClaim
-  pub are : claims_on f chosen.base ≡ Ok made
-  pub few : length made ≤ limit
+-- These claims, with labels that are numbers of the pool.
+pub record AreClaims (pool : List (List ℕ)) (made : List LabelledClaim) (v : Vec Claim Global) : Type 0 where
+  pub are : made ≡ texts pool v.items
+  pub numbered : AreNumbered pool v.items
+
+-- A data source with these claims, its labels rewritten. Each label has a number in the pool.
+pub record IsNumbered (chosen : Chosen) (pool : List (List ℕ)) (made : List LabelledClaim) (n : Numbered) : Type 0 where
   pub count : length n.claims.items ≡ length made
   pub numbered : AreNumbered pool n.claims.items
   pub unmapped : n.unmapped < length pool

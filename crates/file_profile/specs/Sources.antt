@@ -1,17 +1,22 @@
--- What the names of data sources mean.
+-- The data sources that names mean.
 use Rattle.std.specs.Prelude.{ℕ, ◌+◌, List, [], ◌∷◌, Option, None, Some, Result, Ok, Err, if◌then◌else◌}
 use Rattle.std.specs.Str.{bytes_eq}
 use Rattle.size_core.specs.declared.source.Source.{Source}
-use Rattle.size_core.specs.SourceNames.{source_named as built_in}
+use Rattle.size_core.specs.SourceNames.{source_named}
 use Rattle.config_text.specs.declared.config.CustomSource.{CustomSource}
 use Rattle.config_text.specs.declared.config.Rewrite.{Rewrite}
 
--- a data source of a run: the built-in source whose claims it has, and the rewrites of its labels (none if built in)
+-- A data source of a run: the built-in source that makes its claims, and the rewrites of its labels. A built-in data
+-- source has none.
 pub record Chosen : Type 0 where
   pub base : Source
   pub rewrites : List Rewrite
 
--- the first custom data source of a name
+-- A built-in data source.
+abbrev pub built_in : Source → Chosen
+built_in base = record { base = base; rewrites = [] }
+
+-- The first custom data source of this name.
 abbrev pub custom_named : List CustomSource → List ℕ → Option Chosen
 custom_named [] name = None
 custom_named (c ∷ customs) name =
@@ -20,23 +25,23 @@ custom_named (c ∷ customs) name =
 -- The built-in data source, if there is one, or else the custom one.
 abbrev pub or_custom : Option Source → Option Chosen → Option Chosen
 or_custom None custom = custom
-or_custom (Some base) custom = Some (record { base = base; rewrites = [] })
+or_custom (Some base) custom = Some (built_in base)
 
--- the data source of a name: the built-in one, or else the first custom one
+-- The data source of a name: the built-in one, or else the first custom one.
 abbrev pub chosen_named : List CustomSource → List ℕ → Option Chosen
-chosen_named customs name = or_custom (built_in name) (custom_named customs name)
+chosen_named customs name = or_custom (source_named name) (custom_named customs name)
 
--- a data source before others, or its name's number where the name means none
+-- A data source before the others, or the number of the name if it means none.
 abbrev pub chosen_before : ℕ → Option Chosen → Result (List Chosen) ℕ → Result (List Chosen) ℕ
 chosen_before number None others = Err number
 chosen_before number (Some chosen) (Ok others) = Ok (chosen ∷ others)
 chosen_before number (Some chosen) (Err unknown) = Err unknown
 
--- the data sources of names that are numbered from here on, or the number of the first name that means none
+-- The data sources of names, numbered from `number` on, or the number of the first name that means none.
 abbrev pub chosen_from : List CustomSource → ℕ → List (List ℕ) → Result (List Chosen) ℕ
 chosen_from customs number [] = Ok []
 chosen_from customs number (name ∷ names) = chosen_before number (chosen_named customs name) (chosen_from customs (number + 1) names)
 
--- the data sources of names, numbered from 1
+-- The data sources of names, numbered from 1.
 abbrev pub chosen_sources : List CustomSource → List (List ℕ) → Result (List Chosen) ℕ
 chosen_sources customs names = chosen_from customs 1 names

@@ -5,6 +5,7 @@ ghost use Rattle.std.specs.Prelude.{◌≡◌};
 use data_sources::ClaimAnswer;
 use rollup::RollupAnswer;
 use size_core::{BadFile, NoMemory};
+use std::alloc::AllocFailed;
 use thiserror::Error;
 
 /// Why a file isn't counted.
@@ -13,7 +14,7 @@ pub enum ProfileAnswer {
     /// The first fault of the file, or of a data source on it.
     #[error("bad file")]
     Bad(BadFile),
-    /// The data sources asked make more claims than the limit.
+    /// The claims of the plan's data sources exceed the limit.
     #[error("too many claims")]
     TooManyClaims,
     /// The mapped sizes of the files pass 2^63 - 1.
@@ -33,7 +34,7 @@ pub enum PairAnswer {
     /// The identifiers of the two differ, or one has none.
     #[error("no match")]
     NoMatch,
-    /// The data sources asked make more claims than the limit.
+    /// The claims of the plan's data sources exceed the limit.
     #[error("too many claims")]
     TooManyClaims,
     /// The mapped sizes of the files pass 2^63 - 1.
@@ -53,7 +54,7 @@ pub enum PlaceAnswer {
     /// The file offset isn't below the file's end, or the address isn't mapped.
     #[error("place outside the file")]
     PlaceOutside,
-    /// The data sources asked make more claims than the limit.
+    /// The claims of the plan's data sources exceed the limit.
     #[error("too many claims")]
     TooManyClaims,
     /// The mapped size of the file passes 2^63 - 1.
@@ -64,12 +65,58 @@ pub enum PlaceAnswer {
     NoMemory,
 }
 
+/// Why the claims of a data source on an opened file can't be made.
+#[derive(Clone, Copy)]
+pub enum SourceAnswer {
+    /// The first fault of the data source on the file, which is file 1, or on its debug file, which is file 2.
+    Bad(u32, BadFile),
+    /// The claims exceed the limit.
+    TooManyClaims,
+    /// There was not enough memory.
+    NoMemory,
+}
+
+impl From<NoMemory> for SourceAnswer {
+    ghost use Rattle.file_profile.specs.declared.answer.SourceAnswer.TheVariants.{NoMemory as OutOfMemory};
+
+    ghost from_gives = { λ _ e. e ≡ OutOfMemory };
+
+    fn from(_: NoMemory) -> SourceAnswer {
+        SourceAnswer::NoMemory
+    }
+}
+
+impl<T: Drop> From<AllocFailed<T>> for SourceAnswer {
+    ghost use Rattle.file_profile.specs.declared.answer.SourceAnswer.TheVariants.{NoMemory as OutOfMemory};
+
+    ghost from_gives = { λ _ e. e ≡ OutOfMemory };
+
+    fn from(_: AllocFailed<T>) -> SourceAnswer {
+        SourceAnswer::NoMemory
+    }
+}
+
+impl SourceAnswer {
+    ghost use Rattle.file_profile.specs.Answers.{of_claims};
+
+    /// The answer for the file of this number (1, or 2 for the debug file) if its claims can't be made.
+    pub fn of_claims(number: u32, answer: ClaimAnswer) -> SourceAnswer
+        ensures { result ≡ of_claims number answer }
+    {
+        match answer {
+            ClaimAnswer::Bad(bad) => SourceAnswer::Bad(number, bad),
+            ClaimAnswer::TooManyClaims => SourceAnswer::TooManyClaims,
+            ClaimAnswer::NoMemory => SourceAnswer::NoMemory,
+        }
+    }
+}
+
 /// Why a file that was opened isn't counted.
-#[derive(Clone, Copy, Debug, PartialEq, Eq)]
+#[derive(Clone, Copy, Debug)]
 pub enum OpenedAnswer {
     /// The first fault of a data source on the file, which is file 1, or on its debug file, which is file 2.
     Bad(u32, BadFile),
-    /// The data sources asked make more claims than the limit.
+    /// The claims of the plan's data sources exceed the limit.
     TooManyClaims,
     /// The mapped sizes of the files pass 2^63 - 1.
     MappedTooLarge,
@@ -77,43 +124,32 @@ pub enum OpenedAnswer {
     NoMemory,
 }
 
-impl From<NoMemory> for OpenedAnswer {
-    ghost use Rattle.file_profile.specs.declared.answer.OpenedAnswer.TheVariants.{NoMemory as OutOfMemory};
+impl From<SourceAnswer> for OpenedAnswer {
+    ghost use Rattle.file_profile.specs.Answers.{of_data_source};
 
-    ghost from_gives = { λ _ e. e ≡ OutOfMemory };
+    ghost from_gives = { λ answer e. e ≡ of_data_source answer };
 
-    fn from(_: NoMemory) -> OpenedAnswer {
-        OpenedAnswer::NoMemory
+    fn from(answer: SourceAnswer) -> OpenedAnswer {
+        match answer {
+            SourceAnswer::Bad(number, bad) => OpenedAnswer::Bad(number, bad),
+            SourceAnswer::TooManyClaims => OpenedAnswer::TooManyClaims,
+            SourceAnswer::NoMemory => OpenedAnswer::NoMemory,
+        }
     }
 }
 
 impl From<RollupAnswer> for OpenedAnswer {
-    ghost use Rattle.file_profile.specs.Reasons.{of_rollup};
+    ghost use Rattle.file_profile.specs.Answers.{of_rollup};
 
     ghost from_gives = { λ answer e. e ≡ of_rollup answer };
 
-    // Lengths that are within the limits of a run never are too many bytes.
+    // `TooManyBytes` can't occur: the lengths are within the limits of a run.
     fn from(answer: RollupAnswer) -> OpenedAnswer {
         match answer {
             RollupAnswer::TooManyBytes | RollupAnswer::MappedTooLarge => {
                 OpenedAnswer::MappedTooLarge
             }
             RollupAnswer::NoMemory => OpenedAnswer::NoMemory,
-        }
-    }
-}
-
-impl OpenedAnswer {
-    ghost use Rattle.file_profile.specs.Reasons.{of_claims};
-
-    /// The result for a file of this number, if its claims ended so.
-    pub fn of_claims(number: u32, answer: ClaimAnswer) -> OpenedAnswer
-        ensures { result ≡ of_claims number answer }
-    {
-        match answer {
-            ClaimAnswer::Bad(bad) => OpenedAnswer::Bad(number, bad),
-            ClaimAnswer::TooManyClaims => OpenedAnswer::TooManyClaims,
-            ClaimAnswer::NoMemory => OpenedAnswer::NoMemory,
         }
     }
 }
@@ -139,7 +175,7 @@ impl From<BadFile> for ProfileAnswer {
 }
 
 impl From<OpenedAnswer> for ProfileAnswer {
-    ghost use Rattle.file_profile.specs.Reasons.{of_file_alone};
+    ghost use Rattle.file_profile.specs.Answers.{of_file_alone};
 
     ghost from_gives = { λ answer e. e ≡ of_file_alone answer };
 
@@ -164,7 +200,7 @@ impl From<NoMemory> for PairAnswer {
 }
 
 impl From<OpenedAnswer> for PairAnswer {
-    ghost use Rattle.file_profile.specs.Reasons.{of_file_pair};
+    ghost use Rattle.file_profile.specs.Answers.{of_file_pair};
 
     ghost from_gives = { λ answer e. e ≡ of_file_pair answer };
 
@@ -198,17 +234,16 @@ impl From<BadFile> for PlaceAnswer {
     }
 }
 
-impl From<OpenedAnswer> for PlaceAnswer {
-    ghost use Rattle.file_profile.specs.Reasons.{of_file_place};
+impl From<SourceAnswer> for PlaceAnswer {
+    ghost use Rattle.file_profile.specs.Answers.{of_file_place};
 
     ghost from_gives = { λ answer e. e ≡ of_file_place answer };
 
-    fn from(answer: OpenedAnswer) -> PlaceAnswer {
+    fn from(answer: SourceAnswer) -> PlaceAnswer {
         match answer {
-            OpenedAnswer::Bad(_, bad) => PlaceAnswer::Bad(bad),
-            OpenedAnswer::TooManyClaims => PlaceAnswer::TooManyClaims,
-            OpenedAnswer::MappedTooLarge => PlaceAnswer::MappedTooLarge,
-            OpenedAnswer::NoMemory => PlaceAnswer::NoMemory,
+            SourceAnswer::Bad(_, bad) => PlaceAnswer::Bad(bad),
+            SourceAnswer::TooManyClaims => PlaceAnswer::TooManyClaims,
+            SourceAnswer::NoMemory => PlaceAnswer::NoMemory,
         }
     }
 }

@@ -1,22 +1,24 @@
-//! The sizes of a file that was opened.
+//! The sizes of an opened file.
 
-ghost use Rattle.std.specs.Prelude.{◌≡◌, ◌+◌, ◌-◌, ◌≤◌, ◌<◌, ◌^◌, ℕ, Bool, ◌⊎◌, List, All, length, map, Ok, Err, IfOk, OnOk, OnErr, IsErrOf};
+ghost use Rattle.std.specs.Prelude.{◌≡◌, ◌+◌, ◌-◌, ◌≤◌, ◌<◌, ◌^◌, ℕ, Bool, List, length, map, Ok, Err, IfOk, OnOk, OnErr};
 ghost use Rattle.size_model.specs.declared.view.FileView.{FileView as FileViewSpec};
 ghost use Rattle.size_model.specs.Loads.{mapped_count};
-ghost use Rattle.dual_map.specs.Layout.{IsOver, LabelsBelow};
-ghost use Rattle.rollup.specs.Adding.{file_count, file_where, piece_count, vm_count, vm_where};
+ghost use Rattle.rollup.specs.Adding.{file_where, piece_count, vm_where};
 ghost use Rattle.custom_rewrites.specs.Pattern.{is_found};
 ghost use Rattle.data_sources.specs.Groups.{bytes_of};
-ghost use Rattle.file_profile.specs.Counts.{file_size_where, filter_test, marks_by, step_bound, vm_size_where};
+ghost use Rattle.data_sources.specs.Loads.{loads_of};
+ghost use Rattle.file_profile.specs.Added.{AddsSizes, FitsIn, mapped_file_size, mapped_vm_size};
+ghost use Rattle.file_profile.specs.Claims.{layout_of};
+ghost use Rattle.file_profile.specs.Counts.{file_size_where, filter_test, step_bound, vm_size_where};
+ghost use Rattle.file_profile.specs.MapLabels.{AreOver};
 ghost use Rattle.file_profile.specs.Views.{OpenedAnswers, opened_view, opened_viewed};
 
 use crate::answer::OpenedAnswer;
-use crate::asked::Plan;
-use crate::maps::maps_of;
+use crate::maps::{FileMaps, maps_of};
+use crate::plan::Plan;
 use crate::subject::Subject;
 use custom_rewrites::LabelPattern;
-use dual_map::{Base, DualMap};
-use rollup::Rollup;
+use rollup::{Rollup, RollupAnswer};
 use size_core::{LabelPool, Limits, NoMemory, Steps};
 use std::alloc::Global;
 use std::sync::ledger::Ledger;
@@ -33,54 +35,43 @@ fn marks_of(alloc: Global, pattern: &LabelPattern, pool: &LabelPool) -> Result<V
     Ok(marks)
 }
 
-// Adds what the maps say of a file, where the plan's filter passes it.
+// Adds the bytes and addresses of the maps that pass the plan's filter.
 fn add_maps<L: Ledger>(
-    alloc: Global,
     plan: &Plan,
-    base: &Base,
-    file_len: u64,
-    maps: &[DualMap],
-    pool: &LabelPool,
+    subject: &Subject<'_, '_, '_>,
+    maps: &FileMaps,
     total: &mut Rollup,
     steps: &mut Steps<L>,
-) -> Result<(), OpenedAnswer>
-    requires len { base.now.len ≡ file_len }
-    requires depth { length maps.now ≡ total.old.depth }
-    requires over { All (IsOver base.now) maps.now }
-    requires labels { All (LabelsBelow (length pool.now)) maps.now }
-    requires lengths { total.old.lengths + file_len ≤ 2 ^ 63 - 1 }
-    ensures file { OnOk result ((test : List (List ℕ) → Bool)
-        → file_where test total.new.rows
-        ≡ file_where test total.old.rows
-        + file_count test pool.now (marks_by plan.now.filter pool.now) maps.now file_len) }
-    ensures vm { OnOk result ((test : List (List ℕ) → Bool)
-        → vm_where test total.new.rows
-        ≡ vm_where test total.old.rows
-        + vm_count test pool.now (marks_by plan.now.filter pool.now) maps.now base.now.loads) }
-    ensures depth { total.new.depth ≡ total.old.depth }
-    ensures lengths { OnOk result (total.new.lengths ≡ total.old.lengths + file_len) }
-    ensures mapped { OnOk result (total.new.mapped ≡ total.old.mapped + mapped_count base.now.loads) }
-    ensures fits { OnOk result (total.old.mapped + mapped_count base.now.loads ≤ 2 ^ 63 - 1) }
-    ensures too_large { IsErrOf result OpenedAnswer.MappedTooLarge
-        → 2 ^ 63 - 1 < total.old.mapped + mapped_count base.now.loads }
-    ensures other { OnErr result ((result ≡ Err OpenedAnswer.MappedTooLarge) ⊎ (result ≡ Err OpenedAnswer.NoMemory)) }
-    ensures unchanged { OnErr result (total.new ≡ total.old) }
-    ensures cost { steps.new ≤ steps.old + piece_count maps.now }
+) -> Result<(), RollupAnswer>
+    requires over { AreOver (layout_of subject.now.binary) maps.now }
+    requires depth { length maps.now.maps.items ≡ total.old.depth }
+    requires lengths { total.old.lengths + length (bytes_of subject.now.binary) ≤ 2 ^ 63 - 1 }
+    ensures sizes { AddsSizes result total.old total.new (layout_of subject.now.binary)
+        (λ test. mapped_file_size plan.now.filter test (layout_of subject.now.binary) maps.now)
+        (λ test. mapped_vm_size plan.now.filter test (layout_of subject.now.binary) maps.now) }
+    ensures answer { FitsIn (total.old.mapped + mapped_count (loads_of subject.now.binary)) result }
+    ensures cost { steps.new ≤ steps.old + piece_count maps.now.maps.items }
 {
+    let base = subject.base();
     match plan.filter() {
-        None => total.add_file(base, file_len, maps, pool, None, steps)?,
+        None => total.add_file(base, subject.len(), &maps.maps, &maps.pool, None, steps),
         Some(pattern) => {
-            let marks = marks_of(alloc, pattern, pool)?;
-            total.add_file(base, file_len, maps, pool, Some(&marks), steps)?;
+            let marks = marks_of(subject.alloc(), pattern, &maps.pool)?;
+            total.add_file(
+                base,
+                subject.len(),
+                &maps.maps,
+                &maps.pool,
+                Some(&marks),
+                steps,
+            )
         }
     }
-    Ok(())
 }
 
-/// Adds the sizes of a file that was opened to a total: to each path of labels, over the data sources of the plan, the
-/// number of the file's bytes and of its mapped addresses that pass the filter and have it.
+/// Adds the sizes of an opened file to `total`: for each path of labels, one label for each data source of the plan,
+/// the number of the file's bytes and of its mapped addresses that have this path and pass the filter.
 pub fn profile_opened<L: Ledger>(
-    alloc: Global,
     plan: &Plan,
     subject: &Subject<'_, '_, '_>,
     total: &mut Rollup,
@@ -102,7 +93,8 @@ pub fn profile_opened<L: Ledger>(
         → vm_where test total.new.rows
         ≡ vm_where test total.old.rows + vm_size_where (filter_test plan.now.filter) test f) }
     ensures depth { total.new.depth ≡ total.old.depth }
-    ensures lengths { OnOk result (total.new.lengths ≡ total.old.lengths + length (bytes_of subject.now.binary)) }
+    ensures lengths { OnOk result
+        (total.new.lengths ≡ total.old.lengths + length (bytes_of subject.now.binary)) }
     ensures mapped { OnOk result ((f : FileViewSpec)
         → opened_viewed total.old.mapped limits.now.claims subject.now plan.now.sources ≡ Ok f
         → total.new.mapped ≡ total.old.mapped + mapped_count f.loads) }
@@ -113,8 +105,7 @@ pub fn profile_opened<L: Ledger>(
         → opened_view limits.now.claims subject.now plan.now.sources ≡ Err fault
         → steps.new ≡ steps.old }
 {
-    let mut pool = LabelPool::new(alloc);
-    let maps = maps_of(alloc, plan, subject, &mut pool, limits.claims)?;
-    let base = subject.base();
-    add_maps(alloc, plan, base, subject.len(), &maps, &pool, total, steps)
+    let maps = maps_of(plan, subject, limits.claims)?;
+    add_maps(plan, subject, &maps, total, steps)?;
+    Ok(())
 }

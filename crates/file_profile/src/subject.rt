@@ -11,10 +11,11 @@ use size_core::NoMemory;
 use std::alloc::Global;
 use std::marker::Model;
 
-/// A file whose bytes and addresses are counted, under its name, and its debug file, if it has one. Contracts see these
-/// three; the loads are those of the file.
+/// An opened file whose bytes and addresses are counted, with its name and its debug file, if it has one. Contracts see
+/// these three. The loads are those of the file, never of the debug file.
 #[derive(Drop)]
 pub struct Subject<'n, 'a, 'd> {
+    alloc: Global,
     name: &'n [u8],
     binary: Binary<'a>,
     debug: Option<Binary<'d>>,
@@ -33,7 +34,7 @@ impl<'n, 'a, 'd> Model for Subject<'n, 'a, 'd> {
 }
 
 impl<'n, 'a, 'd> Subject<'n, 'a, 'd> {
-    /// The file of this name, and its debug file.
+    /// The file `binary` with this name and this debug file.
     pub fn new(
         alloc: Global,
         name: &'n [u8],
@@ -41,17 +42,24 @@ impl<'n, 'a, 'd> Subject<'n, 'a, 'd> {
         debug: Option<Binary<'d>>,
     ) -> Result<Subject<'n, 'a, 'd>, NoMemory>
         requires { length (bytes_of binary) < 2 ^ 32 }
-        ensures { IfOk result (λ s. s ≡ record { name = name.now; binary = binary.entry; debug = debug.entry }) }
+        ensures { IfOk result (λ s. s
+            ≡ record { name = name.now; binary = binary.entry; debug = debug.entry }) }
     {
         let loads = loads_of(alloc, &binary)?;
         let file_len = binary.bytes().len() as u64;
         let base = Base::from_loads(alloc, file_len, &loads)?;
         Ok(Subject {
+            alloc,
             name,
             binary,
             debug,
             base,
         })
+    }
+
+    // The allocator for all that is made of the file.
+    pub(crate) fn alloc(&self) -> Global {
+        self.alloc
     }
 
     /// The file's name.
@@ -68,21 +76,21 @@ impl<'n, 'a, 'd> Subject<'n, 'a, 'd> {
         &self.binary
     }
 
-    /// Its debug file.
+    /// The debug file, if there is one.
     pub fn debug(&self) -> Option<&Binary<'d>>
         ensures { option_copied result ≡ self.now.debug }
     {
         self.debug.as_ref()
     }
 
-    /// The file's loads, ready for translation.
+    /// The length and the loads of the file, prepared for the translation between offsets and addresses.
     pub fn base(&self) -> &Base
         ensures { result.now ≡ layout_of self.now.binary }
     {
         &self.base
     }
 
-    /// How many bytes the file has.
+    /// The length of the file in bytes.
     pub fn len(&self) -> u64
         ensures { result ≡ length (bytes_of self.now.binary) }
     {

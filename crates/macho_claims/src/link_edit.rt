@@ -1,4 +1,4 @@
-//! The claims of the link-edit parts: the tables whose offsets and lengths load commands say.
+//! The claims of the link-edit parts: the tables whose offsets and lengths are in load commands.
 
 ghost use Rattle.std.specs.Prelude.{◌≡◌};
 ghost use Rattle.claim_sheet.specs.Adds.{Adds};

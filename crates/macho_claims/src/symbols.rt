@@ -13,7 +13,7 @@ use macho_file::{MachoFile, SpanAnswer, SymbolSpan};
 use size_core::NoMemory;
 use std::alloc::Global;
 
-// Returns the spans of the symbols: a symbol ends where the next one or its section ends.
+// Returns the spans of the symbols. A span ends at the next symbol or at the end of the section.
 fn spans_of<'a>(alloc: Global, file: &MachoFile<'a>) -> Result<Vec<SymbolSpan<'a>>, Stop>
     ensures spans { IfOk result (λ v. spans file.now ≡ Ok (map span_shown v.items)) }
     ensures bad { (bad : BadFileSpec) → IsErrOf result (Stop.Bad bad) → spans file.now ≡ Err bad }

@@ -13,7 +13,7 @@ pub opened_is : (file : List ℕ) → opened file ≡ (first_of (header_checks f
 unfolding macho_checks
 opened_is file = simp first_of_append
 
--- The result of opening a file is Ok exactly where its checks hold, and otherwise the first fault.
+-- The result of opening a file is Ok exactly if its checks hold, and otherwise the first fault.
 pub means_opened : (file : List ℕ) (r : Result (List ℕ) BadFile) → r ≡ opened file → MatchResult r (λ _. AllHold (macho_checks file)) (IsFirstFault (macho_checks file))
 means_opened file r e = answers r (first_of (macho_checks file)) e (means (first_of (macho_checks file)) (macho_checks file) refl)
   where

@@ -9,7 +9,7 @@ use Rattle.macho_file.specs.declared.link_edit.LinkEditPart.{LinkEditPart}
 use Rattle.macho_file.specs.Commands.{data_kind}
 use Rattle.macho_file.specs.LinkEdit.{data_parts, parts_of, parts_of_some}
 
--- The ranges of the current command from one on, and then those of the remaining commands.
+-- The ranges of the current command from number next on, and then those of the remaining commands.
 abbrev pub to_come : List ℕ → Option Command → ℕ → List Command → List LinkEditPart
 to_come file command next cs = drop next (parts_of_some file command) ++ flat_map (parts_of file) cs
 

@@ -20,9 +20,9 @@ sections_by : (file : List ℕ) (c : Command) (cs : List Command) → is_segment
 sections_by file c cs other = rw (sections_of_other file c other) refl
 
 -- A command that isn't a segment is skipped.
-pub passed_by : (file : List ℕ) (cs ds : List Command) (c : Command) (rest : List Command)
+pub skip_command : (file : List ℕ) (cs ds : List Command) (c : Command) (rest : List Command)
     → SameSegments file cs ds → ds ≡ c ∷ rest → is_segment c ≡ false → SameSegments file cs rest
-passed_by file cs ds c rest same is other =
+skip_command file cs ds c rest same is other =
     let at = same_at file cs ds (c ∷ rest) same is in record {
       segments_are = λ first. at.segments_are first ∙ segments_by file first c rest other;
       sections_are = at.sections_are ∙ sections_by file c rest other;

@@ -31,7 +31,7 @@ unfoldable pub segment_checks : List ℕ → Command → List Check
 segment_checks file c = let s = segment_at file c 0 in
     demand (nat_le (s.vaddr + s.memsz) (2 ^ 64)) RangeOverflow c.place ∷ map (section_fits file) (sections_of file c)
 
--- The checks of a command: its size is valid, and where it is a segment, that passes its checks
+-- The checks of a command: its size is valid, and if it is a segment, it passes the checks of one
 -- (mach-o/loader.h: load_command).
 unfoldable pub command_checks : List ℕ → Command → List Check
 command_checks file c =
@@ -41,7 +41,7 @@ command_checks file c =
 unfoldable pub macho_checks : List ℕ → List Check
 macho_checks file = header_checks file ++ flat_map (command_checks file) (commands file)
 
--- The value where the checks hold, or the first fault.
+-- The value if the checks hold, or the first fault.
 abbrev pub checked : {X : Type 0} → List Check → X → Result X BadFile
 checked checks x = first_of checks >> Ok x
 

@@ -93,6 +93,6 @@ is_whole file c = nat_le (c.place + 8) (commands_end file) && nat_le (least_size
 abbrev pub command_bytes : List ℕ → Command → List ℕ
 command_bytes file c = take c.size (drop c.place file)
 
--- The bytes of load command k, and none where there is no such command (mach-o/loader.h: cmdsize).
+-- The bytes of load command k, and none if there is no such command (mach-o/loader.h: cmdsize).
 abbrev pub command_bytes_at : List ℕ → ℕ → List ℕ
 command_bytes_at file k = unwrap_or (option_map (command_bytes file) (slice_get (commands file) k)) []

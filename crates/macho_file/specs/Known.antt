@@ -29,9 +29,9 @@ sections_fit file form place count = first_of (map (section_fits file) (sections
 abbrev pub commands_fit : List ℕ → ℕ → ℕ → Check
 commands_fit file place count = first_of (flat_map (command_checks file) (commands_from file place count))
 
--- The command, or BadCommand where its size isn't valid.
-abbrev pub whole_command : List ℕ → Command → Result Command BadFile
-whole_command file c = demand (is_whole file c) BadCommand c.place >> Ok c
+-- The command, or BadCommand if its size isn't valid.
+abbrev pub checked_command : List ℕ → Command → Result Command BadFile
+checked_command file c = demand (is_whole file c) BadCommand c.place >> Ok c
 
 -- This many commands from file offset place on passed their checks.
 pub record HasCommands (file : List ℕ) (e : Encoding) (place count : ℕ) : Type 0 where
@@ -44,12 +44,12 @@ pub record IsInside (file : List ℕ) (c : Command) : Type 0 where
   pub ends : c.place + c.size ≤ commands_end file
   pub within : c.place + c.size ≤ length file
 
--- A command, where there is one, has its minimum size and lies in the file.
+-- If there is a command, it has its minimum size and lies in the file.
 abbrev pub IsSomeInside : List ℕ → Option Command → Type 0
 IsSomeInside file None = Unit {0}
 IsSomeInside file (Some c) = IsInside file c
 
--- The fields of a symtab_command, where there is one, lie in the file.
+-- If there is a symtab_command, its fields lie in the file.
 abbrev pub IsSomeTable : List ℕ → Option Command → Type 0
 IsSomeTable file None = Unit {0}
 IsSomeTable file (Some c) = c.place + 24 ≤ length file

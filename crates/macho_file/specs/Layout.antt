@@ -59,6 +59,6 @@ command_count file = four (encoding_of file) file 16
 abbrev pub commands_size : List ℕ → ℕ
 commands_size file = four (encoding_of file) file 20
 
--- The file offset at which the load commands end. They follow the header (mach-o/loader.h: sizeofcmds).
+-- The file offset where the load commands end. They follow the header (mach-o/loader.h: sizeofcmds).
 abbrev pub commands_end : List ℕ → ℕ
 commands_end file = header_len file + commands_size file

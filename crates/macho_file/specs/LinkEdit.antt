@@ -44,7 +44,7 @@ parts_of file c =
     else if is_dyld_info c.kind then dyld_parts file c
     else data_parts file c (data_kind c.kind)
 
--- The ranges of a command, and none where there is no command.
+-- The ranges of a command, and none if there is no command.
 abbrev pub parts_of_some : List ℕ → Option Command → List LinkEditPart
 parts_of_some file None = []
 parts_of_some file (Some c) = parts_of file c

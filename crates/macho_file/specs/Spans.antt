@@ -22,7 +22,7 @@ extents file = map extent_of (sections file)
 abbrev pub extent_numbered : List Extent → ℕ → Option Extent
 extent_numbered all sect = if sect == 0 then None else slice_get all (sect - 1)
 
--- An address lies in the address range of a section, where there is one.
+-- An address lies in the address range of a section, if there is one.
 abbrev pub lies_in : ℕ → Option Extent → Bool
 lies_in x None = false
 lies_in x (Some e) = nat_le e.addr x && nat_lt x (e.addr + e.size)
@@ -41,7 +41,7 @@ is_at s t = t.sect == s.sect && t.value == s.value
 abbrev pub is_above : SymbolRecord → SymbolRecord → Bool
 is_above s t = t.sect == s.sect && nat_lt s.value t.value
 
--- The smaller of a number and another one, where there is another one.
+-- The smaller of a number and another one, if there is another one.
 abbrev pub lesser : ℕ → Option ℕ → ℕ
 lesser x None = x
 lesser x (Some y) = min x y
@@ -51,7 +51,7 @@ unfoldable pub least_above : SymbolRecord → List SymbolRecord → Option ℕ
 least_above s [] = None
 least_above s (t ∷ ts) = if is_above s t then Some (lesser t.value (least_above s ts)) else least_above s ts
 
--- The address at which a section ends.
+-- The address where a section ends.
 abbrev pub extent_end : Option Extent → ℕ
 extent_end None = 0
 extent_end (Some e) = e.addr + e.size

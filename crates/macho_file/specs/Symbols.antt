@@ -29,7 +29,7 @@ table_at file place = let e = encoding_of file in record {
   strsize = four e file (place + 20);
 }
 
--- The symbol table of a command, and an empty one where there is no command. TablePastEnd where the symbols
+-- The symbol table of a command, and an empty one if there is no command. TablePastEnd if the symbols
 -- or the string table end after the file (mach-o/loader.h: symtab_command).
 unfoldable pub table_of : List ℕ → Option Command → Result SymbolTable BadFile
 table_of file None = Ok (record { symoff = 0; nsyms = 0; stroff = 0; strsize = 0 })
@@ -59,12 +59,12 @@ pub record SymbolRecord : Type 0 where
 abbrev pub strings : List ℕ → SymbolTable → List ℕ
 strings file t = take t.strsize (drop t.stroff file)
 
--- The value, or this fault where there is none.
+-- The value, or this fault if there is none.
 abbrev pub present : {X : Type 0} → Option X → Fault → ℕ → Result X BadFile
 present None fault place = bad fault place
 present (Some x) fault place = Ok x
 
--- The name of the symbol at file offset place, or NameOutside. Empty where n_strx is 0 (mach-o/nlist.h:
+-- The name of the symbol at file offset place, or NameOutside. Empty if n_strx is 0 (mach-o/nlist.h:
 -- n_strx).
 unfoldable pub symbol_name : List ℕ → SymbolTable → ℕ → Result (List ℕ) BadFile
 symbol_name file t place = let strx = four (encoding_of file) file place in

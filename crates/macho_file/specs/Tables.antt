@@ -81,7 +81,7 @@ unfoldable pub sections_from : List ℕ → Encoding → ℕ → ℕ → List Se
 sections_from file form place zero = []
 sections_from file form place (suc count) = section_at file form place ∷ sections_from file form (place + section_len form) count
 
--- The sections of a command, and none where it isn't a segment (mach-o/loader.h: segment_command,
+-- The sections of a command, and none if it isn't a segment (mach-o/loader.h: segment_command,
 -- segment_command_64).
 unfoldable pub sections_of : List ℕ → Command → List SectionRecord
 sections_of file c =
@@ -102,10 +102,10 @@ segments file = segments_from file 0 (commands file)
 unfoldable pub sections : List ℕ → List SectionRecord
 sections file = flat_map (sections_of file) (commands file)
 
--- The bytes of a section, and none where they aren't in the file.
+-- The bytes of a section, and none if they aren't in the file.
 abbrev pub section_bytes : List ℕ → SectionRecord → List ℕ
 section_bytes file s = if s.in_file then take s.size (drop s.offset file) else []
 
--- The bytes of section k, and none where there is no such section.
+-- The bytes of section k, and none if there is no such section.
 abbrev pub section_bytes_at : List ℕ → ℕ → List ℕ
 section_bytes_at file k = unwrap_or (option_map (section_bytes file) (slice_get (sections file) k)) []

@@ -6,7 +6,7 @@ ghost use Rattle.macho_file.specs.Layout.{encoding_of, header_len, command_count
 ghost use Rattle.macho_file.specs.Commands.{command_at, is_segment, section_count_of, section_len};
 ghost use Rattle.macho_file.specs.Tables.{sections_of};
 ghost use Rattle.macho_file.specs.Checks.{checked, command_checks, header_checks, section_fits, segment_checks};
-ghost use Rattle.macho_file.specs.Known.{HasHeader, IsInside, commands_fit, sections_fit, whole_command};
+ghost use Rattle.macho_file.specs.Known.{HasHeader, IsInside, checked_command, commands_fit, sections_fit};
 ghost use Rattle.macho_file.specs.Shown.{section_shown};
 
 use crate::command::{Command, command_at};
@@ -148,14 +148,19 @@ fn segment_fits(file: &[u8], encoding: Encoding, command: Command) -> Result<(),
     segment_sections_fit(file, encoding, command, segment.count)
 }
 
-/// Returns the command at file offset `place`. BadCommand where it isn't as long as its kind needs, or ends
+/// Returns the command at file offset `place`. BadCommand if it isn't as long as its kind needs, or ends
 /// after the load commands.
 #[tactic(auto, unfolding(crate::specs::Commands::is_whole, crate::specs::Commands::command_at))]
-fn whole_command(file: &[u8], encoding: Encoding, end: u64, place: u64) -> Result<Command, BadFile>
+fn checked_command(
+    file: &[u8],
+    encoding: Encoding,
+    end: u64,
+    place: u64,
+) -> Result<Command, BadFile>
     requires header { HasHeader file.now encoding }
     requires end { end ≡ commands_end file.now }
     requires place { place ≤ end }
-    ensures value { result ≡ whole_command file.now (command_at file.now place) }
+    ensures value { result ≡ checked_command file.now (command_at file.now place) }
     ensures inside { IfOk result (λ c. IsInside file.now c) }
 {
     let wrong = BadFile {
@@ -175,7 +180,7 @@ fn whole_command(file: &[u8], encoding: Encoding, end: u64, place: u64) -> Resul
     Ok(command)
 }
 
-/// Checks a command, and its sections where it is a segment. Returns the file offset of the next command.
+/// Checks a command, and its sections if it is a segment. Returns the file offset of the next command.
 #[tactic(auto, unfolding(crate::specs::Checks::command_checks, crate::specs::Commands::command_at))]
 fn command_fits(file: &[u8], encoding: Encoding, end: u64, place: u64) -> Result<u64, BadFile>
     requires header { HasHeader file.now encoding }
@@ -184,7 +189,7 @@ fn command_fits(file: &[u8], encoding: Encoding, end: u64, place: u64) -> Result
     ensures value { let c = command_at file.now place in result ≡ checked (command_checks file.now c) (place + c.size) }
     ensures place { IfOk result (λ next. next ≤ end) }
 {
-    let command = whole_command(file, encoding, end, place)?;
+    let command = checked_command(file, encoding, end, place)?;
     if command.is_segment() {
         segment_fits(file, encoding, command)?;
     }

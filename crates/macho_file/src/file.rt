@@ -26,11 +26,11 @@ use crate::section::MachoSection;
 use crate::sections::Sections;
 use crate::segment::MachoSegment;
 use crate::segments::Segments;
+use crate::span_symbols::symbols_taking_part;
 use crate::spans::{SymbolSpan, spans_of};
 use crate::survey::{Survey, count_tables};
 use crate::symbol::MachoSymbol;
 use crate::symbol_table::{SymbolTable, symbol_of, table_of};
-use crate::taking::symbols_taking_part;
 use crate::walk::Walk;
 use byte_cursor::Order;
 use size_core::BadFile;
@@ -166,7 +166,7 @@ impl<'a> MachoFile<'a> {
         self.found.sections
     }
 
-    /// Returns a walk over all commands. Few of them have sections.
+    /// Returns a walk over all commands. Together they have fewer than 2^32 sections.
     #[tactic(auto, using(crate::proofs::TableLemmas::sections_small))]
     fn walk(&self) -> Walk<'a>
         ensures file { result.file ≡ self.now }
@@ -244,7 +244,7 @@ impl<'a> MachoFile<'a> {
         section_of(self.walk(), k)
     }
 
-    /// Returns the bytes of section `k`, and none where they aren't in the file. Sections are numbered from
+    /// Returns the bytes of section `k`, and none if they aren't in the file. Sections are numbered from
     /// 0 over all segments.
     #[tactic(auto, unfolding(crate::specs::Tables::sections, crate::specs::Checks::section_fits))]
     pub fn section_bytes(&self, k: u32) -> &'a [u8]
@@ -258,6 +258,7 @@ impl<'a> MachoFile<'a> {
         &self.file[section.offset as usize..(section.offset + section.size) as usize]
     }
 
+    // Returns the symbol table of the file. TablePastEnd if the symbols or the string table end after the file.
     fn table(&self) -> Result<SymbolTable, BadFile>
         ensures value { result ≡ table self.now }
         ensures known { IfOk result (λ t. HasTable self.now t) }
@@ -265,8 +266,8 @@ impl<'a> MachoFile<'a> {
         table_of(self.file, self.encoding, self.found.symtab)
     }
 
-    /// Returns the number of symbols in the first LC_SYMTAB, and 0 where there is none. TablePastEnd at the
-    /// command where the symbols or the string table end after the file.
+    /// Returns the number of symbols in the first LC_SYMTAB, and 0 if there is none. TablePastEnd at the
+    /// command if the symbols or the string table end after the file.
     #[tactic(auto, unfolding(crate::specs::Symbols::symbol_count))]
     pub fn symbol_count(&self) -> Result<u32, BadFile>
         ensures { result ≡ symbol_count self.now }
@@ -275,7 +276,7 @@ impl<'a> MachoFile<'a> {
         Ok(table.nsyms)
     }
 
-    /// Returns symbol `k`. NameOutside at the symbol where its name has no terminating zero byte in the
+    /// Returns symbol `k`. NameOutside at the symbol if its name has no terminating zero byte in the
     /// string table.
     #[tactic(auto, unfolding(crate::specs::Symbols::symbol_count, crate::specs::Symbols::symbol_at))]
     pub fn symbol(&self, k: u32) -> Result<MachoSymbol<'a>, BadFile>
@@ -289,7 +290,7 @@ impl<'a> MachoFile<'a> {
     /// Returns the spans of symbols, in symbol table order. A symbol takes part if it isn't for a debugger,
     /// is defined in a section that contains its value, and has a name. Its span ends at the next greater
     /// value of the symbols that take part in the same section, or at the end of the section. Of several
-    /// symbols with one value, the first has the span. Bad where the table has a fault (TablePastEnd), and
+    /// symbols with one value, the first has the span. Bad if the table has a fault (TablePastEnd), and
     /// else at the first symbol with a fault (NameOutside), whether or not it takes part.
     #[tactic(auto, using(crate::proofs::SpanLemmas::spans_is, crate::proofs::SpanLemmas::taken_part))]
     pub fn spans(&self, alloc: Global) -> Result<Vec<SymbolSpan<'a>>, SpanAnswer>

@@ -20,11 +20,11 @@ mod sections;
 mod segment;
 mod segments;
 mod sizes;
+mod span_symbols;
 mod spans;
 mod survey;
 mod symbol;
 mod symbol_table;
-mod taking;
 mod walk;
 
 pub use answer::SpanAnswer;

@@ -130,7 +130,7 @@ impl<'a> LinkEditParts<'a> {
     }
 }
 
-/// Returns range `i` of a command, and none where there is no command.
+/// Returns range `i` of a command, and none if there is no command.
 fn part_of_some(
     file: &[u8],
     encoding: Encoding,

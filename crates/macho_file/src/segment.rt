@@ -25,7 +25,7 @@ pub struct MachoSegment<'a> {
     pub offset: u64,
     /// `filesize`, how many bytes it has in the file.
     pub filesz: u64,
-    /// `maxprot`, the maximum protection of its memory, 0 where it can't be accessed.
+    /// `maxprot`, the maximum protection of its memory, 0 if it can't be accessed.
     pub maxprot: u32,
     /// The number of its first section. Sections are numbered over all segments.
     pub first: u32,

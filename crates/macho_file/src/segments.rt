@@ -16,7 +16,7 @@ use crate::walk::Walk;
 use std::marker::Model;
 
 /// Returns the next segment command.
-#[tactic(auto, using(crate::proofs::SegmentLemmas::same_segments, crate::proofs::SegmentLemmas::same_at, crate::proofs::SegmentLemmas::passed_by))]
+#[tactic(auto, using(crate::proofs::SegmentLemmas::same_segments, crate::proofs::SegmentLemmas::same_at, crate::proofs::SegmentLemmas::skip_command))]
 pub fn next_segment(walk: &mut Walk<'_>) -> Option<Command>
     ensures file { walk.new.file ≡ walk.old.file }
     ensures step { MatchOption result

@@ -63,7 +63,7 @@ fn rest_of_section(extents: &[Extent], symbol: &MachoSymbol<'_>) -> u64
     extent.size - (symbol.value - extent.addr)
 }
 
-/// Returns the span of symbol `i`, where it is the first one with its section and value.
+/// Returns the span of symbol `i`, if it is the first one with its section and value.
 #[tactic(auto, unfolding(crate::specs::Spans::span_of))]
 fn span_at<'a>(
     extents: &[Extent],
@@ -94,7 +94,7 @@ fn span_at<'a>(
     })
 }
 
-/// Adds the span of symbol `i`, where it is the first one with its section and value.
+/// Adds the span of symbol `i`, if it is the first one with its section and value.
 fn push_span<'a>(
     spans: &mut Vec<SymbolSpan<'a>>,
     extents: &[Extent],

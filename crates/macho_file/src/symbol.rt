@@ -5,11 +5,11 @@
 pub struct MachoSymbol<'a> {
     /// Its file offset.
     pub place: u64,
-    /// Empty where `n_strx` is 0.
+    /// Its name. Empty if `n_strx` is 0.
     pub name: &'a [u8],
     /// `n_type`.
     pub kind: u8,
-    /// `n_sect`, the number of its section from 1 on, or 0 where it has none.
+    /// `n_sect`, the number of its section from 1 on, or 0 if it has none.
     pub sect: u8,
     /// `n_value`, in most files a virtual address.
     pub value: u64,

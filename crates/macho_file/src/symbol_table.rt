@@ -42,7 +42,7 @@ fn table_at(file: &[u8], encoding: Encoding, place: u64) -> SymbolTable
     }
 }
 
-/// Returns the symbol table of a command, and an empty one where there is no command. TablePastEnd where
+/// Returns the symbol table of a command, and an empty one if there is no command. TablePastEnd if
 /// the symbols or the string table end after the file.
 #[tactic(auto, unfolding(crate::specs::Symbols::table_of))]
 pub fn table_of(

@@ -45,7 +45,7 @@ GrewByPart-joined old mid new ps i d lt before part =
       is = subst (Grew old new) prefix (Grew-append old mid new front (take part.count p) before part.is);
     }
 
--- What holds, holds of any error.
+-- What holds in any case also holds for each error.
 pub OnErr-any : {T E : Type 0} (r : Result T E) (P : Type 0) → P → OnErr r P
 OnErr-any (Ok v) P p = tt
 OnErr-any (Err e) P p = p

@@ -64,7 +64,7 @@ Filled-more before mid now bytes turn f behind some most = record {
   most = All-push IsInChunk f.made turn f.most most;
 }
 
--- All but the last of two concatenated lists, where the condition holds of each item of the first.
+-- All but the last of two concatenated lists, if the condition holds of each item of the first.
 All-but-last : (P : List ℕ → Type 0) (xs ys : List (List ℕ)) → All P xs → All P (take (length ys - 1) ys) → All P (take (length (xs ++ ys) - 1) (xs ++ ys))
 All-but-last P xs [] each rest = All-take P (length (xs ++ []) - 1) (xs ++ []) (All-append P xs [] each (All-nil P))
 All-but-last P xs (y ∷ ys) each rest =
@@ -74,8 +74,8 @@ All-but-last P xs (y ∷ ys) each rest =
     subst (All P) (sym parts) (All-append P xs (take (length ys) (y ∷ ys)) each (subst (λ n. All P (take n (y ∷ ys))) last rest))
 
 -- Turns that took a byte each, and a reading after them.
-pub Took-behind : (before mid now : List (List ℕ)) (xs ys : List ℕ) → Filled before mid xs → Took mid now ys → Took before now (xs ++ ys)
-Took-behind before mid now xs ys f t = record {
+pub Took-after : (before mid now : List (List ℕ)) (xs ys : List ℕ) → Filled before mid xs → Took mid now ys → Took before now (xs ++ ys)
+Took-after before mid now xs ys f t = record {
   made = f.made ++ t.made;
   behind = t.behind ∙ (ap (λ ts. ts ++ t.made) f.behind ∙ append_assoc before f.made t.made);
   whole = concat-append f.made t.made ∙ (ap (λ bs. bs ++ concat t.made) f.whole ∙ ap (λ bs. xs ++ bs) t.whole);
@@ -85,7 +85,7 @@ Took-behind before mid now xs ys f t = record {
 
 -- Turns that took a byte each, and at most one more that took none.
 pub Took-last : (before mid now : List (List ℕ)) (bytes : List ℕ) → Filled before mid bytes → Took mid now [] → Took before now bytes
-Took-last before mid now bytes f t = subst (Took before now) (append-nil bytes) (Took-behind before mid now bytes [] f t)
+Took-last before mid now bytes f t = subst (Took before now) (append-nil bytes) (Took-after before mid now bytes [] f t)
 
 -- The count of all bytes grows by those of a reading.
 pub Took-length : (before now : List (List ℕ)) (bytes : List ℕ) → Took before now bytes → length (concat now) ≡ length (concat before) + length bytes

@@ -6,3 +6,4 @@ pub mod Memory
 pub mod Pieces
 pub mod SeenPairs
 pub mod Turns
+pub mod Writes

@@ -35,7 +35,7 @@ abbrev pub name_of_failed : Option (String Global) → List ℕ
 name_of_failed None = []
 name_of_failed (Some name) = string_bytes name
 
--- The bytes of a name, or TooLong where there are more than the limit.
+-- The bytes of a name, or TooLong if there are more than the limit.
 abbrev pub bytes_or_long : List ℕ → ℕ → Result (List ℕ) FileAnswer
 bytes_or_long bytes limit = if nat_lt limit (length bytes) then Err TooLong else Ok bytes
 
@@ -74,7 +74,7 @@ pub record SinkInMemory : Type 0 where
   pub calls : ℕ
   pub faults : ℕ
 
--- A sink before any write. A call takes at least 1 byte, also where most is 0.
+-- A sink before any write. A call takes at least 1 byte, even if most is 0.
 abbrev pub fresh_sink : ℕ → ℕ → List ℕ → SinkInMemory
 fresh_sink room most failing = record { written = []; room = room; most = max most 1; failing = failing; calls = 0; faults = 0 }
 

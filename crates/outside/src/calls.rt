@@ -1,4 +1,4 @@
-//! A count of calls, some of which are made to fail.
+//! Counts calls, and makes the listed ones fail.
 
 ghost use Rattle.std.specs.Prelude.{◌≡◌};
 ghost use Rattle.outside.specs.Causes.{raised};

@@ -1,6 +1,6 @@
 //! Files by name, as a program sees them.
 
-ghost use Rattle.std.specs.Prelude.{◌≡◌, ◌≤◌, ◌++◌, ◌∷◌, [], List, ℕ, Option, length, IfOk, IfSome, IsErrOf};
+ghost use Rattle.std.specs.Prelude.{◌≡◌, ◌≤◌, ◌+◌, ◌++◌, ◌∷◌, [], List, ℕ, Option, length, IfOk, IfSome, IsErrOf};
 ghost use Rattle.outside.specs.Causes.{Rose};
 ghost use Rattle.outside.specs.Held.{Pairs, IsHeld, IsLonger, IsTaken};
 
@@ -34,29 +34,30 @@ impl From<AllocError> for FileAnswer {
 
 /// Files by name.
 pub trait Files {
-    /// The names and the bytes of the files, where they are known. A name has the bytes of its first pair,
-    /// and no bytes where it has no pair.
+    /// The names and the bytes of the files, if they are known. A name has the bytes of its first pair,
+    /// and no bytes if it has no pair.
     ghost held: { Self → Option Pairs };
 
     /// How many reads have failed. The count may stop at 2^64 - 1.
     ghost faults: { Self → ℕ };
 
-    /// The name of the last read that failed, empty before any failure, where it is known.
+    /// The name of the last read that failed, if it is known. Empty before any failure.
     ghost last_failed: { Self → Option (List ℕ) };
 
-    /// How many bytes were read, where the contents of the files aren't known. The count may stop at 2^64 -
+    /// How many bytes were read, if the contents of the files aren't known. The count may stop at 2^64 -
     /// 1.
     ghost taken: { Self → ℕ };
 
     /// The names that were requested, in order, whatever the reads returned.
     ghost asked: { Self → List (List ℕ) };
 
-    /// Returns the bytes of a file, where they are at most `limit`.
+    /// Returns the bytes of a file, if they are at most `limit`. Reads at most one byte more than the limit.
     fn read(&mut self, alloc: Global, name: &str, limit: u64) -> Result<Vec<u8>, FileAnswer>
         ensures asked { asked self.new ≡ asked self.old ++ name.now ∷ [] }
         ensures held { held self.new ≡ held self.old }
         ensures later { faults self.old ≤ faults self.new }
         ensures more { taken self.old ≤ taken self.new }
+        ensures most { taken self.new ≤ taken self.old + (limit + 1) }
 
         ensures within { IfOk result (λ v. length v.items ≤ limit) }
         ensures bytes { IfOk result (λ v. IsHeld (held self.old) name.now v.items) }

@@ -2,11 +2,11 @@
 //! hold.
 
 ghost use Rattle.std.specs.Prelude.{◌≡◌, ◌≢◌, ◌≤◌, ◌<◌, ◌+◌, ◌↔◌, ◌++◌, ◌∷◌, [], None, IfOk, OnOk, OnErr, IsErrOf, length, take};
-ghost use Rattle.std.specs.Io.KnownBytes.{Appends};
+ghost use Rattle.std.specs.Io.KnownBytes.{Appends, Consumes, IsAtEnd};
 ghost use Rattle.std.specs.IoError.{error_kind};
 ghost use Rattle.std.specs.declared.io.ErrorKind.TheVariants.{OutOfMemory};
 ghost use Rattle.outside.specs.Causes.{Rose, RoseBy, raised};
-ghost use Rattle.outside.specs.Held.{IsHeld};
+ghost use Rattle.outside.specs.Held.{IsHeld, IsTaken};
 ghost use Rattle.outside.specs.Host.{taken_by};
 ghost use Rattle.outside.specs.Turns.{Took, TookAtMost};
 
@@ -50,8 +50,8 @@ impl<W: Write + Drop> Sink for HostSink<W> {
 
     ghost faults = { λ s. s.1 };
 
-    /// Writes some bytes and flushes. Fails where the writer or its flush fails, or where the writer takes
-    /// no byte. After an Ok, the writer's model has grown by the bytes that it took, where it has a model
+    /// Writes some bytes and flushes. Fails if the writer or its flush fails, or if the writer takes
+    /// no byte. After an Ok, the writer's model has grown by the bytes that it took, if it has a model
     /// of them.
     fn write(&mut self, piece: &[u8]) -> Result<usize, Failed>
         requires { 0 < length piece.now }
@@ -128,9 +128,10 @@ impl<'r, R: rt::Files> Files for HostFiles<'r, R> {
         ensures asked { self.new.asked ≡ self.old.asked ++ name.now ∷ [] }
         ensures later { self.old.faults ≤ self.new.faults }
         ensures more { taken_by self.old ≤ taken_by self.new }
+        ensures most { taken_by self.new ≤ taken_by self.old + (limit + 1) }
         ensures within { IfOk result (λ v. length v.items ≤ limit) }
         ensures untold { IfOk result (λ v. IsHeld None name.now v.items) }
-        ensures taken { IfOk result (λ v. RoseBy (length v.items) (taken_by self.old) (taken_by self.new)) }
+        ensures taken { IfOk result (λ v. IsTaken None (length v.items) (taken_by self.old) (taken_by self.new)) }
         ensures failed { IsErrOf result FileAnswer.Failed → Rose self.old.faults self.new.faults }
         ensures uncounted { ¬ IsErrOf result FileAnswer.Failed → self.new.faults ≡ self.old.faults }
         ensures too_long { IsErrOf result FileAnswer.TooLong → RoseBy (limit + 1) (taken_by self.old) (taken_by self.new) }
@@ -144,7 +145,8 @@ impl<'r, R: rt::Files> Files for HostFiles<'r, R> {
             Ok(file) => file,
             Err(e) => return Err(answer(&mut self.faults, &e)),
         };
-        let (bytes, outcome) = read_file(alloc, file, limit.saturating_add(1), &mut self.turns);
+        let most = limit.saturating_add(1);
+        let (_, bytes, outcome) = read_file(alloc, file, most, &mut self.turns);
         match outcome {
             Err(e) => Err(answer(&mut self.faults, &e)),
             Ok(()) if bytes.len() as u64 > limit => Err(FileAnswer::TooLong),
@@ -153,20 +155,25 @@ impl<'r, R: rt::Files> Files for HostFiles<'r, R> {
     }
 }
 
-// Reads an open file, up to `most` bytes. The new turns are noted after the earlier ones.
+// Reads what an open file has left, up to `most` bytes, and returns the file with the bytes. It takes no byte that
+// it doesn't return, and stops early only at the end of the file or with an error. The new turns are noted after
+// the earlier ones.
 fn read_file<F: Read + Drop>(
     alloc: Global,
     file: F,
     most: u64,
     turns: &mut Turns,
-) -> (Vec<u8>, io::Result<()>)
-    ensures within { length result.0.items ≤ most }
-    ensures turns { Took turns.old turns.new result.0.items }
+) -> (F, Vec<u8>, io::Result<()>)
+    ensures within { length result.1.items ≤ most }
+    ensures taken { Consumes (F.remaining file) (F.remaining result.0) result.1.items }
+    ensures all { OnOk result.2 (length result.1.items < most → IsAtEnd (F.remaining result.0)) }
+    ensures turns { Took turns.old turns.new result.1.items }
 {
-    let mut file = TurnReader::new(file, replace(turns, Turns::new()));
-    let read = take_up_to(alloc, &mut file, most);
-    *turns = file.into_turns();
-    read
+    let mut noted = TurnReader::new(file, replace(turns, Turns::new()));
+    let (bytes, outcome) = take_up_to(alloc, &mut noted, most);
+    let (file, all_turns) = noted.into_parts();
+    *turns = all_turns;
+    (file, bytes, outcome)
 }
 
 // Returns the answer for an error. Out of memory is no fault.

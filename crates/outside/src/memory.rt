@@ -1,9 +1,9 @@
 //! Files and a sink in memory, which fail at the calls whose numbers are listed.
 
-ghost use Rattle.std.specs.Prelude.{◌≡◌, ◌≢◌, ◌≤◌, ◌<◌, ◌++◌, ◌∷◌, IfOk, OnOk, OnErr, IsErrOf, Some, [], length, take};
+ghost use Rattle.std.specs.Prelude.{◌≡◌, ◌≢◌, ◌≤◌, ◌<◌, ◌+◌, ◌++◌, ◌∷◌, IfOk, OnOk, OnErr, IsErrOf, Some, [], length, take};
 ghost use Rattle.outside.specs.Causes.{Rose};
 ghost use Rattle.outside.specs.Grown.{Grew};
-ghost use Rattle.outside.specs.Held.{held_bytes};
+ghost use Rattle.outside.specs.Held.{held_bytes, IsTaken};
 ghost use Rattle.outside.specs.Memory.{fresh_files, failed_at, bytes_or_long, read_answer, Reads, files_after, fresh_sink, write_answer, sink_after};
 ghost use Rattle.outside.specs.SeenPairs.{seen_pairs};
 
@@ -40,7 +40,7 @@ impl Model for MemSink {
 
 impl MemSink {
     /// Returns a sink that can hold `room` bytes, which are allocated here. A call takes at most `take`
-    /// bytes, or 1 where `take` is 0.
+    /// bytes, or 1 if `take` is 0.
     pub fn new(
         alloc: Global,
         room: usize,
@@ -73,7 +73,7 @@ impl Sink for MemSink {
 
     ghost faults = { λ s. s.faults };
 
-    /// Fails exactly where the call is listed as failing or the sink is full. Otherwise it takes the
+    /// Fails exactly if the call is listed as failing or the sink is full. Otherwise it takes the
     /// smallest of the piece's length, the most of a call, and the free capacity. It allocates no memory.
     fn write(&mut self, piece: &[u8]) -> Result<usize, Failed>
         requires { 0 < length piece.now }
@@ -100,7 +100,7 @@ impl Sink for MemSink {
     }
 }
 
-// Returns the bytes of the first pair with this name, and no bytes where there is no such pair.
+// Returns the bytes of the first pair with this name, and no bytes if there is no such pair.
 fn find<'a>(pairs: &'a [(String, Vec<u8>)], name: &str) -> &'a [u8]
     ensures { result.now ≡ held_bytes (seen_pairs pairs.now) name.now }
 {
@@ -188,14 +188,16 @@ impl Files for MemFiles {
 
     ghost asked = { λ f. f.asked };
 
-    /// Fails exactly where the read is listed as failing, unless there is no memory to keep its name.
+    /// Fails exactly if the read is listed as failing, unless there is no memory to keep its name.
     fn read(&mut self, alloc: Global, name: &str, limit: u64) -> Result<Vec<u8>, FileAnswer>
         ensures asked { self.new.asked ≡ self.old.asked ++ name.now ∷ [] }
         ensures held { Some self.new.pairs ≡ Some self.old.pairs }
         ensures later { self.old.faults ≤ self.new.faults }
         ensures more { 0 ≤ 0 }
+        ensures most { 0 ≤ 0 + (limit + 1) }
         ensures within { IfOk result (λ v. length v.items ≤ limit) }
         ensures bytes { IfOk result (λ v. v.items ≡ held_bytes self.old.pairs name.now) }
+        ensures taken { IfOk result (λ v. IsTaken (Some self.old.pairs) (length v.items) 0 0) }
         ensures failed { IsErrOf result FileAnswer.Failed → Rose self.old.faults self.new.faults }
         ensures uncounted { ¬ IsErrOf result FileAnswer.Failed → self.new.faults ≡ self.old.faults }
         ensures told { IsErrOf result FileAnswer.Failed → self.new.last_failed ≡ name.now }

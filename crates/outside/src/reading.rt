@@ -46,7 +46,7 @@ pub fn take_up_to<F: Read + Drop>(
     (bytes, Ok(()))
 }
 
-// Reads at most `most` bytes into a vector, after its first `filled` bytes. Where the vector is full, it
+// Reads at most `most` bytes into a vector, after its first `filled` bytes. If the vector is full, it
 // first grows by zeros. Zeros that an earlier read didn't fill are used again.
 fn read_more<F: Read + Drop>(
     file: &mut TurnReader<F>,

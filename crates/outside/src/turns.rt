@@ -62,11 +62,11 @@ impl<F: Read + Drop> TurnReader<F> {
         }
     }
 
-    /// Returns the turns, with those that were there at the start.
-    pub fn into_turns(self) -> Turns
-        ensures { result ≡ self.turns }
+    /// Returns the reader, and the turns with those that were there at the start.
+    pub fn into_parts(self) -> (F, Turns)
+        ensures { result ≡ (self.file, self.turns) }
     {
-        self.turns
+        (self.file, self.turns)
     }
 
     /// Returns how many turns failed. The count stops at 2^64 - 1.

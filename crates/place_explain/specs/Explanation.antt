@@ -31,8 +31,8 @@ label_of_first unmapped (c ∷ cs) = c.label
 abbrev pub covering_place : ℕ → List Load → Place → SourceView → List NamedClaim
 covering_place len loads spot s = covering (labelled_covers len loads spot) 1 s.claims
 
--- What a data source says about a byte before labels are rewritten: the label, the claims that cover it within
--- a limit, and the number of further ones.
+-- The explanation of a byte by a data source, before labels are rewritten: the label, the claims that cover the byte
+-- within a limit, and the number of further ones.
 abbrev pub explained : ℕ → List Load → Place → ℕ → SourceView → Explained
 explained len loads spot limit s = record {
   label = label_of_first s.unmapped (covering_place len loads spot s);
@@ -44,9 +44,9 @@ explained len loads spot limit s = record {
 abbrev pub under_name : List ℕ → (List ℕ → List ℕ) → Explained → PlaceSource
 under_name name rewritten e = record { name = name; label = rewritten e.label; claims = e.claims; more = e.more }
 
--- What a data source says about a byte of a file: the data source's name; the label of the byte, rewritten; the
--- claims that cover it, in order, each with its number and its label before the rewrite; and the number of
--- further claims. A limit above 0 keeps the first claim and limit further ones.
+-- The explanation of a byte of a file by a data source: the data source's name; the label of the byte, rewritten; the
+-- claims that cover it, in order, each with its number and its label before the rewrite; and the number of further
+-- claims. A limit above 0 keeps the first claim and up to `limit` more.
 abbrev pub explanation : FileView → Place → ℕ → List ℕ → (List ℕ → List ℕ) → SourceView → PlaceSource
 explanation f spot limit name rewritten s = record {
   name = name;

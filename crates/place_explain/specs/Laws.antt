@@ -1,4 +1,4 @@
--- What follows for the claims that cover a byte.
+-- Laws of the claims that cover a byte.
 use Rattle.std.specs.Prelude.{◌≡◌, ℕ, List}
 use Rattle.size_core.specs.declared.place.Place.{Place}
 use Rattle.size_model.specs.Sizes.{with_rewriting}
@@ -14,7 +14,7 @@ FirstHasLabel =
     (f : FileView) (spot : Place) (rewritten : List ℕ → List ℕ) (s : SourceView)
     → place_label f spot (with_rewriting rewritten s) ≡ rewritten (label_of_first s.unmapped (covering_place f.len f.loads spot s))
 
--- For each byte, limit and name, an explanation is the explanation before labels are rewritten, with its label
+-- For each byte, limit and name, an explanation is the explanation before labels are rewritten with its label
 -- rewritten. This is the contract of `rewrites_the_label_alone`.
 abbrev pub RewritesTheLabelAlone : Type 0
 RewritesTheLabelAlone =

@@ -6,7 +6,7 @@ abbrev pub numbers_of : {X : Type 0} → (X → Bool) → ℕ → List X → Lis
 numbers_of test n [] = []
 numbers_of test n (x ∷ xs) = if test x then n ∷ numbers_of test (n + 1) xs else numbers_of test (n + 1) xs
 
--- What a limit keeps of a list: the first item and limit further ones, or all items where it is 0.
+-- The items that a limit keeps of a list: the first one and up to `limit` more, or all items if it is 0.
 abbrev pub within_limit : {X : Type 0} → ℕ → List X → List X
 within_limit limit xs = if limit == 0 then xs else take (limit + 1) xs
 

@@ -2,8 +2,8 @@
 
 ghost use Rattle.place_explain.specs.Laws.{FirstHasLabel, RewritesTheLabelAlone};
 
-/// The label of a byte is that of the first claim that covers it, or the label for uncovered bytes. It is
-/// rewritten where the data source rewrites its labels.
+/// The label of a byte is that of the first claim that covers it, or the label for uncovered bytes. It is rewritten by
+/// the data source's rewrites.
 pub fn first_has_label()
     ensures { FirstHasLabel }
 {}

@@ -28,7 +28,7 @@ pub struct NamedClaim {
 /// Claims with their numbers.
 pub type NamedClaims = List<NamedClaim>;
 
-/// What a data source says about a byte before labels are rewritten: the label, the claims that cover the byte,
+/// The explanation of a byte by a data source, before labels are rewritten: the label, the claims that cover the byte,
 /// and the number of further claims that a limit leaves out.
 #[derive(Debug, Drop)]
 pub struct Explained {
@@ -37,9 +37,8 @@ pub struct Explained {
     pub more: u64,
 }
 
-/// What the data source with this name says about a byte: its label, rewritten where the data source rewrites
-/// labels; the claims that cover it, whose first gives the label; and the number of further claims that a limit
-/// leaves out.
+/// The explanation of a byte by the data source with this name: its label, rewritten by the data source's rewrites; the
+/// claims that cover it, the first of which gives the label; and the number of further claims that a limit leaves out.
 #[derive(Debug, Drop)]
 pub struct PlaceSource {
     pub name: Text,
@@ -67,7 +66,7 @@ fn named_claim(
     })
 }
 
-// How many of `len` claims a limit keeps.
+// The number of claims that a limit keeps of `len` claims. A limit of 0 keeps all.
 fn count_within(limit: u32, len: usize) -> usize
     ensures { result ≡ (if limit == 0 then len else min len (limit + 1)) }
 {
@@ -78,7 +77,7 @@ fn count_within(limit: u32, len: usize) -> usize
     }
 }
 
-// The claims that a limit keeps of those with these numbers.
+// The claims with these numbers, as far as the limit keeps them.
 fn named_claims(
     alloc: Global,
     numbers: &Numbers,
@@ -114,10 +113,9 @@ fn label_of_first(
     claims.get(0).label.copy()
 }
 
-/// What a data source says about a byte of a file of `file_len` bytes, before labels are rewritten. The labels
-/// of claims are numbers in the pool, and `unmapped` is the number of the label for uncovered bytes. A `limit`
-/// above 0 keeps the first claim that covers the byte and `limit` further ones. Only the labels of these claims
-/// are copied.
+/// The explanation of a byte of a file of `file_len` bytes by a data source, before labels are rewritten. The labels of
+/// claims are numbers in the pool, and `unmapped` is the number of the label for uncovered bytes. A `limit` above 0
+/// keeps the first claim that covers the byte and up to `limit` more. Only the labels of these claims are copied.
 pub fn explain_source(
     alloc: Global,
     base: &Base,

@@ -1,4 +1,4 @@
-//! A byte with both of its addresses.
+//! A byte with its file offset and its virtual address.
 
 ghost use Rattle.std.specs.Prelude.{◌≡◌, ℕ, List};
 ghost use Rattle.size_core.specs.declared.claim.Load.{Load};
@@ -43,7 +43,7 @@ fn address_in(span: &Span, address: Option<(u32, u64)>) -> bool
 }
 
 impl Spot {
-    /// The byte with both of its addresses.
+    /// The byte with its file offset and its virtual address.
     pub fn of(base: &Base, place: &Place) -> Spot
         ensures { IsSpot base.now.len base.now.loads place.now result }
     {

@@ -12,7 +12,7 @@ either-none : (o : Option ℕ) → either o None ≡ o
 either-none None = refl
 either-none (Some x) = refl
 
--- Where the first list gives no label the second one counts, and where the second gives none the first one
+-- If the first list gives no label the second one counts, and if the second gives none the first one
 -- does.
 pub label_append_right : (ps qs : List Piece) (x : ℕ) → label_in ps x ≡ None → label_in (ps ++ qs) x ≡ label_in qs x
 label_append_right ps qs x e = label_in-append ps qs x ∙ ap (λ o. either o (label_in qs x)) e

@@ -3,6 +3,7 @@ pub mod Counts
 pub mod InOrder
 pub mod LookUp
 pub mod Opening
+pub mod Packing
 pub mod Pieces
 pub mod Places
 pub mod Segments

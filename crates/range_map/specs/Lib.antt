@@ -1,3 +1,4 @@
 pub mod Emit
 pub mod Ranges
+pub mod Starts
 pub mod Sweep

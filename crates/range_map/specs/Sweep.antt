@@ -1,11 +1,11 @@
--- The sweep over the starts and ends of ranges.
-use Rattle.std.specs.Prelude.{◌≡◌, ◌+◌, ◌<◌, ◌≤◌, ℕ, List, [], ◌∷◌, length, get_or, All, Contains, true}
+-- The open ranges of a sweep, and the pieces that it has appended so far.
+use Rattle.std.specs.Prelude.{◌≡◌, ◌+◌, ◌^◌, ◌<◌, ◌≤◌, ℕ, List, [], ◌∷◌, length, get_or, All, Contains}
 use Rattle.std.specs.Ordering.{nat_cmp}
 use Rattle.std.specs.BinaryHeap.{IsHeap}
 use Rattle.std.specs.declared.cmp.Ordering.{Ordering}
 use Rattle.std.specs.declared.cmp.Reverse.{Reverse}
 use Rattle.size_model.specs.declared.piece.Piece.{Piece}
-use Rattle.size_model.specs.Cut.{end_of, label_in, IsTidy, is_place}
+use Rattle.size_model.specs.Cut.{end_of, label_in, IsTidy}
 use Rattle.range_map.specs.Ranges.{EndsBy}
 
 -- The piece without a position.
@@ -29,31 +29,42 @@ abbrev pub starts_from : ℕ → List Piece → List (ℕ × ℕ)
 starts_from n [] = []
 starts_from n (c ∷ cs) = (c.start, n) ∷ starts_from (n + 1) cs
 
+-- The start with this index. After the last one comes 2^97, which no range reaches past.
+abbrev pub start_at : List (ℕ × ℕ) → ℕ → ℕ
+start_at starts i = (get_or starts i (2 ^ 97, 0)).0
+
+-- The number of the range whose start has this index.
+abbrev pub number_at : List (ℕ × ℕ) → ℕ → ℕ
+number_at starts i = (get_or starts i (0, 0)).1
+
 -- A number in the heap: its range has started at or before the position from.
 pub record IsStarted (claims : List Piece) (from : ℕ) (r : Reverse ℕ) : Type 0 where
   pub within : r.0 < length claims
   pub started : (at claims r.0).start ≤ from
 
--- The heap holds each number whose range contains the position from.
-pub record AllOpen (claims : List Piece) (from : ℕ) (opened : List (Reverse ℕ)) : Type 0 where
+-- The open ranges: a heap of ranges that have started at or before the position from.
+pub record IsOpen (claims : List Piece) (from : ℕ) (opened : List (Reverse ℕ)) : Type 0 where
   pub heap : IsHeap lowest_first opened
   pub alive : All (IsStarted claims from) opened
-  pub held : (k : ℕ) → k < length claims → (at claims k).start ≤ from → from < end_of (at claims k) → Contains opened (numbered k)
 
--- After the first next starts, the heap holds each of their numbers whose range reaches past the position from.
-pub record IsOpening (claims : List Piece) (starts : List (ℕ × ℕ)) (next from : ℕ) (opened : List (Reverse ℕ)) : Type 0 where
-  pub within : next ≤ length starts
-  pub heap : IsHeap lowest_first opened
-  pub alive : All (IsStarted claims from) opened
-  pub reached : (j : ℕ) → j < next → (at claims (get_or starts j (0, 0)).1).start ≤ from
-  pub held : (j : ℕ) → j < next → from < end_of (at claims (get_or starts j (0, 0)).1) → Contains opened (numbered (get_or starts j (0, 0)).1)
+-- Each range that contains a position between from and to is open.
+pub record Holds (claims : List Piece) (from to : ℕ) (opened : List (Reverse ℕ)) : Type 0 where
+  pub held : (k : ℕ) → k < length claims → (at claims k).start < to → from < end_of (at claims k) → Contains opened (numbered k)
+
+-- Each of the first starts whose range reaches past the position from is open.
+pub record HoldsFirst (claims : List Piece) (starts : List (ℕ × ℕ)) (next from : ℕ) (opened : List (Reverse ℕ)) : Type 0 where
+  pub held : (j : ℕ) → j < next → from < end_of (at claims (number_at starts j)) → Contains opened (numbered (number_at starts j))
+
+-- Each range that was open and reaches past the position to is still open.
+pub record Keeps (claims : List Piece) (to : ℕ) (old new : List (Reverse ℕ)) : Type 0 where
+  pub kept : (k : ℕ) → to < end_of (at claims k) → Contains old (numbered k) → Contains new (numbered k)
+
+-- The number is lower than that of each open range.
+abbrev pub IsFirst : ℕ → List (Reverse ℕ) → Type 0
+IsFirst number opened = All (λ r. number < r.0) opened
 
 -- The pieces are those of the ranges up to a position.
 pub record IsLaidTo (claims : List Piece) (to : ℕ) (ps : List Piece) : Type 0 where
   pub tidy : IsTidy ps
   pub ends : EndsBy to ps
   pub labels : (x : ℕ) → x < to → label_in ps x ≡ label_in claims x
-
--- Each position at which a range begins or ends is an edge.
-abbrev pub CoversPlaces : List Piece → List ℕ → Type 0
-CoversPlaces claims edges = (x : ℕ) → is_place claims x ≡ true → Contains edges x

@@ -37,7 +37,7 @@ fn lengthen(out: &mut Vec<Piece>, by: u128)
     }
 }
 
-/// Appends a piece. It is merged into the last one where they are adjacent and have the same label.
+/// Appends a piece. It is merged into the last one if they are adjacent and have the same label.
 pub fn emit(out: &mut Vec<Piece>, piece: Piece) -> Result<(), AllocError>
     requires tidy { IsTidy out.old.items }
     requires not_empty { 0 < piece.len }

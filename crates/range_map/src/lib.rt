@@ -1,9 +1,10 @@
-//! Labelled ranges of positions. Where several ranges contain a position, the first of them gives its label.
+//! Labelled ranges of positions. If several ranges contain a position, the first of them gives its label.
 #![tactic(auto)]
 
 mod emit;
 mod laws;
 mod range_map;
+mod starts;
 mod sweep;
 
 pub use laws::adding_in_order_builds;

@@ -116,7 +116,7 @@ impl RangeMap {
         self.pieces[i]
     }
 
-    /// The label of a position, or `None` where no piece contains it. Counts one step.
+    /// The label of a position, or `None` if no piece contains it. Counts one step.
     pub fn label_at<L: Ledger>(&self, x: u128, steps: &mut Steps<L>) -> Option<usize>
         ensures value { result ≡ label_in self.now x }
         ensures cost { steps.new ≡ steps.old + 1 }

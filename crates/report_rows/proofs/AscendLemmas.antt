@@ -60,7 +60,7 @@ ascend level (r ∷ rows) (suc i) (suc j) sorted deep le lt =
     let D : RollupRow → Type 0 = λ s. level < length s.path in
     ascend level rows i j sorted.1 (All-tail D r rows deep) (omega arith) (omega arith)
 
-both-ways : (r s : Ordering) → r ≡ ordering_reverse s → is_gt r ≡ false → is_gt s ≡ false → r ≡ Equal
+pub both-ways : (r s : Ordering) → r ≡ ordering_reverse s → is_gt r ≡ false → is_gt s ≡ false → r ≡ Equal
 both-ways Less Less e a b = cc e
 both-ways Less Equal e a b = cc e
 both-ways Less Greater e a b = cc b

@@ -27,7 +27,7 @@ use Rattle.report_rows.proofs.OrderLemmas.{sum_by-in_order}
 use Rattle.report_rows.proofs.TableLemmas.{same_bytes, sum_by-map, sum_by-same, labels-sum}
 use Rattle.report_rows.proofs.GroupLemmas.{deep_of, sum-table}
 
--- Where two paths begin alike, their order is that of the rest.
+-- If two paths begin alike, their order is that of the rest.
 pub past : (k : List ℕ) (p q : List (List ℕ)) → path_cmp (k ∷ p) (k ∷ q) ≡ path_cmp p q
 past k p q = rw (tied_itself nat_list_cmp_total k) refl
 

@@ -64,7 +64,7 @@ module _ {T E R : Type 0} (entries : T → List E) (below : E → T) (row : ℕ 
       more ∙ (ap (λ xs. xs ++ under) push ∙ (append_assoc out (r ∷ []) under ∙ (ap (λ xs. out ++ xs) b ∙ (ap (λ xs. xs ++ f (ge h)) so-far
       ∙ (flat_map_more f first (map ge (take i items)) (ge h) ∙ ap (λ es. first ++ flat_map f es) (sym (map_more ge items i g lt)))))))
 
--- What holds of each row, where it holds of the row of an entry before the rows below it.
+-- What holds of each row, if it holds of the row of an entry before the rows below it.
 module _ {T E R : Type 0} (entries : T → List E) (below : E → T) (row : ℕ → E → R) (at : R → ℕ) (at-row : (level : ℕ) (e : E) → at (row level e) ≡ level) where
   abbrev listed : ℕ → ℕ → T → List R
   listed n level t = rows_over entries below row n level t
@@ -108,12 +108,12 @@ module _ {T E R : Type 0} (entries : T → List E) (below : E → T) (row : ℕ 
     pub each-row : (t : T) → Of depth t → EachRow P (listed depth 0 t)
     each-row t of = subst (EachRow P) (append-nil (listed depth 0 t)) (each-listed depth 0 t [] (omega arith) of tt tt)
 
--- A row has no children where the next level is no greater.
+-- A row has no children if the next level is no greater.
 pub no-child : (level : ℕ) (r : Row) (rows : List Row) → r.level ≡ level → Stops (λ (s : Row). s.level) (level + 1) rows → has_children r rows ≡ false
 no-child level r [] e stops = refl
 no-child level r (next ∷ rows) e stops = le-ltb r.level next.level (omega (arith, stops))
 
--- A row has children where the next level is greater.
+-- A row has children if the next level is greater.
 child : (r : Row) (next : Row) (rows : List Row) → r.level < next.level → has_children r (next ∷ rows) ≡ true
 child r next rows lt = lt-ltb r.level next.level lt
 

@@ -1,5 +1,7 @@
 pub mod AscendLemmas
+pub mod CutLemmas
 pub mod EntryLemmas
+pub mod FirstLevelLemmas
 pub mod GatherLemmas
 pub mod GroupLemmas
 pub mod LevelLemmas
@@ -7,10 +9,12 @@ pub mod LimitLemmas
 pub mod ListLemmas
 pub mod OrderLemmas
 pub mod PathLemmas
+pub mod PlacingLemmas
 pub mod RootLemmas
 pub mod RowLemmas
 pub mod RunLemmas
 pub mod ShownLemmas
+pub mod SizeOrderLemmas
 pub mod SortLemmas
 pub mod TableLemmas
 pub mod TreeLemmas

@@ -49,7 +49,7 @@ sorted-cons : {X : Type 0} (R : X → X → Ordering) (x : X) (xs : List X) → 
 sorted-cons R x xs first rest zero d low high = first 0 d (omega arith)
 sorted-cons R x xs first rest (suc k) d low high = rw add-one (rw add-one at (rest k d (omega arith) (omega arith)))
 
-tail-sorted : {X : Type 0} (R : X → X → Ordering) (x : X) (xs : List X) → IsSorted R (x ∷ xs) → IsSorted R xs
+pub tail-sorted : {X : Type 0} (R : X → X → Ordering) (x : X) (xs : List X) → IsSorted R (x ∷ xs) → IsSorted R xs
 tail-sorted R x xs sorted k d low high = rw add-one (rw add-one at (sorted (suc k) d (omega arith) (omega arith)))
 
 turned : (r s : Ordering) → r ≡ ordering_reverse s → is_lt r ≡ is_gt s
@@ -75,7 +75,7 @@ module _ {X : Type 0} (R : X → X → Ordering) (o : IsTotalOrder R) where
   chain : (x y z : X) → is_lt (R y x) ≡ false → is_lt (R z y) ≡ false → is_lt (R z x) ≡ false
   chain x y z a b = turn z x ∙ upto o x y z (sym (turn y x) ∙ a) (sym (turn z y) ∙ b)
 
-  head-least : (x : X) (xs : List X) → IsSorted R (x ∷ xs) → All (λ z. is_lt (R z x) ≡ false) xs
+  pub head-least : (x : X) (xs : List X) → IsSorted R (x ∷ xs) → All (λ z. is_lt (R z x) ≡ false) xs
   head-least x xs sorted k d lt = sorted_far (λ a b. is_lt (R a b)) (ranks_by o (λ a. a)) (x ∷ xs) sorted 0 (suc k) d (omega arith) (omega arith)
 
   sorted-at : (x y : X) (ys : List X) (b : Bool) → is_lt (R y x) ≡ b → IsSorted R (y ∷ ys) → IsSorted R (placed R x ys) → IsSorted R (cond b (y ∷ placed R x ys) (x ∷ y ∷ ys))
@@ -103,7 +103,7 @@ count-none p (x ∷ xs) h =
     let rest = count-none p xs (λ j d lt. h (suc j) d (omega arith)) in
     rw (sum_by-cons (λ y. cond (p y) 1 0) x xs, first) (omega (arith, rest))
 
--- Where a test counts none, it fails at the first element.
+-- If a test counts none, it fails at the first element.
 count-first : {X : Type 0} (p : X → Bool) (x : X) (xs : List X) → count_by p (x ∷ xs) ≡ 0 → p x ≡ false
 count-first p x xs h = elim (cases_Bool (p x)) [
   | inl hit ↦ absurd (let e = rw (sum_by-cons (λ y. cond (p y) 1 0) x xs, hit) at h in omega arith)

@@ -54,7 +54,7 @@ abbrev hit : List ℕ → List ℕ → ℕ
 hit label l = cond (bytes_eq l label) 1 0
 
 -- A label that passes a test is as often among those that pass it.
-times-filter : (label : List ℕ) (p : List ℕ → Bool) (labels : List (List ℕ)) → times label (filter p labels) ≡ cond (p label) (times label labels) 0
+pub times-filter : (label : List ℕ) (p : List ℕ → Bool) (labels : List (List ℕ)) → times label (filter p labels) ≡ cond (p label) (times label labels) 0
 times-filter label p [] = none (p label)
   where
     none : (b : Bool) → ◌≡◌ {A = ℕ} 0 (cond b 0 0)
@@ -70,14 +70,14 @@ times-filter label p (l ∷ labels) = at (p l) refl (times-filter label p labels
     at false isnt rest =
         none-at label l p (bytes_eq l label) (times label (filter p labels)) (times label labels) refl isnt rest ∙ ap (λ n. cond (p label) n 0) (sym (sum_by-cons (hit label) l labels))
 
-nothing-shown : (a b : Bool) → (nat_lt 0 (shown a 0) || nat_lt 0 (shown b 0)) ≡ false
+pub nothing-shown : (a b : Bool) → (nat_lt 0 (shown a 0) || nat_lt 0 (shown b 0)) ≡ false
 nothing-shown true true = refl
 nothing-shown true false = refl
 nothing-shown false true = refl
 nothing-shown false false = refl
 
 -- Each label with a shown size is a child once, and no other label is.
-child-once : (o : RowOptions) (t : Table) (label : List ℕ) → times label (children o t) ≡ cond (has_shown o t label) 1 0
+pub child-once : (o : RowOptions) (t : Table) (label : List ℕ) → times label (children o t) ≡ cond (has_shown o t label) 1 0
 unfolding children
 child-once o t label =
     sum_by-in_order (label_cmp o t) (λ l. cond (bytes_eq l label) 1 0) (filter (has_shown o t) (first_labels t))
@@ -201,7 +201,7 @@ module _ (o : RowOptions) (vm file : Path → ℕ) (t : Table) (are : AreSizesBe
     Go : ℕ → Path → List Row → Type 0
     Go level path rows = (before : Path) → take level before ≡ path → ShowRows o vm file depth before rows
 
-    -- The rows of a level under a path may, where those that follow them may.
+    -- The rows of a level under a path may, if those that follow them may.
     Lists : ℕ → ℕ → Type 0
     Lists n level = (path : Path) (after : List Row) → length path ≡ level → Stops level-of (level + 1) after → Go level path after → Go level path (listing o n level (under_path path t) ++ after)
 

@@ -1,4 +1,4 @@
--- Where a shown size is above 0.
+-- If a shown size is above 0.
 use Rattle.std.proofs.Common.{◌≡◌, ℕ, ◌<◌, ◌||◌, refl, Bool, true, false, arith, ◌⊎◌, inl, inr}
 use Rattle.std.specs.Prelude.{nat_lt}
 use Rattle.std.proofs.lemmas.Bool.{cases_Bool, or_parts}
@@ -8,7 +8,7 @@ use Rattle.report_rows.specs.Shown.{shown}
 none-above : (n : ℕ) → nat_lt 0 n ≡ false → n ≡ 0
 none-above n e = grind (arith, common_steps)
 
--- A size that is shown, where nothing shown is above 0.
+-- A size that is shown, if nothing shown is above 0.
 pub first-none : (a b : Bool) (v f : ℕ) → a ≡ true → (nat_lt 0 (shown a v) || nat_lt 0 (shown b f)) ≡ false → v ≡ 0
 first-none true b v f e unshown = none-above v (or_parts (nat_lt 0 v) (nat_lt 0 (shown b f)) unshown).0
 first-none false b v f e unshown = cc e

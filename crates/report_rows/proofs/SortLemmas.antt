@@ -23,7 +23,7 @@ use Rattle.report_rows.proofs.AscendLemmas.{ascend, bytes-equal, then-equal}
 use Rattle.report_rows.proofs.GroupLemmas.{deep_of}
 use Rattle.report_rows.proofs.OrderLemmas.{in_order_is}
 
-abbrev label_key : RowOptions → Table → List ℕ → ℕ
+abbrev pub label_key : RowOptions → Table → List ℕ → ℕ
 label_key o t l = key_of o (vm_sum (under l t)) (file_sum (under l t))
 
 pub label_total : (o : RowOptions) (t : Table) → IsTotalOrder (label_cmp o t)

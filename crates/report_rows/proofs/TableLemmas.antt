@@ -23,7 +23,7 @@ pub sum-zero : {X : Type 0} (xs : List X) → sum_by (λ x. 0) xs ≡ 0
 sum-zero [] = refl
 sum-zero (x ∷ xs) = omega (arith, sum_by-cons (λ y. 0) x xs, sum-zero xs)
 
--- The sums of two sizes over a part, where they are alike in what is left out.
+-- The sums of two sizes over a part, if they are alike in what is left out.
 pub both-sums : {X : Type 0} (p : X → Bool) (f g : X → ℕ) → ((x : X) → p x ≡ false → f x ≡ g x) → (xs : List X) → sum_by f (filter p xs) + sum_by g xs ≡ sum_by g (filter p xs) + sum_by f xs
 both-sums p f g alike [] = refl
 both-sums {X} p f g alike (x ∷ xs) = at (p x) refl (both-sums p f g alike xs)

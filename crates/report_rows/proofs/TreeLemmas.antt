@@ -45,7 +45,7 @@ of-under n l (r ∷ t) all =
 sum-shown : {X : Type 0} (p : X → Bool) (f : X → ℕ) (xs : List X) → ((x : X) → p x ≡ false → f x ≡ 0) → sum_by f (filter p xs) ≡ sum_by f xs
 sum-shown p f xs none = omega (arith, both-sums p f (λ x. 0) none xs, sum-zero xs, sum-zero (filter p xs))
 
--- A size of entries that is a size of the tables under labels, and 0 where nothing is shown.
+-- A size of entries that is a size of the tables under labels, and 0 if nothing is shown.
 record IsSize (o : RowOptions) (f : Entry → ℕ) (size : RollupRow → ℕ) : Type 0 where
   pub same : (r : RollupRow) (p : List (List ℕ)) → size (record r { path = p }) ≡ size r
   pub label : (t : Table) (l : List ℕ) → f (label_entry t l) ≡ sum_by size (under l t)
@@ -93,7 +93,7 @@ file-size o shows = record {
   none = λ t unshown. second-none (shows_vm o.domain) (shows_file o.domain) (vm_sum t) (file_sum t) shows unshown;
 }
 
--- Where a shown size is above 0, there are entries.
+-- If a shown size is above 0, there are entries.
 some-entry : (o : RowOptions) (n : ℕ) (t : Table) → AreOf (suc n) t → is_shown o (vm_sum t) (file_sum t) ≡ true → 0 < length (entries_of o t)
 some-entry o n t all is = elim (some-shown (shows_vm o.domain) (shows_file o.domain) (vm_sum t) (file_sum t) is) [
   | inl vm ↦ not-empty (λ (e : Entry). e.vm) (entries_of o t) (omega (arith, entries-sum o (λ e. e.vm) (λ r. r.vm) n t (vm-size o vm.0) all, vm.1))

@@ -4,9 +4,11 @@ pub mod Keys
 pub mod Laws
 pub mod Levels
 pub mod Order
+pub mod Ordered
 pub mod Paths
 pub mod Rows
 pub mod Shown
+pub mod SizeTrees
 pub mod Tables
 pub mod Trees
 pub mod Worked

@@ -13,7 +13,7 @@ unfoldable pub in_order : {X : Type 0} → (X → X → Ordering) → List X →
 in_order cmp [] = []
 in_order cmp (x ∷ xs) = placed cmp x (in_order cmp xs)
 
--- The list within a limit. Where the limit is above 0 and there are more elements, that many stay. The others
+-- The list within a limit. If the limit is above 0 and there are more elements, that many stay. The others
 -- become one element, before the first that isn't less.
 unfoldable pub within : {X : Type 0} → ℕ → (X → X → Ordering) → (List X → X) → List X → List X
 within limit cmp together xs =

@@ -40,7 +40,7 @@ size_taken (Label label) size = 0
 size_taken (Others count) size = size
 
 -- The rows of a level, up to the first row of a lesser level, show the labels under a path. Each label with a
--- shown size has one row there or is one of those left out, and no other label is. Where labels are left out
+-- shown size has one row there or is one of those left out, and no other label is. If labels are left out
 -- there is one Others row with their count and the sums of their sizes; else there is none.
 pub record ShowsLevel (o : RowOptions) (vm file : Path → ℕ) (path : Path) (level : ℕ) (rows : List Row) : Type 0 where
   pub left : List (List ℕ)
@@ -67,7 +67,7 @@ path_with path (Others count) = path
 abbrev pub path_after : Path → Row → Path
 path_after before r = path_with (take r.level before) r.kind
 
--- A row shows its path, where it is the row of a label.
+-- A row shows its path if it is the row of a label.
 abbrev pub ShowsRow : RowOptions → (Path → ℕ) → (Path → ℕ) → ℕ → Path → RowKind → Row → List Row → Type 0
 ShowsRow o vm file depth path (Label label) r rows = ShowsLabel o vm file depth (path ++ label ∷ []) r rows
 ShowsRow o vm file depth path (Others count) r rows = ⊤

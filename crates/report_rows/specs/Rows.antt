@@ -48,7 +48,7 @@ has_shown o t label = is_shown o (vm_sum (under label t)) (file_sum (under label
 unfoldable pub children : RowOptions → Table → List (List ℕ)
 children o t = in_order (label_cmp o t) (filter (has_shown o t) (first_labels t))
 
--- The entries within a limit. Where the limit is above 0 and there are more entries, that many stay. The others
+-- The entries within a limit. If the limit is above 0 and there are more entries, that many stay. The others
 -- become one entry, before the entries with the same key.
 abbrev pub limited : RowOptions → List Entry → List Entry
 limited o entries = within o.limit (by_key o) others_entry entries

@@ -15,6 +15,6 @@ shows_file Vm = false
 shows_file File = true
 shows_file Both = true
 
--- A size, which counts as 0 where it isn't shown.
+-- A size, which counts as 0 if it isn't shown.
 abbrev pub shown : Bool → ℕ → ℕ
 shown shows size = if shows then size else 0

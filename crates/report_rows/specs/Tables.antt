@@ -16,7 +16,7 @@ vm_sum t = sum_by (λ (r : RollupRow). r.vm) t
 abbrev pub file_sum : Table → ℕ
 file_sum t = sum_by (λ (r : RollupRow). r.file) t
 
--- A row without the label that its path begins with. None where its path begins otherwise.
+-- A row without the label that its path begins with. None if its path begins otherwise.
 abbrev pub without : List ℕ → RollupRow → List (List ℕ) → Table
 without label r [] = []
 without label r (l ∷ path) = if bytes_eq label l then record r { path = path } ∷ [] else []

@@ -8,7 +8,9 @@ use Rattle.rollup.specs.declared.table.RollupRow.{RollupRow}
 use Rattle.report_rows.specs.declared.row.RowOptions.{RowOptions}
 use Rattle.report_rows.specs.declared.row.RowKind.TheVariants.{Label, Others}
 use Rattle.report_rows.specs.declared.row.Row.{Row}
-use Rattle.report_rows.specs.Tables.{Table}
+use Rattle.report_rows.specs.Ordered.{InReportOrder}
+use Rattle.report_rows.specs.SizeTrees.{both_sizes, size_report}
+use Rattle.report_rows.specs.Tables.{Table, file_sum, under_path, vm_sum}
 use Rattle.report_rows.specs.Rows.{listing}
 
 -- The options of an example.
@@ -43,7 +45,7 @@ pairs =
 abbrev pub triples : Table
 triples = path_row (codes "a" ∷ codes "x" ∷ codes "p" ∷ []) 1 1 ∷ path_row (codes "a" ∷ codes "x" ∷ codes "q" ∷ []) 0 2 ∷ []
 
--- The rows of all five labels, where the lesser label comes first for equal sizes.
+-- The rows of all five labels, if the lesser label comes first for equal sizes.
 abbrev pub all_five : List Row
 all_five =
     label_row 0 (codes "[3 Others]") 0 9 ∷ label_row 0 (codes "a") 1 8 ∷ label_row 0 (codes "b") 2 4 ∷ label_row 0 (codes "c") 3 2
@@ -67,3 +69,16 @@ pub record WorkedTables : Type 0 where
       ∷ label_row 0 (codes "c") 0 5 ∷ label_row 1 (codes "x") 0 5 ∷ []
   pub three_levels : listing (asked 0 sorts.Both domains.Both) 3 0 triples
       ≡ label_row 0 (codes "a") 1 3 ∷ label_row 1 (codes "x") 1 3 ∷ label_row 2 (codes "q") 0 2 ∷ label_row 2 (codes "p") 1 1 ∷ []
+
+-- Rows are in the order of a report by file size over the five labels, with this limit.
+abbrev pub IsOrdered : ℕ → List Row → Type 0
+IsOrdered limit rows =
+    InReportOrder (size_report (asked limit sorts.Both domains.File)) 1 0
+    (both_sizes (λ path. vm_sum (under_path path five)) (λ path. file_sum (under_path path five))) rows
+
+-- Rows that are in the order of a report, and rows that aren't.
+pub record WorkedOrders : Type 0 where
+  pub before_its_equal : IsOrdered 2 (label_row 0 (codes "[3 Others]") 0 9 ∷ others_row 0 3 9 8 ∷ label_row 0 (codes "a") 1 8 ∷ [])
+  pub not_after_its_equal : ¬ IsOrdered 2 (label_row 0 (codes "[3 Others]") 0 9 ∷ label_row 0 (codes "a") 1 8 ∷ others_row 0 3 9 8 ∷ [])
+  pub no_limit : IsOrdered 0 all_five
+  pub none_left_out : ¬ IsOrdered 0 (label_row 0 (codes "[3 Others]") 0 9 ∷ label_row 0 (codes "a") 1 8 ∷ [])

@@ -91,7 +91,7 @@ fn make_group(
     }
 }
 
-// Appends a group, where one of its shown sizes is above 0.
+// Appends a group if one of its shown sizes is above 0.
 fn keep(options: &RowOptions, groups: &mut Vec<Group>, group: Group) -> Result<(), NoMemory>
     ensures { OnOk result (groups.new.items
         ≡ groups.old.items ++ (if is_shown options.now group.vm group.file then group ∷ [] else [])) }

@@ -12,7 +12,10 @@ mod row;
 
 pub use groups::Kind;
 pub use keys::{is_shown, key};
-pub use laws::{rows_show_paths, shown_sizes_add_up, sizes_by_prefix};
+pub use laws::{
+    first_level_stays, one_tree_fits, rows_are_in_order, rows_show_paths, shown_sizes_add_up,
+    sizes_by_prefix,
+};
 pub use limits::{Grouped, limit};
 pub use listing::rows;
 pub use paths::{HasPath, run_len};

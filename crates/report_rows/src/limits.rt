@@ -28,7 +28,7 @@ pub trait Grouped: Copy {
 }
 
 // The index for a group of others: that of the first group whose key isn't larger.
-fn place<G: Grouped>(groups: &[G], others: &G) -> usize
+fn position<G: Grouped>(groups: &[G], others: &G) -> usize
     ensures { result ≡ position_or_len (λ g. nat_le (G.key g) (G.key others.now)) groups.now }
 {
     for (i, group) in groups.iter().enumerate() {
@@ -51,7 +51,7 @@ pub fn limit<G: Grouped>(options: &RowOptions, groups: &mut Vec<G>) -> Result<()
     }
     let others = G::together(options, &groups[kept..]);
     groups.truncate(kept);
-    let place = place(groups.as_slice(), &others);
-    groups.insert(place, others)?;
+    let index = position(groups.as_slice(), &others);
+    groups.insert(index, others)?;
     Ok(())
 }

@@ -24,7 +24,7 @@ claims-end wide old first out (x ∷ cs) k c at line le e =
     sym (ap (λ ys. out ++ flat_map (beaten_line wide) ys) (drop_all k (x ∷ cs) le) ∙ append-nil out)
     ∙ (e ∙ (ap (λ y. y ++ rest) line ∙ (append_assoc old (claim_line wide (codes "  first #") c) rest ∙ ap (λ d. old ++ (claim_line wide (codes "  first #") d ++ rest)) (sym (same_Some x c at)))))
 
--- The line where there is no claim.
+-- The line if there is no claim.
 pub no-claims : (wide : Bool) (cs : List NamedClaim) → length cs ≡ 0 → claim_lines wide cs ≡ codes "  first none\n"
 unfolding claim_lines
 no-claims wide [] e = refl

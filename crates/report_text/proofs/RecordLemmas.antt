@@ -17,7 +17,7 @@ use Rattle.report_text.specs.Between.{IsReady, IsPath, HasCome, entered}
 use Rattle.report_text.specs.Labels.{kind_text}
 use Rattle.report_text.specs.Records.{Fields, delimited, labels_above, header_fields, path_fields, row_fields, leaf_record, leaf_records, table_text}
 
--- The rows from one on.
+-- The rows from index i on.
 pub rows-from : {X : Type 0} (xs : List X) (i : ℕ) (x : X) → slice_get xs i ≡ Some x → drop i xs ≡ x ∷ drop (i + 1) xs
 rows-from xs i x e =
     drop_more xs i x (slice_get_within xs i x e) ∙ ap (λ y. y ∷ drop (i + 1) xs) (get_or_from_slice_get xs i x x e)

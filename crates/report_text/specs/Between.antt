@@ -34,12 +34,12 @@ pub record HasCome {W : Type 0} {X : Type 0} (contents : W → Option (List ℕ)
   pub ready : IsReady contents delimiter w text
   pub rest : text ++ flat_map (row_text (delimited delimiter)) (leaf_records as_row sizes depth before (drop i rows)) ≡ whole
 
--- The text of a row, where it is an Others row.
+-- If the row is an Others row, this is its text.
 abbrev pub HasText : RowKind → List ℕ → Type 0
 HasText (Label label) text = ⊤
 HasText (Others count) text = text ≡ others_text count
 
--- A path with a row's label, where it has one.
+-- A path with the label of a row, if the row has one.
 abbrev pub entered : Fields → RowKind → Fields
 entered path (Label label) = path ++ (label ∷ [])
 entered path (Others count) = path

@@ -24,7 +24,7 @@ kind_text (Others count) = others_text count
 unfoldable pub ends : List ℕ → List ℕ
 ends text = take 28 text ++ (codes "[...]" ++ drop (length text - 27) text)
 
--- A text, shortened where it has more than 60 bytes, unless wide.
+-- A text, shortened if it has more than 60 bytes and `wide` isn't set.
 abbrev pub shortened : Bool → List ℕ → List ℕ
 shortened wide text = if wide || nat_le (length text) 60 then text else ends text
 

@@ -20,7 +20,7 @@ size_text n =
     else if nat_lt n (2 ^ 60) then in_unit n (2 ^ 50) (codes "Pi")
     else in_unit n (2 ^ 60) (codes "Ei")
 
--- How many thousandths of the total a size is, rounded down. It is 0 where the total is 0.
+-- How many thousandths of the total a size is, rounded down. It is 0 if the total is 0.
 abbrev pub thousandths : ℕ → ℕ → ℕ
 thousandths size total = if total == 0 then 0 else 1000 * size / total
 

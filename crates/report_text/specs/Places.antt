@@ -17,7 +17,7 @@ number_line before n = before ++ (decimal n ++ codes "\n")
 unfoldable pub name_line : Bool → List ℕ → List ℕ → List ℕ
 name_line wide before text = before ++ (escaped (shortened wide text) ++ codes "\n")
 
--- The address space before an address. It is left out where it is 0.
+-- The address space before an address. It is left out if it is 0.
 unfoldable pub space_text : ℕ → List ℕ
 space_text space = if space == 0 then [] else decimal space ++ codes ":"
 
@@ -45,7 +45,7 @@ unfoldable pub claim_lines : Bool → List NamedClaim → List ℕ
 claim_lines wide [] = codes "  first none\n"
 claim_lines wide (c ∷ cs) = claim_line wide (codes "  first #") c ++ flat_map (beaten_line wide) cs
 
--- The line for the claims that a limit leaves out, where there are any.
+-- The line for the claims that a limit leaves out, if there are any.
 unfoldable pub more_line : ℕ → List ℕ
 more_line more = if more == 0 then [] else number_line (codes "  more ") more
 

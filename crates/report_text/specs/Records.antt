@@ -38,7 +38,7 @@ path_fields depth above r = above ++ (kind_text r.kind ∷ replicate (depth - (r
 unfoldable pub row_fields : ℕ → Fields → Row → Fields → Fields
 row_fields depth above r sizes = path_fields depth above r ++ sizes
 
--- The record of a row, where the row has no children among the rows that follow.
+-- The record of a row, if it has no children among the rows that follow.
 abbrev pub leaf_record : ℕ → Fields → Row → Fields → List Row → List Fields
 leaf_record depth above r sizes rows = if has_children r rows then [] else row_fields depth above r sizes ∷ []
 

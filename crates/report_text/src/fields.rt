@@ -63,7 +63,7 @@ pub fn header<'a>(
     Ok(fields)
 }
 
-/// The text of an Others row. Empty for a label.
+/// The text of an Others row. It is empty for a label.
 pub fn others_text(alloc: Global, name: Name) -> Result<Vec<u8>, NoMemory>
     ensures { IfOk result (λ v. HasText (kind_of name.entry) v.items) }
 {
@@ -107,8 +107,8 @@ fn labels<'a, 'p: 'a>(alloc: Global, path: &[&'p [u8]]) -> Result<Vec<&'a [u8]>,
     Ok(fields)
 }
 
-/// The fields of a row's path. `above` has the labels of the rows above it, and `others` the row's text where
-/// it is an Others row.
+/// The fields of a row's path. `above` has the labels of the rows above it. `others` is the row's text if it is an
+/// Others row.
 #[tactic(auto, unfolding(crate::specs::Records::path_fields))]
 pub fn path_fields<'a, 'p: 'a, R: ReportRow>(
     alloc: Global,

@@ -164,10 +164,10 @@ impl ReportTree for GrowthTree {
     }
 }
 
-/// Appends the text report of a growth tree: a title line, a line for each row, and a line for the total. Each
-/// size of `domain` has a column with the change and the growth. The change is in percent of the base size. It
-/// is `[NEW]` or `[DEL]` where only the new size or only the base size exists, and `[ = ]` where they are
-/// equal. A label of more than 60 bytes is shortened unless `wide`. Where memory runs out `out` is unchanged.
+/// Appends the text report of a growth tree: a title line, a line for each row, and a line for the total. Each size of
+/// `domain` has a column with the change and the growth. The change is in percent of the base size. It is `[NEW]` or
+/// `[DEL]` if only the new size or only the base size exists, and `[ = ]` if they are equal. A label of more than 60
+/// bytes is shortened unless `wide`. If memory runs out, `out` is unchanged.
 #[tactic(auto, unfolding(crate::specs::Growth::growth_report_text))]
 pub fn growth_text(
     alloc: Global,
@@ -184,9 +184,9 @@ pub fn growth_text(
     Ok(())
 }
 
-/// Appends the CSV records of a growth tree. A header has the names of the data sources and of the shown sizes.
-/// Each row without children has a record with the labels of its path and its shown growths in bytes. Where
-/// memory runs out `out` is unchanged.
+/// Appends the CSV records of a growth tree. A header has the names of the data sources and of the shown sizes. Each
+/// row without children has a record with the labels of its path and its shown growths in bytes. If memory runs out,
+/// `out` is unchanged.
 #[tactic(auto, unfolding(crate::specs::Growth::growth_csv_text))]
 pub fn growth_csv(
     alloc: Global,

@@ -153,9 +153,9 @@ fn lines(
 }
 
 /// Appends the explanation of a location: a line for the location, and then for each data source its name, the
-/// location's label, the claims that cover the location, and the number of further claims. The claims are in
-/// order, each with its number, its side and its label. A name or a label of more than 60 bytes is shortened
-/// unless `wide`. Where memory runs out `out` is unchanged.
+/// location's label, the claims that cover the location, and the number of further claims. The claims are in order,
+/// each with its number, its side and its label. A name or a label of more than 60 bytes is shortened unless `wide`. If
+/// memory runs out, `out` is unchanged.
 pub fn place_text(
     alloc: Global,
     place: &Place,

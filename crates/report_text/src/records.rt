@@ -69,7 +69,7 @@ pub fn has_children<R: ReportRow>(rows: &List<R>, i: usize) -> bool
     rows.get(i).level() < rows.get(i + 1).level()
 }
 
-// Writes the record of a row, where it has no children.
+// Writes the record of a row, if it has no children.
 fn put_leaf<'a, W: Write + Drop, T: ReportTree>(
     alloc: Global,
     writer: &mut Writer<W>,
@@ -109,7 +109,8 @@ fn enter<'a>(path: &mut Vec<&'a [u8]>, name: Name<'a>) -> Result<(), NoMemory>
     }
 }
 
-// Processes one row. `path` has the labels of the rows that it can be under.
+// Writes the record of one row, if it has no children, and adds the row's label to `path`. Before that, `path` has the
+// labels of the rows that the row can be under.
 fn step<'a, W: Write + Drop, T: ReportTree>(
     alloc: Global,
     writer: &mut Writer<W>,

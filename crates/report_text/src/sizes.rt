@@ -117,8 +117,8 @@ impl ReportTree for RowTree {
 }
 
 /// Appends the text report of a tree: a title line, a line for each row, and a line for the total. Each size of
-/// `domain` has a column. A label of more than 60 bytes is shortened unless `wide`. Where memory runs out `out`
-/// is unchanged.
+/// `domain` has a column. A label of more than 60 bytes is shortened unless `wide`. If memory runs out, `out` is
+/// unchanged.
 #[tactic(auto, unfolding(crate::specs::Lines::report_text))]
 pub fn text(
     alloc: Global,
@@ -135,9 +135,9 @@ pub fn text(
     Ok(())
 }
 
-/// Appends the CSV records of a tree. A header has the names of the data sources and of the shown sizes. Each
-/// row without children has a record with the labels of its path and its shown sizes in bytes. Where memory
-/// runs out `out` is unchanged.
+/// Appends the CSV records of a tree. A header has the names of the data sources and of the shown sizes. Each row
+/// without children has a record with the labels of its path and its shown sizes in bytes. If memory runs out, `out` is
+/// unchanged.
 #[tactic(auto, using(crate::proofs::RecordLemmas::plain_tree), unfolding(crate::specs::Records::csv_text))]
 pub fn csv(
     alloc: Global,

@@ -73,7 +73,7 @@ at_hand ps at x c h low high = h.reached.rest x low ∙ by_piece (slice_get ps c
         piece_left (drop c.passed ps) (drop (suc c.passed) ps) p at x split tidy low high'
         ∙ (ap (λ s. cond (leb s at) (Some p.label) None) (sym start) ∙ ap (λ l. cond (leb c.start at) (Some l) None) (sym label))
 
--- a cursor that is read where the pieces before it are passed
+-- a cursor that is read after the pieces before it
 pub make_at : (ps : List Piece) (k at : ℕ) → IsTidy ps → k ≤ length ps → ((x : ℕ) → at ≤ x → label_in ps x ≡ label_in (drop k ps) x) → StartsFrom at (drop k ps) → at < 2 ^ 128 - 1
     → IsAt ps at (cursor_of ps k)
 make_at ps k at t within rest from fits =
@@ -103,7 +103,7 @@ first_at ps t = make_at ps 0 0 t (omega arith) (λ x low. refl) (from ps) (omega
     from [] = tt
     from (p ∷ ps) = omega arith
 
--- the next piece is read where the current one ends
+-- the next piece is read if the current one ends
 pub passed_within : (ps : List Piece) (to : ℕ) (c : Cursor) → IsReached ps to c → c.end ≤ to → to ≤ 2 ^ 97 → c.passed < length ps
 passed_within ps to c h ends fits = by_piece (slice_get ps c.passed) refl
   where

@@ -22,58 +22,9 @@ use Rattle.rollup.specs.Sizes.{row_of, Entry, no_entry, entry_of, size_in, part_
 same : {A : Type 0} {x y : A} → Some x ≡ Some y → x ≡ y
 same e = cc
 
--- an entry of a map from numbers, which its keys hold, to sizes
-abbrev seen : {V : Type 0} → (V → List ℕ) → V × Sizes → Entry
-seen f e = entry_of (f e.0) e.1
-
 pub grown-entry : (part : Part) (size : ℕ) (n : List ℕ) (s : Sizes) → entry_of n (grown_sizes part size s) ≡ grown part size (entry_of n s)
 grown-entry File size n s = refl
 grown-entry Vm size n s = refl
-
-pub size-of : (part : Part) (n : List ℕ) (s : Sizes) → size_in part (entry_of n s) ≡ part_of part s
-size-of File n s = refl
-size-of Vm n s = refl
-
-module _ {V : Type 0} (f : V → List ℕ) where
-  set-seen : (es : List (V × Sizes)) (i : ℕ) (v : V) (s t : Sizes) → slice_get es i ≡ Some (v, s) → map (seen f) (set_value_at es i t) ≡ set (map (seen f) es) i (entry_of (f v) t)
-  set-seen [] i v s t at = refl
-  set-seen (e ∷ es) zero v s t at = ap (λ (w : V). entry_of (f w) t ∷ map (seen f) es) (ap (λ (p : V × Sizes). p.0) (same at))
-  set-seen (e ∷ es) (suc i) v s t at = ap (λ ds. seen f e ∷ ds) (set-seen es i v s t at)
-
-  -- the item at an index is an entry, and its sizes are among the values
-  entry-seen : (es : List (V × Sizes)) (i : ℕ) (v : V) (s t : Sizes) → slice_get es i ≡ Some (v, s) → slice_get (map (λ (e : V × Sizes). e.1) es) i ≡ Some t → get_or (map (seen f) es) i no_entry ≡ entry_of (f v) t
-  entry-seen es i v s t at value =
-      let one : s ≡ t = same (sym (slice_get-map (λ (e : V × Sizes). e.1) es i ∙ ap (option_map (λ (e : V × Sizes). e.1)) at) ∙ value) in
-      get_or_from_slice_get (map (seen f) es) i (entry_of (f v) s) no_entry (slice_get-map (seen f) es i ∙ ap (option_map (seen f)) at) ∙ ap (entry_of (f v)) one
-
-  pub fits-seen : (part : Part) (size : ℕ) (es : List (V × Sizes)) (i : ℕ) (v : V) (s t : Sizes) → slice_get es i ≡ Some (v, s) → slice_get (map (λ (e : V × Sizes). e.1) es) i ≡ Some t
-      → ((j : ℕ) → size_in part (get_or (map (seen f) es) j no_entry) + size < 2 ^ 128) → part_of part t + size < 2 ^ 128
-  fits-seen part size es i v s t at value fits =
-      omega (arith, fits i, ap (size_in part) (entry-seen es i v s t at value), size-of part (f v) t)
-
-  -- one of the sizes of numbers that are there grows
-  pub grows : (part : Part) (numbers : List ℕ) (size : ℕ) (es : List (V × Sizes)) (i : ℕ) (v : V) (s t : Sizes)
-      → position (λ w. bytes_eq numbers (f w)) (map (λ (e : V × Sizes). e.0) es) ≡ Some i → slice_get es i ≡ Some (v, s) → slice_get (map (λ (e : V × Sizes). e.1) es) i ≡ Some t
-      → IsGrown part numbers size (map (seen f) es) (map (seen f) (set_value_at es i (grown_sizes part size t)))
-  grows part numbers size es i v s t first at value =
-      let keys = map (λ (e : V × Sizes). e.0) es in
-      let key : get_or keys i v ≡ v = get_or_from_slice_get keys i v v (slice_get-map (λ (e : V × Sizes). e.0) es i ∙ ap (option_map (λ (e : V × Sizes). e.0)) at) in
-      let numbered : numbers ≡ f v = (bytes_eq-Decides numbers (f v)).0 (sym (ap (λ w. bytes_eq numbers (f w)) key) ∙ (position-Some (λ w. bytes_eq numbers (f w)) keys i v first).1) in
-      let here = entry-seen es i v s t at value in
-      inl (
-        i,
-        record {
-          within = omega (arith, slice_get_within es i (v, s) at, length-map es (seen f));
-          there = ap (λ (x : Entry). x.numbers) here ∙ sym numbered;
-          set = set-seen es i v s (grown_sizes part size t) at ∙ ap (set (map (seen f) es) i) (grown-entry part size (f v) t ∙ ap (grown part size) (sym here));
-        },
-      )
-
-  -- new numbers come last
-  pub added-last : (part : Part) (numbers : List ℕ) (size : ℕ) (es new : List (V × Sizes)) (v : V) (s : Sizes) → f v ≡ numbers → s ≡ sizes_of part size → new ≡ es ++ (v, s) ∷ []
-      → IsGrown part numbers size (map (seen f) es) (map (seen f) new)
-  added-last part numbers size es new v s is sized made =
-      inr (ap (map (seen f)) made ∙ (map-append (seen f) es ((v, s) ∷ []) ∙ ap (λ (e : Entry). map (seen f) es ++ e ∷ []) (ap (λ ns. entry_of ns s) is ∙ ap (entry_of numbers) sized)))
 
 -- what an entry weighs
 abbrev weigh : Part → (List ℕ → Bool) → Entry → ℕ

@@ -21,16 +21,16 @@ pub fits-later : (part : Part) (size : ℕ) (xs ys : List Entry) → ((i : ℕ) 
 fits-later part size xs ys fits i = omega (arith, fits (length xs + i), ap (size_in part) (get_or-append-add xs ys i no_entry))
 
 -- an entry before others grows
-pub grows-before : (part : Part) (label size : ℕ) (xs ys new : List Entry) (i : ℕ) → IsIndexOf label xs i → new ≡ set xs i (grown part size (get_or xs i no_entry))
-    → IsGrown part (label ∷ []) size (xs ++ ys) (new ++ ys)
-grows-before part label size xs ys new i place made =
-    let here : get_or (xs ++ ys) i no_entry ≡ get_or xs i no_entry = get_or_append_left xs ys no_entry i place.within in
+pub grows-before : (part : Part) (numbers : List ℕ) (size : ℕ) (xs ys new : List Entry) (i : ℕ) → IsIndexOf numbers xs i → new ≡ set xs i (grown part size (get_or xs i no_entry))
+    → IsGrown part numbers size (xs ++ ys) (new ++ ys)
+grows-before part numbers size xs ys new i found made =
+    let here : get_or (xs ++ ys) i no_entry ≡ get_or xs i no_entry = get_or_append_left xs ys no_entry i found.within in
     inl (
       i,
       record {
-        within = omega (arith, place.within, length-append xs ys);
-        there = ap (λ (e : Entry). e.numbers) here ∙ place.there;
-        set = ap (λ es. es ++ ys) made ∙ (sym (set-append_left xs ys i (grown part size (get_or xs i no_entry)) place.within)
+        within = omega (arith, found.within, length-append xs ys);
+        there = ap (λ (e : Entry). e.numbers) here ∙ found.there;
+        set = ap (λ es. es ++ ys) made ∙ (sym (set-append_left xs ys i (grown part size (get_or xs i no_entry)) found.within)
             ∙ ap (λ (e : Entry). set (xs ++ ys) i (grown part size e)) (sym here));
       },
     )

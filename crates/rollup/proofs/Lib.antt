@@ -1,7 +1,9 @@
 pub mod Cursors
+pub mod Digits
 pub mod Empty
 pub mod Gathered
 pub mod Labels
+pub mod Lists
 pub mod Merging
 pub mod OneFile
 pub mod Paths
@@ -9,5 +11,6 @@ pub mod Ranks
 pub mod Refilled
 pub mod Totalling
 pub mod Trees
+pub mod Unions
 pub mod Walking
 pub mod Words

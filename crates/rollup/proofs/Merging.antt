@@ -81,7 +81,7 @@ all_merged P keeps rows others merged m h k =
     subst (All P) (sym m.is) (All-from_recursion P (with_rows rows m.order) (all_rows P keeps m.order rows (recursion_from_All P rows h) (recursion_from_All P m.order (All-permutation P others m.order m.same k))))
 
 -- they stay in order
-all_below : (r q : RollupRow) (rows : List RollupRow) → row_cmp r q ≡ Less → AllByRecursion (λ y. row_cmp q y ≡ Less) rows → AllByRecursion (λ y. row_cmp r y ≡ Less) rows
+pub all_below : (r q : RollupRow) (rows : List RollupRow) → row_cmp r q ≡ Less → AllByRecursion (λ y. row_cmp q y ≡ Less) rows → AllByRecursion (λ y. row_cmp r y ≡ Less) rows
 all_below r q [] lt h = tt
 all_below r q (s ∷ rows) lt h = (path_total.trans r.path q.path s.path lt h.0, all_below r q rows lt h.1)
 
@@ -95,7 +95,7 @@ strict_with (q ∷ qs) r t = by_order (row_cmp q r) refl (strict_with qs r t.1)
     by_order Equal e rest = t
     by_order Greater e rest = let lt = turned q r Greater e in ((lt, all_below r q qs lt t.0), t)
 
-strict_rows : (rs rows : List RollupRow) → Strict rows → Strict (with_rows rows rs)
+pub strict_rows : (rs rows : List RollupRow) → Strict rows → Strict (with_rows rows rs)
 strict_rows [] rows t = t
 strict_rows (r ∷ rs) rows t = strict_rows rs (with_row rows r) (strict_with rows r t)
 
@@ -124,7 +124,7 @@ module _ (test : List (List ℕ) → Bool) (f : RollupRow → ℕ) (adds : (q r 
       by_order Equal e rest = omega (arith, sum_by-cons size_at (larger q r) qs, sum_by-cons size_at q qs, size_larger q r (same_path q.path r.path (ap is_eq e)))
       by_order Greater e rest = omega (arith, sum_by-cons size_at r (q ∷ qs))
 
-  sum_rows : (rs rows : List RollupRow) → sum_by size_at (with_rows rows rs) ≡ sum_by size_at rows + sum_by size_at rs
+  pub sum_rows : (rs rows : List RollupRow) → sum_by size_at (with_rows rows rs) ≡ sum_by size_at rows + sum_by size_at rs
   sum_rows [] rows = let none : sum_by size_at rows ≡ sum_by size_at rows + 0 = omega arith in none
   sum_rows (r ∷ rs) rows = omega (arith, sum_rows rs (with_row rows r), sum_with rows r, sum_by-cons size_at r rs)
 
@@ -165,7 +165,7 @@ with_middle (q ∷ s ∷ qs) ys r t h k =
     by_join true = refl
     by_join false = refl
 
--- where rows end that one is added to
+-- the end of rows to which one is added
 upto_push : (rows : List RollupRow) (r s : RollupRow) → is_lt (row_cmp s r) ≡ false → EndsUpto (rows ++ r ∷ []) s
 upto_push [] r s h = h
 upto_push (q ∷ []) r s h = h
@@ -238,13 +238,13 @@ begins_all (y ∷ ys) r h = greater_is (row_cmp y r) (h 0 y (omega arith))
 
 -- what a search among rising rows asks, and one among those above, the greatest first
 pub rising_parts : (rows : List RollupRow) (r : RollupRow) → Strict rows → IsPartitionedBy (λ (q : RollupRow). is_le (path_cmp q.path r.path)) rows
-rising_parts rows r t i j d le lt h = by_place (cases_eq i j)
+rising_parts rows r t i j d le lt h = by_index (cases_eq i j)
   where
-    by_place : ((i ≡ j) ⊎ (i ≡ j → ⊥)) → is_le (row_cmp (get_or rows i d) r) ≡ true
-    by_place (inl e) = subst (λ k. is_le (row_cmp (get_or rows k d) r) ≡ true) (sym e) h
-    by_place (inr n) = ap is_le (below_then (get_or rows i d) (get_or rows j d) r (Less-from_sorted row_cmp rows i j d t (omega arith) lt) h)
+    by_index : ((i ≡ j) ⊎ (i ≡ j → ⊥)) → is_le (row_cmp (get_or rows i d) r) ≡ true
+    by_index (inl e) = subst (λ k. is_le (row_cmp (get_or rows k d) r) ≡ true) (sym e) h
+    by_index (inr n) = ap is_le (below_then (get_or rows i d) (get_or rows j d) r (Less-from_sorted row_cmp rows i j d t (omega arith) lt) h)
 
-above_get : (rows above : List RollupRow) (k : ℕ) (d : RollupRow) → k < length above → get_or (rows ++ reverse above) (length rows + (length above - 1 - k)) d ≡ get_or above k d
+pub above_get : (rows above : List RollupRow) (k : ℕ) (d : RollupRow) → k < length above → get_or (rows ++ reverse above) (length rows + (length above - 1 - k)) d ≡ get_or above k d
 above_get rows above k d lt =
     let at : length above - 1 - (length above - 1 - k) ≡ k = omega arith in
     get_or-append-add rows (reverse above) (length above - 1 - k) d ∙ (get_or-reverse above (length above - 1 - k) d (omega arith) ∙ ap (λ i. get_or above i d) at)
@@ -255,11 +255,11 @@ above_falls rows above i j d t lt within =
     ap (λ q. row_cmp q (get_or above i d)) (sym (above_get rows above j d within)) ∙ (ap (row_cmp (get_or (rows ++ reverse above) (length rows + (length above - 1 - j)) d)) (sym (above_get rows above i d (omega arith))) ∙ less)
 
 pub falling_parts : (rows above : List RollupRow) (r : RollupRow) → Strict (rows ++ reverse above) → IsPartitionedBy (λ (q : RollupRow). is_gt (path_cmp q.path r.path)) above
-falling_parts rows above r t i j d le lt h = by_place (cases_eq i j)
+falling_parts rows above r t i j d le lt h = by_index (cases_eq i j)
   where
-    by_place : ((i ≡ j) ⊎ (i ≡ j → ⊥)) → is_gt (row_cmp (get_or above i d) r) ≡ true
-    by_place (inl e) = subst (λ k. is_gt (row_cmp (get_or above k d) r) ≡ true) (sym e) h
-    by_place (inr n) =
+    by_index : ((i ≡ j) ⊎ (i ≡ j → ⊥)) → is_gt (row_cmp (get_or above i d) r) ≡ true
+    by_index (inl e) = subst (λ k. is_gt (row_cmp (get_or above k d) r) ≡ true) (sym e) h
+    by_index (inr n) =
         let far = turned (get_or above j d) r Greater (greater_is (row_cmp (get_or above j d) r) h) in
         ap is_gt (turned r (get_or above i d) Less (path_total.trans r.path (get_or above j d).path (get_or above i d).path far (above_falls rows above i j d t (omega arith) lt)))
 
@@ -362,7 +362,7 @@ first_fits new rest rows r e h = record {
   file = omega (arith, ap (sum_by (λ (q : RollupRow). q.file)) e, sum_by_push (λ (q : RollupRow). q.file) rest r, sum_by-cons (λ (q : RollupRow). q.file) r [], h.file);
 }
 
--- the first of two parts fits where both do
+-- the first of two parts fits if both do
 pub front_fits : (xs ys all others : List RollupRow) → xs ++ ys ≡ all → FitTogether all others → FitTogether xs others
 front_fits xs ys all others e h = record {
   vm = omega (arith, sum_by-append (λ (q : RollupRow). q.vm) xs ys, ap (sum_by (λ (q : RollupRow). q.vm)) e, h.vm);

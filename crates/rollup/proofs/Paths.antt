@@ -29,7 +29,7 @@ nat_same m n e = grind (arith, nat_tests)
 pub nat_greater : (m n : ℕ) → n < m → nat_cmp m n ≡ Greater
 nat_greater m n lt = grind (arith, nat_tests)
 
--- where one of them ends their lengths decide
+-- if one of them ends, their lengths decide
 pub compare_ends : (a b : List (List ℕ)) (i : ℕ) → i ≡ min (length a) (length b) → path_cmp (drop i a) (drop i b) ≡ nat_cmp (length a) (length b)
 compare_ends a b i e = by_rest (drop i a) (drop i b) (length-drop i a) (length-drop i b)
   where

@@ -20,12 +20,13 @@ use Rattle.std.proofs.lemmas.Map.Text.{is_eq-slice_cmp}
 use Rattle.std.proofs.lemmas.Option.{get_or_from_slice_get, slice_get-get_or}
 use Rattle.size_model.specs.Numbered.{text_of}
 use Rattle.rollup.specs.declared.fresh.Ranked.{Ranked}
-use Rattle.rollup.specs.declared.fresh.RankedLabel.{RankedLabel}
+use Rattle.rollup.specs.declared.fresh.Keyed.{Keyed}
 use Rattle.rollup.specs.declared.table.RollupRow.{RollupRow}
-use Rattle.rollup.specs.Order.{ArePlaces, IsRanked, IsRankedLabel, RankLabels, falling_labels, falling_ranks, label_cmp, label_row, rank_in, ranked_row}
+use Rattle.rollup.specs.Order.{AreIndices, IsKeyed, IsRanked, RankLabels, digits_after, falling_keys, falling_ranks, keyed_row, label_cmp, rank_in, ranked_row}
 use Rattle.rollup.specs.Rows.{falling}
 use Rattle.rollup.specs.Sizes.{Entry, no_entry, row_of}
 use Rattle.rollup.specs.Totals.{path_cmp}
+use Rattle.rollup.proofs.Digits.{digits_cmp}
 use Rattle.rollup.proofs.Paths.{same_number}
 
 -- one number more
@@ -76,31 +77,26 @@ module _ (n : ℕ) (numbers : List ℕ) (all : IsPermutation (range_with_len 0 n
           ap (λ x. eqb x (get_or (range_with_len 0 n) j d)) (range_get n i d (omega arith)) ∙ (ap (eqb i) (range_get n j d below) ∙ differ i j lt)
 
   numbers_found : (a : ℕ) → a < n → (k : ℕ) × (k < length numbers) × (get_or numbers k 0 ≡ a)
-  numbers_found a lt = by_place (Contains-permutation (range_with_len 0 n) numbers a all (a, omega (arith, length-range_with_len 0 n), range_get n a a lt))
+  numbers_found a lt = by_index (Contains-permutation (range_with_len 0 n) numbers a all (a, omega (arith, length-range_with_len 0 n), range_get n a a lt))
     where
-      by_place : ((k : ℕ) × (k < length numbers) × (get_or numbers k a ≡ a)) → (k : ℕ) × (k < length numbers) × (get_or numbers k 0 ≡ a)
-      by_place (k, within, is) = (k, within, get_or_from_slice_get numbers k (get_or numbers k a) 0 (slice_get-get_or numbers k a within) ∙ is)
-
-pub single : (xs : List ℕ) (d : ℕ) → length xs ≡ 1 → xs ≡ get_or xs 0 d ∷ []
-single [] d e = absurd (omega (arith, e))
-single (x ∷ []) d e = refl
-single (x ∷ y ∷ ys) d e = absurd (omega (arith, e))
+      by_index : ((k : ℕ) × (k < length numbers) × (get_or numbers k a ≡ a)) → (k : ℕ) × (k < length numbers) × (get_or numbers k 0 ≡ a)
+      by_index (k, within, is) = (k, within, get_or_from_slice_get numbers k (get_or numbers k a) 0 (slice_get-get_or numbers k a within) ∙ is)
 
 -- one more of the numbers has its index
-pub place_more : (numbers places : List ℕ) (i : ℕ) → IsPermutation (range_with_len 0 (length numbers)) numbers → length places ≡ length numbers → i < length numbers
-    → ((k : ℕ) → k < i → rank_in places (get_or numbers k 0) ≡ k) → (k : ℕ) → k < i + 1 → rank_in (set places (get_or numbers i 0) i) (get_or numbers k 0) ≡ k
-place_more numbers places i all count lt so_far k within = by_place (cases_eq k i)
+pub index_more : (numbers indices : List ℕ) (i : ℕ) → IsPermutation (range_with_len 0 (length numbers)) numbers → length indices ≡ length numbers → i < length numbers
+    → ((k : ℕ) → k < i → rank_in indices (get_or numbers k 0) ≡ k) → (k : ℕ) → k < i + 1 → rank_in (set indices (get_or numbers i 0) i) (get_or numbers k 0) ≡ k
+index_more numbers indices i all count lt so_far k within = by_index (cases_eq k i)
   where
     unlike : (m n : ℕ) → eqb m n ≡ false → m ≡ n → ⊥
     unlike m n e h = grind (arith, nat_tests)
 
-    by_place : ((k ≡ i) ⊎ (k ≡ i → ⊥)) → rank_in (set places (get_or numbers i 0) i) (get_or numbers k 0) ≡ k
-    by_place (inl e) =
+    by_index : ((k ≡ i) ⊎ (k ≡ i → ⊥)) → rank_in (set indices (get_or numbers i 0) i) (get_or numbers k 0) ≡ k
+    by_index (inl e) =
         let below = numbers_below (length numbers) numbers all i 0 lt in
-        ap (λ j. rank_in (set places (get_or numbers i 0) i) (get_or numbers j 0)) e ∙ (get_or-set_same places (get_or numbers i 0) i 0 (omega arith) ∙ sym e)
-    by_place (inr n) =
+        ap (λ j. rank_in (set indices (get_or numbers i 0) i) (get_or numbers j 0)) e ∙ (get_or-set_same indices (get_or numbers i 0) i 0 (omega arith) ∙ sym e)
+    by_index (inr n) =
         let other = unlike (get_or numbers k 0) (get_or numbers i 0) (numbers_differ (length numbers) numbers all k i 0 (omega arith) lt) in
-        get_or-set_other places (get_or numbers i 0) (get_or numbers k 0) i 0 other ∙ so_far k (omega arith)
+        get_or-set_other indices (get_or numbers i 0) (get_or numbers k 0) i 0 other ∙ so_far k (omega arith)
 
 -- labels differ, so that those in order ascend
 module _ (pool : List (List ℕ)) (numbers : List ℕ) (all : IsPermutation (range_with_len 0 (length pool)) numbers) where
@@ -129,8 +125,8 @@ module _ (pool : List (List ℕ)) (numbers : List ℕ) (all : IsPermutation (ran
       ascends (get_or numbers k 0) (get_or numbers (k + 1) 0) distinct (numbers_below (length pool) numbers all k 0 (omega arith)) (numbers_below (length pool) numbers all (k + 1) 0 lt)
       (numbers_differ (length pool) numbers all k (k + 1) 0 (omega arith) lt) (sorted k 0 (omega arith) lt))
 
-  at_places : (i j : ℕ) → IsStrictlySortedBy (label_cmp pool) numbers → i < length numbers → j < length numbers → nat_cmp i j ≡ label_cmp pool (get_or numbers i 0) (get_or numbers j 0)
-  at_places i j strict li lj = by_order (nat_cmp i j) refl
+  at_indices : (i j : ℕ) → IsStrictlySortedBy (label_cmp pool) numbers → i < length numbers → j < length numbers → nat_cmp i j ≡ label_cmp pool (get_or numbers i 0) (get_or numbers j 0)
+  at_indices i j strict li lj = by_order (nat_cmp i j) refl
     where
       below : (m n : ℕ) → nat_cmp m n ≡ Less → m < n
       below m n e = grind (arith, nat_tests)
@@ -152,14 +148,14 @@ module _ (pool : List (List ℕ)) (numbers : List ℕ) (all : IsPermutation (ran
           let less = Less-from_sorted (label_cmp pool) numbers j i 0 strict (above i j e) li in
           sym ((label_total pool).antisymm (get_or numbers i 0) (get_or numbers j 0) ∙ ap ordering_reverse less)
 
-  pub ranks_are : (places : List ℕ) → IsStrictlySortedBy (label_cmp pool) numbers → ArePlaces numbers places → RankLabels pool places
-  ranks_are places strict h = record { same = λ a b la lb. by_found a b (numbers_found (length pool) numbers all a la) (numbers_found (length pool) numbers all b lb) }
+  pub ranks_are : (indices : List ℕ) → IsStrictlySortedBy (label_cmp pool) numbers → AreIndices numbers indices → RankLabels pool indices
+  ranks_are indices strict h = record { same = λ a b la lb. by_found a b (numbers_found (length pool) numbers all a la) (numbers_found (length pool) numbers all b lb) }
     where
-      by_found : (a b : ℕ) → ((k : ℕ) × (k < length numbers) × (get_or numbers k 0 ≡ a)) → ((k : ℕ) × (k < length numbers) × (get_or numbers k 0 ≡ b)) → nat_cmp (rank_in places a) (rank_in places b) ≡ label_cmp pool a b
+      by_found : (a b : ℕ) → ((k : ℕ) × (k < length numbers) × (get_or numbers k 0 ≡ a)) → ((k : ℕ) × (k < length numbers) × (get_or numbers k 0 ≡ b)) → nat_cmp (rank_in indices a) (rank_in indices b) ≡ label_cmp pool a b
       by_found a b (i, li, ai) (j, lj, bj) =
-          let rank_a : rank_in places a ≡ i = subst (λ x. rank_in places x ≡ i) ai (h.place i li) in
-          let rank_b : rank_in places b ≡ j = subst (λ x. rank_in places x ≡ j) bj (h.place j lj) in
-          ap (λ x. nat_cmp x (rank_in places b)) rank_a ∙ (ap (nat_cmp i) rank_b ∙ (at_places i j strict li lj ∙ (ap (λ x. label_cmp pool x (get_or numbers j 0)) ai ∙ ap (label_cmp pool a) bj)))
+          let rank_a : rank_in indices a ≡ i = subst (λ x. rank_in indices x ≡ i) ai (h.index i li) in
+          let rank_b : rank_in indices b ≡ j = subst (λ x. rank_in indices x ≡ j) bj (h.index j lj) in
+          ap (λ x. nat_cmp x (rank_in indices b)) rank_a ∙ (ap (nat_cmp i) rank_b ∙ (at_indices i j strict li lj ∙ (ap (λ x. label_cmp pool x (get_or numbers j 0)) ai ∙ ap (label_cmp pool a) bj)))
 
 -- paths compare as the ranks of their labels do
 module _ (pool : List (List ℕ)) (ranks : List ℕ) (h : RankLabels pool ranks) where
@@ -195,15 +191,18 @@ module _ (pool : List (List ℕ)) (ranks : List ℕ) (h : RankLabels pool ranks)
   pub rows_fall : (es : List Entry) (ranked : List Ranked) → All (λ (e : Entry). All (λ n. n < length pool) e.numbers) es → All (IsRanked ranks es) ranked → IsSorted falling_ranks ranked → IsSorted falling (map (ranked_row pool es) ranked)
   rows_fall es rs below each sorted = keys_fall (λ (r : Ranked). r.entry) (λ (r : Ranked). r.ranks.items) es below rs (λ k d lt. (each k d lt).within) (λ k d lt. (each k d lt).along) sorted
 
-  pub labels_fall : (es : List Entry) (ranked : List RankedLabel) → All (λ (e : Entry). All (λ n. n < length pool) e.numbers) es → All (IsRankedLabel ranks es) ranked → IsSorted falling_labels ranked → IsSorted falling (map (label_row pool es) ranked)
-  labels_fall es rs below each sorted =
-      keys_fall (λ (r : RankedLabel). r.entry) (λ (r : RankedLabel). r.rank ∷ []) es below rs (λ k d lt. (each k d lt).within) (λ k d lt. (each k d lt).along)
-      (λ k d low lt. ap is_lt (then_same (nat_cmp (get_or rs k d).rank (get_or rs (k + 1) d).rank)) ∙ sorted k d low lt)
+  pub keyed_fall : (depth : ℕ) (es : List Entry) (keyed : List Keyed) → All (λ (e : Entry). All (λ n. n < length pool) e.numbers) es → All (IsKeyed ranks depth es) keyed → IsSorted falling_keys keyed → IsSorted falling (map (keyed_row pool es) keyed)
+  keyed_fall depth es ks below each sorted =
+      keys_fall (λ (k : Keyed). k.entry) along es below ks (λ k d lt. (each k d lt).within) (λ k d lt. refl)
+      (λ k d low lt. ap is_lt (same_order (get_or ks k d) (get_or ks (k + 1) d) (each k d (omega arith)) (each (k + 1) d lt)) ∙ sorted k d low lt)
     where
-      then_same : (o : Ordering) → ordering_then o Equal ≡ o
-      then_same Less = refl
-      then_same Equal = refl
-      then_same Greater = refl
+      along : Keyed → List ℕ
+      along k = map (rank_in ranks) (get_or es k.entry no_entry).numbers
+
+      same_order : (x y : Keyed) → IsKeyed ranks depth es x → IsKeyed ranks depth es y → slice_cmp nat_cmp (along x) (along y) ≡ nat_cmp x.key y.key
+      same_order x y hx hy =
+          let long : length (along x) ≡ length (along y) = omega (arith, length-map (get_or es x.entry no_entry).numbers (rank_in ranks), length-map (get_or es y.entry no_entry).numbers (rank_in ranks), hx.deep, hy.deep) in
+          sym (ap (λ n. nat_cmp n y.key) hx.key ∙ (ap (nat_cmp (digits_after (length ranks) 0 (along x))) hy.key ∙ digits_cmp (length ranks) (along x) (along y) 0 0 long hx.below hy.below))
 
 map_map : {X Y Z : Type 0} (f : X → Y) (g : Y → Z) (xs : List X) → map (λ x. g (f x)) xs ≡ map g (map f xs)
 map_map f g [] = refl
@@ -223,6 +222,6 @@ pub same_rows : (pool : List (List ℕ)) (es : List Entry) (ranked sorted : List
     → IsPermutation (map (row_of pool) es) (map (ranked_row pool es) sorted)
 same_rows pool es ranked sorted = entry_rows (λ (r : Ranked). r.entry) pool es ranked sorted
 
-pub same_label_rows : (pool : List (List ℕ)) (es : List Entry) (ranked sorted : List RankedLabel) → map (λ (r : RankedLabel). r.entry) ranked ≡ range_with_len 0 (length es) → IsPermutation ranked sorted
-    → IsPermutation (map (row_of pool) es) (map (label_row pool es) sorted)
-same_label_rows pool es ranked sorted = entry_rows (λ (r : RankedLabel). r.entry) pool es ranked sorted
+pub same_keyed_rows : (pool : List (List ℕ)) (es : List Entry) (keyed sorted : List Keyed) → map (λ (k : Keyed). k.entry) keyed ≡ range_with_len 0 (length es) → IsPermutation keyed sorted
+    → IsPermutation (map (row_of pool) es) (map (keyed_row pool es) sorted)
+same_keyed_rows pool es keyed sorted = entry_rows (λ (k : Keyed). k.entry) pool es keyed sorted

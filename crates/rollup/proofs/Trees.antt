@@ -14,7 +14,7 @@ use Rattle.rollup.specs.Parts.{Parts, alone}
 use Rattle.rollup.specs.Rows.{AreMerged, FitTogether, larger, with_row, with_row_by, with_rows}
 use Rattle.rollup.proofs.Merging.{BeginsAbove, Strict, below_then, strict_front, turned, with_first}
 
-all_middle : (P : RollupRow → Type 0) (xs : List RollupRow) (q : RollupRow) (ys : List RollupRow) → AllByRecursion P (xs ++ q ∷ ys) → P q
+pub all_middle : (P : RollupRow → Type 0) (xs : List RollupRow) (q : RollupRow) (ys : List RollupRow) → AllByRecursion P (xs ++ q ∷ ys) → P q
 all_middle P [] q ys h = h.0
 all_middle P (x ∷ xs) q ys h = all_middle P xs q ys h.1
 
@@ -60,58 +60,22 @@ length-with_row (q ∷ qs) r = by_order (row_cmp q r) (length-with_row qs r)
     by_order Equal h = omega arith
     by_order Greater h = omega arith
 
--- the sizes of a part fit where all fit
-part_sum : (f : RollupRow → ℕ) (xs : List RollupRow) (q : RollupRow) (ys : List RollupRow) → sum_by f (xs ++ q ∷ ys) ≡ sum_by f xs + (f q + sum_by f ys)
+-- the sizes of a part fit if all fit
+pub part_sum : (f : RollupRow → ℕ) (xs : List RollupRow) (q : RollupRow) (ys : List RollupRow) → sum_by f (xs ++ q ∷ ys) ≡ sum_by f xs + (f q + sum_by f ys)
 part_sum f xs q ys = omega (arith, sum_by-append f xs (q ∷ ys), sum_by-cons f q ys)
 
-pub low_fits : (xs : List RollupRow) (q : RollupRow) (ys others : List RollupRow) → FitTogether (xs ++ q ∷ ys) others → FitTogether xs others
-low_fits xs q ys others h = record {
-  vm = omega (arith, part_sum (λ (r : RollupRow). r.vm) xs q ys, h.vm);
-  file = omega (arith, part_sum (λ (r : RollupRow). r.file) xs q ys, h.file);
-}
-
-pub high_fits : (xs : List RollupRow) (q : RollupRow) (ys others : List RollupRow) → FitTogether (xs ++ q ∷ ys) others → FitTogether ys others
-high_fits xs q ys others h = record {
-  vm = omega (arith, part_sum (λ (r : RollupRow). r.vm) xs q ys, h.vm);
-  file = omega (arith, part_sum (λ (r : RollupRow). r.file) xs q ys, h.file);
-}
-
--- rows after others stay in order, and the first of them is above the last of those
+-- the last of rows in order are in order
 pub back_strict : (xs ys : List RollupRow) → Strict (xs ++ ys) → Strict ys
 unfolding IsStrictlySortedBy
 back_strict [] ys t = t
 back_strict (x ∷ xs) ys t = back_strict xs ys t.1
 
-pub begins_above : (xs : List RollupRow) (r : RollupRow) (ys : List RollupRow) → Strict (xs ++ r ∷ ys) → BeginsAbove ys r
-unfolding IsStrictlySortedBy
-begins_above [] r [] t = tt
-begins_above [] r (y ∷ ys) t = turned r y Less t.0.0
-begins_above (x ∷ xs) r ys t = begins_above xs r ys t.1
-
--- the last row of a list goes before the rows that come after the list
-pub planted : (list rest rows out all : List RollupRow) (r : RollupRow) → list ≡ rest ++ r ∷ [] → out ≡ with_row rows r → Strict (list ++ rows) → list ++ rows ≡ all → rest ++ out ≡ all
-planted list rest rows out all r e made t so_far =
-    let parts : list ++ rows ≡ rest ++ r ∷ rows = ap (λ l. l ++ rows) e ∙ append_assoc rest (r ∷ []) rows in
-    ap (λ l. rest ++ l) (made ∙ with_first rows r (begins_above rest r rows (subst Strict parts t))) ∙ (sym parts ∙ so_far)
-
--- what two functions make of all items they make of the items before the last one
+-- the first item of a list, and the others
 cons_first : {V : Type 0} {a b : V} {xs ys : List V} → a ∷ xs ≡ b ∷ ys → a ≡ b
 cons_first e = cc
 
 cons_rest : {V : Type 0} {a b : V} {xs ys : List V} → a ∷ xs ≡ b ∷ ys → xs ≡ ys
 cons_rest e = cc
-
-parted : {V : Type 0} (xs ys : List V) (x y : V) → length xs ≡ length ys → xs ++ x ∷ [] ≡ ys ++ y ∷ [] → xs ≡ ys
-parted [] [] x y n e = refl
-parted [] (v ∷ ys) x y n e = absurd (omega (arith, n))
-parted (u ∷ xs) [] x y n e = absurd (omega (arith, n))
-parted (u ∷ xs) (v ∷ ys) x y n e =
-    ap (λ w. w ∷ xs) (cons_first e) ∙ ap (λ l. v ∷ l) (parted xs ys x y (omega (arith, n)) (cons_rest e))
-
-pub same_before : {B V : Type 0} (f g : B → V) (items rest : List B) (b : B) → items ≡ rest ++ b ∷ [] → map f items ≡ map g items → map f rest ≡ map g rest
-same_before f g items rest b e same =
-    parted (map f rest) (map g rest) (f b) (g b) (length-map rest f ∙ sym (length-map rest g))
-    (sym (map-append f rest (b ∷ [])) ∙ (ap (map f) (sym e) ∙ (same ∙ (ap (map g) e ∙ map-append g rest (b ∷ [])))))
 
 -- a branch alone is made of its row
 pub alone_each : {B : Type 0} (value : B → Parts) (branches : List B) (rows : List RollupRow) → map value branches ≡ map alone rows

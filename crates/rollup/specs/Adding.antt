@@ -13,11 +13,11 @@ use Rattle.dual_map.specs.Layout.{Maps}
 use Rattle.rollup.specs.declared.table.RollupRow.{RollupRow}
 use Rattle.rollup.specs.Totals.{path_cmp}
 
--- the numbers of the labels that maps give a position; over one base each map has a label where another has one
+-- the numbers of the labels that maps give a position; over one base a map has a label if another one has one
 abbrev pub numbers_at : List (List Piece) → ℕ → List ℕ
 numbers_at maps x = map (λ (ps : List Piece). unwrap_or (label_in ps x) 0) maps
 
--- labels pass where there is no filter, or one of them is marked true
+-- labels pass if there is no filter, or one of them is marked true
 abbrev pub passes : Option (List Bool) → List ℕ → Bool
 passes None numbers = true
 passes (Some marks) numbers = list_any (λ n. slice_index_or marks n false) numbers

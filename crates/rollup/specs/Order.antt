@@ -1,11 +1,11 @@
 -- Labels and paths by their ranks.
-use Rattle.std.specs.Prelude.{◌≡◌, ◌<◌, ℕ, List, [], ◌∷◌, map, length, slice_index_or}
+use Rattle.std.specs.Prelude.{◌≡◌, ◌+◌, ◌*◌, ◌<◌, ℕ, List, [], ◌∷◌, All, map, length, slice_index_or}
 use Rattle.std.specs.Cmp.Lexicographic.{slice_cmp}
 use Rattle.std.specs.Ordering.{nat_cmp}
 use Rattle.std.specs.declared.cmp.Ordering.{Ordering}
 use Rattle.size_model.specs.Numbered.{text_of}
 use Rattle.rollup.specs.declared.fresh.Ranked.{Ranked}
-use Rattle.rollup.specs.declared.fresh.RankedLabel.{RankedLabel}
+use Rattle.rollup.specs.declared.fresh.Keyed.{Keyed}
 use Rattle.rollup.specs.declared.order.WordedLabel.{WordedLabel}
 use Rattle.rollup.specs.declared.table.RollupRow.{RollupRow}
 use Rattle.rollup.specs.Words.{word_after}
@@ -32,9 +32,9 @@ abbrev pub rank_in : List ℕ → ℕ → ℕ
 rank_in ranks n = slice_index_or ranks n 0
 
 -- at each number is its index in a list
-pub record ArePlaces (numbers places : List ℕ) : Type 0 where
-  pub count : length places ≡ length numbers
-  pub place : (k : ℕ) → k < length numbers → rank_in places (slice_index_or numbers k 0) ≡ k
+pub record AreIndices (numbers indices : List ℕ) : Type 0 where
+  pub count : length indices ≡ length numbers
+  pub index : (k : ℕ) → k < length numbers → rank_in indices (slice_index_or numbers k 0) ≡ k
 
 -- the ranks of labels compare as the labels do
 pub record RankLabels (pool : List (List ℕ)) (ranks : List ℕ) : Type 0 where
@@ -53,15 +53,22 @@ falling_ranks a b = slice_cmp nat_cmp b.ranks.items a.ranks.items
 abbrev pub ranked_row : List (List ℕ) → List Entry → Ranked → RollupRow
 ranked_row pool es r = row_of pool (slice_index_or es r.entry no_entry)
 
--- an entry of one number with its rank
-pub record IsRankedLabel (ranks : List ℕ) (es : List Entry) (r : RankedLabel) : Type 0 where
-  pub within : r.entry < length es
-  pub along : r.rank ∷ [] ≡ map (rank_in ranks) (slice_index_or es r.entry no_entry).numbers
+-- numbers as digits to a base, after a number
+abbrev pub digits_after : ℕ → ℕ → List ℕ → ℕ
+digits_after base n [] = n
+digits_after base n (x ∷ xs) = digits_after base (n * base + x) xs
 
--- the greater rank comes first
-abbrev pub falling_labels : RankedLabel → RankedLabel → Ordering
-falling_labels a b = nat_cmp b.rank a.rank
+-- an entry of so many numbers, whose ranks are the digits of its key; there are no digits but those below the base
+pub record IsKeyed (ranks : List ℕ) (depth : ℕ) (es : List Entry) (k : Keyed) : Type 0 where
+  pub within : k.entry < length es
+  pub deep : length (slice_index_or es k.entry no_entry).numbers ≡ depth
+  pub below : All (λ r. r < length ranks) (map (rank_in ranks) (slice_index_or es k.entry no_entry).numbers)
+  pub key : k.key ≡ digits_after (length ranks) 0 (map (rank_in ranks) (slice_index_or es k.entry no_entry).numbers)
 
--- the row of an entry with its rank
-abbrev pub label_row : List (List ℕ) → List Entry → RankedLabel → RollupRow
-label_row pool es r = row_of pool (slice_index_or es r.entry no_entry)
+-- the greater key comes first
+abbrev pub falling_keys : Keyed → Keyed → Ordering
+falling_keys a b = nat_cmp b.key a.key
+
+-- the row of a keyed entry
+abbrev pub keyed_row : List (List ℕ) → List Entry → Keyed → RollupRow
+keyed_row pool es k = row_of pool (slice_index_or es k.entry no_entry)

@@ -1,6 +1,6 @@
 -- Rows in order, and rows that are inserted into them.
-use Rattle.std.specs.Prelude.{◌≡◌, ◌+◌, ◌≤◌, ◌^◌, ◌-◌, ℕ, Bool, true, false, if◌then◌else◌, List, [], ◌∷◌, ◌++◌}
-use Rattle.std.specs.List.{sum_by}
+use Rattle.std.specs.Prelude.{◌≡◌, ◌+◌, ◌<◌, ◌≤◌, ◌^◌, ◌-◌, ◌⊎◌, ℕ, Bool, true, false, if◌then◌else◌, List, [], ◌∷◌, ◌++◌, length, slice_index_or}
+use Rattle.std.specs.List.{sum_by, AllByRecursion}
 use Rattle.std.specs.List.Sorted.{IsPartitionPoint, IsPermutation}
 use Rattle.std.specs.Ordering.{is_gt, is_le, is_lt}
 use Rattle.std.specs.declared.cmp.Ordering.{Ordering}
@@ -89,3 +89,29 @@ Climbs (r ∷ s ∷ rs) = (is_lt (row_cmp s r) ≡ false) × Climbs (s ∷ rs)
 pub record FitTogether (rows others : List RollupRow) : Type 0 where
   pub vm : sum_by (λ (r : RollupRow). r.vm) rows + sum_by (λ (r : RollupRow). r.vm) others ≤ 2 ^ 63 - 1
   pub file : sum_by (λ (r : RollupRow). r.file) rows + sum_by (λ (r : RollupRow). r.file) others ≤ 2 ^ 63 - 1
+
+-- rows are those below a row q and those above it; the row stays as it is
+pub record Misses (q grown : RollupRow) (rows low high : List RollupRow) : Type 0 where
+  pub parts : rows ≡ low ++ high
+  pub kept : grown ≡ q
+
+-- between them is a row with the path of q, whose sizes are added to it
+pub record Meets (q grown : RollupRow) (rows low high : List RollupRow) : Type 0 where
+  pub row : RollupRow
+  pub parts : rows ≡ low ++ row ∷ high
+  pub equal : row_cmp q row ≡ Equal
+  pub sum : grown ≡ larger q row
+
+-- rows are split at a row q
+pub record IsSplit (q grown : RollupRow) (rows low high : List RollupRow) : Type 0 where
+  pub below : AllByRecursion (λ r. row_cmp q r ≡ Greater) low
+  pub above : AllByRecursion (λ r. row_cmp q r ≡ Less) high
+  pub same : Misses q grown rows low high ⊎ Meets q grown rows low high
+
+-- a row is above the next one
+abbrev pub RisesAt : List RollupRow → ℕ → Type 0
+RisesAt rows k = (d : RollupRow) → row_cmp (slice_index_or rows (k + 1) d) (slice_index_or rows k d) ≡ Less
+
+-- each row from an index on is above the next one
+abbrev pub RisesFrom : List RollupRow → ℕ → Type 0
+RisesFrom rows n = (k : ℕ) → n ≤ k → k + 1 < length rows → RisesAt rows k

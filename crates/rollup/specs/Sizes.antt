@@ -1,11 +1,12 @@
 -- Sizes by the numbers of labels, as a walk gathers them.
-use Rattle.std.specs.Prelude.{◌≡◌, ◌+◌, ◌<◌, ℕ, Bool, true, false, ◌&&◌, nat_le, if◌then◌else◌, List, [], ◌∷◌, ◌++◌, map, All, length, slice_index_or, slice_set, ◌⊎◌, Option}
+use Rattle.std.specs.Prelude.{◌≡◌, ◌+◌, ◌<◌, ℕ, Bool, true, false, ◌&&◌, nat_le, if◌then◌else◌, List, [], ◌∷◌, ◌++◌, map, All, drop, length, slice_index_or, slice_set, take, ◌⊎◌, Option}
 use Rattle.std.specs.List.{list_all, sum_by}
 use Rattle.size_model.specs.Numbered.{text_of}
 use Rattle.rollup.specs.declared.cursor.Cursor.{Cursor}
 use Rattle.rollup.specs.declared.cursor.Part.{Part}
 use Rattle.rollup.specs.declared.cursor.Part.TheVariants.{File, Vm}
 use Rattle.rollup.specs.declared.sizes.LabelSize.{LabelSize}
+use Rattle.rollup.specs.declared.sizes.ListSize.{ListSize}
 use Rattle.rollup.specs.declared.sizes.Sizes.{Sizes}
 use Rattle.rollup.specs.declared.table.RollupRow.{RollupRow}
 use Rattle.rollup.specs.Adding.{passes}
@@ -28,10 +29,14 @@ entry_of numbers s = record { numbers = numbers; vm = s.vm; file = s.file }
 abbrev pub entry_of_label : LabelSize → Entry
 entry_of_label s = entry_of (s.label ∷ []) s.sizes
 
--- the sizes of a number are at this index
-pub record IsIndexOf (label : ℕ) (es : List Entry) (i : ℕ) : Type 0 where
+-- the entry of a list, which is a part of the numbers of all lists
+abbrev pub entry_of_list : List ℕ → ListSize → Entry
+entry_of_list ns s = entry_of (take s.len (drop s.first ns)) s.sizes
+
+-- the sizes of a list are at this index
+pub record IsIndexOf (numbers : List ℕ) (es : List Entry) (i : ℕ) : Type 0 where
   pub within : i < length es
-  pub there : (slice_index_or es i no_entry).numbers ≡ label ∷ []
+  pub there : (slice_index_or es i no_entry).numbers ≡ numbers
 
 -- one of the two sizes
 abbrev pub size_in : Part → Entry → ℕ
@@ -73,7 +78,7 @@ pub record IsGrownAt (part : Part) (numbers : List ℕ) (size : ℕ) (old new : 
   pub there : (slice_index_or old i no_entry).numbers ≡ numbers
   pub set : new ≡ slice_set old i (grown part size (slice_index_or old i no_entry))
 
--- The entry of these labels grew, or it was appended, since there was none.
+-- An entry of these labels grew, or one was appended.
 abbrev pub IsGrown : Part → List ℕ → ℕ → List Entry → List Entry → Type 0
 IsGrown part numbers size old new = ((i : ℕ) × IsGrownAt part numbers size old new i) ⊎ (new ≡ old ++ entry_of numbers (sizes_of part size) ∷ [])
 

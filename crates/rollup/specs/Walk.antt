@@ -25,7 +25,7 @@ no_maps = record { file = []; vm = [] }
 abbrev pub no_cursor : Cursor
 no_cursor = record { passed = 0; start = 0; end = 0; label = 0 }
 
--- the cursor after so many pieces; where no piece is left, it is at the greatest number
+-- the cursor after so many pieces; if no piece is left, it is at the greatest number
 abbrev pub cursor_at : ℕ → Option Piece → Cursor
 cursor_at passed None = record { passed = passed; start = 2 ^ 128 - 1; end = 2 ^ 128 - 1; label = 0 }
 cursor_at passed (Some p) = record { passed = passed; start = p.start; end = end_of p; label = p.label }

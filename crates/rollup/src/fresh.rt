@@ -5,7 +5,7 @@ ghost use Rattle.std.specs.List.{range_with_len};
 ghost use Rattle.std.specs.Option.{ForSome};
 ghost use Rattle.std.specs.List.Sorted.{IsPermutation, IsSorted};
 ghost use Rattle.size_model.specs.Numbered.{text_of};
-ghost use Rattle.rollup.specs.Order.{IsRanked, IsRankedLabel, RankLabels, falling_labels, falling_ranks, label_row, rank_in, ranked_row};
+ghost use Rattle.rollup.specs.Order.{IsKeyed, IsRanked, RankLabels, digits_after, falling_keys, falling_ranks, keyed_row, rank_in, ranked_row};
 ghost use Rattle.rollup.specs.Rows.{FitTogether, falling};
 ghost use Rattle.rollup.specs.Sizes.{Entry, no_entry, row_of};
 
@@ -22,10 +22,10 @@ pub struct Ranked {
     pub entry: usize,
 }
 
-/// An entry of one label, and the rank of the label.
+/// An entry, and the ranks of its labels as the digits of one number.
 #[derive(Clone, Copy)]
-pub struct RankedLabel {
-    pub rank: usize,
+pub struct Keyed {
+    pub key: usize,
     pub entry: usize,
 }
 
@@ -119,74 +119,111 @@ fn rows_of(
     Ok(rows)
 }
 
-// The entries with their ranks, if each has exactly one label.
-fn ranked_labels(
+// The ranks of labels as the digits of one number, or `None` if that number is too large.
+fn key_of(ranks: &[usize], numbers: &[usize]) -> Option<usize>
+    ensures digits { ForSome result
+        (λ key. key ≡ digits_after (length ranks.now) 0 (map (rank_in ranks.now) numbers.now)) }
+    ensures below { ForSome result
+        (λ _. All (λ r. r < length ranks.now) (map (rank_in ranks.now) numbers.now)) }
+{
+    let base = ranks.len();
+    let mut key = 0usize;
+    for number in numbers {
+        let rank = rank_at(ranks, *number);
+        if rank >= base {
+            return None;
+        }
+        key = key.checked_mul(base)?.checked_add(rank)?;
+    }
+    Some(key)
+}
+
+// How many labels the first entry has.
+fn first_depth(sizes: &PathSizes) -> usize {
+    if sizes.len() == 0 {
+        return 0;
+    }
+    let (numbers, _) = sizes.get(0);
+    numbers.len()
+}
+
+// The entries with their keys, if each has one and has `depth` labels.
+fn keyed_entries(
     alloc: Global,
     ranks: &[usize],
     sizes: &PathSizes,
-) -> Result<Option<Vec<RankedLabel>>, AllocError>
-    ensures entries { IfOk result (λ o. ForSome o (λ v. map (λ (r : RankedLabel). r.entry) v.items ≡ range_with_len 0 (length sizes.now))) }
-    ensures ranks { IfOk result (λ o. ForSome o (λ v. All (IsRankedLabel ranks.now sizes.now) v.items)) }
+    depth: usize,
+) -> Result<Option<Vec<Keyed>>, AllocError>
+    ensures entries { IfOk result (λ o. ForSome o
+        (λ v. map (λ (k : Keyed). k.entry) v.items ≡ range_with_len 0 (length sizes.now))) }
+    ensures keys { IfOk result (λ o. ForSome o
+        (λ v. All (IsKeyed ranks.now depth sizes.now) v.items)) }
 {
-    let mut ranked = Vec::with_capacity(alloc, sizes.len())?;
+    let mut keyed = Vec::with_capacity(alloc, sizes.len())?;
     for entry in 0..sizes.len() {
         let (numbers, _) = sizes.get(entry);
-        if numbers.len() != 1 {
+        if numbers.len() != depth {
             return Ok(None);
         }
-        let rank = rank_at(ranks, numbers[0]);
-        ranked.push(RankedLabel { rank, entry })?;
+        let Some(key) = key_of(ranks, numbers) else {
+            return Ok(None);
+        };
+        keyed.push(Keyed { key, entry })?;
     }
-    Ok(Some(ranked))
+    Ok(Some(keyed))
 }
 
-// Sorts the greatest label first.
-fn sort_labels(ranked: &mut Vec<RankedLabel>)
-    ensures same { IsPermutation ranked.old.items ranked.new.items }
-    ensures sorted { IsSorted falling_labels ranked.new.items }
+// Sorts the greatest key first.
+fn sort_keyed(keyed: &mut Vec<Keyed>)
+    ensures same { IsPermutation keyed.old.items keyed.new.items }
+    ensures sorted { IsSorted falling_keys keyed.new.items }
 {
-    ranked.sort_unstable_by(|a, b| b.rank.cmp(&a.rank));
+    keyed.sort_unstable_by(|a, b| b.key.cmp(&a.key));
 }
 
-// The rows of entries of one label each, in the order of the ranked entries.
-fn rows_of_labels(
+// The rows of keyed entries, in the same order.
+fn rows_of_keyed(
     alloc: Global,
     pool: &LabelPool,
     sizes: &PathSizes,
-    ranked: &[RankedLabel],
+    keyed: &[Keyed],
 ) -> Result<Vec<RollupRow>, NoMemory>
-    requires within { All (λ (r : RankedLabel). r.entry < length sizes.now) ranked.now }
+    requires within { All (λ (k : Keyed). k.entry < length sizes.now) keyed.now }
     requires below { All (λ (e : Entry). All (λ n. n < length pool.now) e.numbers) sizes.now }
     requires vm { All (λ (e : Entry). e.vm < 2 ^ 64) sizes.now }
     requires file { All (λ (e : Entry). e.file < 2 ^ 64) sizes.now }
-    ensures { IfOk result (λ v. v.items ≡ map (label_row pool.now sizes.now) ranked.now) }
+    ensures { IfOk result (λ v. v.items ≡ map (keyed_row pool.now sizes.now) keyed.now) }
 {
-    let mut rows = Vec::with_capacity(alloc, ranked.len())?;
-    for entry in ranked {
+    let mut rows = Vec::with_capacity(alloc, keyed.len())?;
+    for entry in keyed {
         rows.push(row_at(alloc, pool, sizes, entry.entry)?)?;
     }
     Ok(rows)
 }
 
-// The rows of entries of one label each, the greatest label first. Ranks are compared as plain numbers here, and no
-// entry needs a vector for its ranks.
-fn label_rows(
+// The rows of a file, the greatest path first, if each entry has a key: keys are compared as plain numbers, and no entry
+// needs a vector for its ranks.
+fn keyed_rows(
     alloc: Global,
     pool: &LabelPool,
     sizes: &PathSizes,
     ranks: &[usize],
-    mut ranked: Vec<RankedLabel>,
-) -> Result<Vec<RollupRow>, NoMemory>
+) -> Result<Option<Vec<RollupRow>>, NoMemory>
     requires below { All (λ (e : Entry). All (λ n. n < length pool.now) e.numbers) sizes.now }
     requires fits { FitTogether [] (map (row_of pool.now) sizes.now) }
     requires labels { RankLabels pool.now ranks.now }
-    requires entries { map (λ (r : RankedLabel). r.entry) ranked.items ≡ range_with_len 0 (length sizes.now) }
-    requires ranks { All (IsRankedLabel ranks.now sizes.now) ranked.items }
-    ensures same { IfOk result (λ v. IsPermutation (map (row_of pool.now) sizes.now) v.items) }
-    ensures falls { IfOk result (λ v. IsSorted falling v.items) }
+    ensures same { IfOk result (λ o. ForSome o
+        (λ v. IsPermutation (map (row_of pool.now) sizes.now) v.items)) }
+    ensures falls { IfOk result (λ o. ForSome o
+        (λ v. IsSorted falling v.items)) }
 {
-    sort_labels(&mut ranked);
-    rows_of_labels(alloc, pool, sizes, ranked.as_slice())
+    let depth = first_depth(sizes);
+    let Some(mut keyed) = keyed_entries(alloc, ranks, sizes, depth)? else {
+        return Ok(None);
+    };
+    sort_keyed(&mut keyed);
+    let rows = rows_of_keyed(alloc, pool, sizes, keyed.as_slice())?;
+    Ok(Some(rows))
 }
 
 /// The rows of a file, the greatest path first.
@@ -201,8 +238,8 @@ pub fn new_rows(
     ensures falls { IfOk result (λ v. IsSorted falling v.items) }
 {
     let ranks = ranks_of(alloc, pool)?;
-    if let Some(labels) = ranked_labels(alloc, ranks.as_slice(), sizes)? {
-        return label_rows(alloc, pool, sizes, ranks.as_slice(), labels);
+    if let Some(rows) = keyed_rows(alloc, pool, sizes, ranks.as_slice())? {
+        return Ok(rows);
     }
     let mut ranked = ranked_entries(alloc, ranks.as_slice(), sizes)?;
     sort_falling(&mut ranked)?;

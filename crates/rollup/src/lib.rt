@@ -5,6 +5,7 @@ mod answer;
 mod cursor;
 mod file;
 mod fresh;
+mod hints;
 mod merge;
 mod order;
 mod ordered;

@@ -14,9 +14,9 @@ use std::alloc::Global;
 use std::cmp::Ordering;
 
 // Keeps the first `kept` rows and moves the others to the end of another list, the last row first.
-fn move_behind(rows: &mut Vec<RollupRow>, kept: usize, to: &mut Vec<RollupRow>)
+fn move_after(rows: &mut Vec<RollupRow>, kept: usize, to: &mut Vec<RollupRow>)
     requires kept { kept ≤ vec_len rows.old }
-    requires room { vec_len to.old + (vec_len rows.old - kept) ≤ vec_capacity to.old }
+    requires spare { vec_len to.old + (vec_len rows.old - kept) ≤ vec_capacity to.old }
     ensures rows { rows.new.items ≡ take kept rows.old.items }
     ensures to { to.new.items ≡ to.old.items ++ reverse (drop kept rows.old.items) }
     ensures rows_len { vec_len rows.new ≡ kept }
@@ -74,7 +74,7 @@ fn enlarge(rows: &mut Vec<RollupRow>, row: &RollupRow)
 
 // Adds a row at the end. If the last row has the same path, the sizes are added to it.
 fn push(rows: &mut Vec<RollupRow>, row: RollupRow)
-    requires room { vec_len rows.old < vec_capacity rows.old }
+    requires spare { vec_len rows.old < vec_capacity rows.old }
     requires fits { FitTogether rows.old.items (row ∷ []) }
     ensures rows { rows.new.items ≡ pushed rows.old.items row }
     ensures len { vec_len rows.new ≤ vec_len rows.old + 1 }
@@ -90,24 +90,24 @@ fn push(rows: &mut Vec<RollupRow>, row: RollupRow)
 // Inserts a row into sorted rows, of which the upper ones are in a list of their own, the greatest first. Those of
 // them that are not above the new row are moved back first.
 fn insert(rows: &mut Vec<RollupRow>, above: &mut Vec<RollupRow>, row: RollupRow)
-    requires room { vec_len rows.old + vec_len above.old < vec_capacity rows.old }
+    requires spare { vec_len rows.old + vec_len above.old < vec_capacity rows.old }
     requires ordered { IsStrictlySortedBy row_cmp (rows.old.items ++ reverse above.old.items) }
     requires ends { EndsUpto rows.old.items row }
     requires fits { FitTogether (rows.old.items ++ reverse above.old.items) (row ∷ []) }
     ensures rows { rows.new.items ++ reverse above.new.items
         ≡ with_row (rows.old.items ++ reverse above.old.items) row }
     ensures ends { (s : RollupRow) → is_lt (row_cmp s row) ≡ false → EndsUpto rows.new.items s }
-    ensures room { vec_len rows.new + vec_len above.new ≤ vec_len rows.old + vec_len above.old + 1 }
+    ensures spare { vec_len rows.new + vec_len above.new ≤ vec_len rows.old + vec_len above.old + 1 }
     ensures capacity { vec_capacity rows.new ≡ vec_capacity rows.old }
 {
     let kept = count_above(above.as_slice(), &row.path);
-    move_behind(above, kept, rows);
+    move_after(above, kept, rows);
     push(rows, row);
 }
 
 // Inserts all rows. The last one is the least.
 fn insert_all(rows: &mut Vec<RollupRow>, mut above: Vec<RollupRow>, mut new: Vec<RollupRow>)
-    requires room { vec_len rows.old + vec_len above + vec_len new ≤ vec_capacity rows.old }
+    requires spare { vec_len rows.old + vec_len above + vec_len new ≤ vec_capacity rows.old }
     requires ordered { IsStrictlySortedBy row_cmp (rows.old.items ++ reverse above.items) }
     requires climbs { Climbs (reverse new.items) }
     requires ends { EndsUptoFirst rows.old.items (reverse new.items) }
@@ -117,7 +117,7 @@ fn insert_all(rows: &mut Vec<RollupRow>, mut above: Vec<RollupRow>, mut new: Vec
     while let Some(row) = new.pop() {
         insert(rows, &mut above, row);
     }
-    move_behind(&mut above, 0, rows);
+    move_after(&mut above, 0, rows);
 }
 
 // How many of the old rows are not above the least new row, which is the last one.
@@ -144,7 +144,7 @@ pub fn merge(alloc: Global, rows: &mut Vec<RollupRow>, new: Vec<RollupRow>) -> R
     rows.reserve(new.len())?;
     let kept = count_below(rows.as_slice(), new.as_slice());
     let mut above = Vec::with_capacity(alloc, rows.len() - kept)?;
-    move_behind(rows, kept, &mut above);
+    move_after(rows, kept, &mut above);
     insert_all(rows, above, new);
     Ok(())
 }

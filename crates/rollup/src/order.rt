@@ -8,7 +8,7 @@ ghost use Rattle.std.specs.List.Sorted.{IsPermutation, IsSorted, IsStrictlySorte
 ghost use Rattle.std.specs.Ordering.{nat_cmp};
 ghost use Rattle.size_model.specs.Numbered.{text_of};
 ghost use Rattle.rollup.specs.Totals.{path_cmp};
-ghost use Rattle.rollup.specs.Order.{ArePlaces, IsWorded, RankLabels, label_cmp, rank_in, worded_cmp};
+ghost use Rattle.rollup.specs.Order.{AreIndices, IsWorded, RankLabels, label_cmp, rank_in, worded_cmp};
 
 use crate::prefix::word_of_label;
 use size_core::{Bytes, LabelPool, NoMemory, Path};
@@ -113,15 +113,15 @@ fn numbers_in_order(alloc: Global, pool: &LabelPool) -> Result<Vec<usize>, NoMem
 }
 
 // The index of each number in this list.
-fn places_of(alloc: Global, numbers: &[usize]) -> Result<Vec<usize>, NoMemory>
+fn indices_of(alloc: Global, numbers: &[usize]) -> Result<Vec<usize>, NoMemory>
     requires { IsPermutation (range_with_len 0 (length numbers.now)) numbers.now }
-    ensures { IfOk result (λ v. ArePlaces numbers.now v.items) }
+    ensures { IfOk result (λ v. AreIndices numbers.now v.items) }
 {
-    let mut places = Vec::from_elem(alloc, 0, numbers.len())?;
-    for (place, number) in numbers.iter().enumerate() {
-        places[*number] = place;
+    let mut indices = Vec::from_elem(alloc, 0, numbers.len())?;
+    for (index, number) in numbers.iter().enumerate() {
+        indices[*number] = index;
     }
-    Ok(places)
+    Ok(indices)
 }
 
 /// The rank of each label in a pool, in the order of their bytes.
@@ -129,7 +129,7 @@ pub fn ranks_of(alloc: Global, pool: &LabelPool) -> Result<Vec<usize>, NoMemory>
     ensures { IfOk result (λ v. RankLabels pool.now v.items) }
 {
     let numbers = numbers_in_order(alloc, pool)?;
-    places_of(alloc, numbers.as_slice())
+    indices_of(alloc, numbers.as_slice())
 }
 
 /// The rank of the label with a number.

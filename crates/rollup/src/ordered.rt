@@ -8,8 +8,9 @@ ghost use Rattle.rollup.specs.Rows.{AreMerged, FitTogether, falling, with_rows};
 ghost use Rattle.rollup.specs.Tree.{rows_in};
 
 use crate::merge::merge;
+use crate::order::compare_paths;
 use crate::table::RollupRow;
-use crate::tree::{Branch, Tree, insert};
+use crate::tree::{Branch, Tree, build, join, rising, unite};
 use size_core::NoMemory;
 use std::alloc::Global;
 use std::boxed::Box;
@@ -17,9 +18,9 @@ use std::marker::Model;
 use std::mem;
 
 /// Rows in the order of their paths, each path once. They are in a sorted list as long as each file adds many rows in
-/// proportion to those already there, since a merge then moves few rows for each new one. Otherwise all rows are moved
-/// into a balanced tree, where a new row moves no other. While they are being moved, the rows of the list are below those
-/// of the tree.
+/// proportion to those already there, or rows above all of them, since a merge then moves few rows for each new one.
+/// Otherwise all rows are moved into a balanced tree, which is united with a tree of the new rows. While they are being
+/// moved, the rows of the list are below those of the tree.
 #[derive(Debug, Drop)]
 pub struct OrderedRows {
     list: Vec<RollupRow>,
@@ -55,8 +56,6 @@ fn branches_of(alloc: Global, rows: Vec<RollupRow>) -> Result<Vec<Box<Branch>>, 
 
 // Moves all rows of a list into a tree whose rows are above them. After an error some may have been moved.
 fn plant(alloc: Global, list: &mut Vec<RollupRow>, tree: &mut Tree) -> Result<(), NoMemory>
-    requires ordered { IsStrictlySortedBy row_cmp (list.old.items ++ rows_in tree.old) }
-    requires fits { FitTogether (list.old.items ++ rows_in tree.old) [] }
     requires count { length list.old.items + length (rows_in tree.old) < 2 ^ 64 }
     ensures same { list.new.items ++ rows_in tree.new ≡ list.old.items ++ rows_in tree.old }
     ensures all { OnOk result (list.new.items ≡ []) }
@@ -65,7 +64,7 @@ fn plant(alloc: Global, list: &mut Vec<RollupRow>, tree: &mut Tree) -> Result<()
         match Branch::of(alloc, row) {
             Ok(branch) => {
                 let rows = mem::replace(tree, Tree::Leaf);
-                *tree = Tree::Fork(insert(rows, branch));
+                *tree = Tree::Fork(join(Tree::Leaf, branch, rows));
             }
             Err(row) => {
                 list.push_reserved(row);
@@ -78,16 +77,33 @@ fn plant(alloc: Global, list: &mut Vec<RollupRow>, tree: &mut Tree) -> Result<()
 
 // Inserts the rows of branches into a tree, the last one first.
 fn insert_all(tree: &mut Tree, mut branches: Vec<Box<Branch>>)
-    requires alone { map (λ b. b.value) branches.items ≡ map (λ b. alone b.value.row) branches.items }
+    requires alone { map (λ b. b.value) branches.items
+        ≡ map (λ b. alone b.value.row) branches.items }
     requires ordered { IsStrictlySortedBy row_cmp (rows_in tree.old) }
     requires fits { FitTogether (rows_in tree.old) (map (λ b. b.value.row) branches.items) }
     requires count { length (rows_in tree.old) + length branches.items < 2 ^ 64 }
-    ensures { rows_in tree.new ≡ with_rows (rows_in tree.old) (reverse (map (λ b. b.value.row) branches.items)) }
+    ensures { rows_in tree.new
+        ≡ with_rows (rows_in tree.old) (reverse (map (λ b. b.value.row) branches.items)) }
 {
-    while let Some(branch) = branches.pop() {
+    while branches.len() > 0 {
+        let count = rising(branches.as_slice());
+        let run = build(&mut branches, count);
         let rows = mem::replace(tree, Tree::Leaf);
-        *tree = Tree::Fork(insert(rows, branch));
+        *tree = unite(rows, run);
     }
+}
+
+// Whether new rows, the greatest path first, are all above the rows that are there.
+fn come_after(rows: &[RollupRow], new: &[RollupRow]) -> bool {
+    match (rows.last(), new.last()) {
+        (Some(last), Some(least)) => compare_paths(&last.path, &least.path).is_lt(),
+        _ => true,
+    }
+}
+
+// Whether a merge of new rows, the greatest path first, moves few of the rows that are there for each new one.
+fn is_cheap(rows: &[RollupRow], new: &[RollupRow]) -> bool {
+    rows.len() / 8 <= new.len() || come_after(rows, new)
 }
 
 impl OrderedRows {
@@ -133,7 +149,7 @@ impl OrderedRows {
         if new.len() > usize::MAX - self.len() {
             return Err(NoMemory);
         }
-        if self.tree.len() == 0 && self.list.len() / 8 <= new.len() {
+        if self.tree.len() == 0 && is_cheap(self.list.as_slice(), new.as_slice()) {
             return merge(alloc, &mut self.list, new);
         }
         let branches = branches_of(alloc, new)?;

@@ -1,11 +1,11 @@
 //! Sizes by the numbers of labels.
 
-ghost use Rattle.std.specs.Prelude.{◌≡◌, ◌+◌, ◌^◌, ◌<◌, ℕ, [], ◌∷◌, ◌++◌, Some, OnOk, length, slice_get, slice_index_or, slice_set};
+ghost use Rattle.std.specs.Prelude.{◌≡◌, ◌+◌, ◌^◌, ◌<◌, ℕ, [], ◌∷◌, ◌++◌, Some, IsTrue, OnOk, length, slice_get, slice_index_or, slice_set};
 ghost use Rattle.std.specs.Option.{ForSome};
 ghost use Rattle.rollup.specs.Sizes.{IsGrown, IsIndexOf, entry_of, no_entry, part_of, sizes_of, grown, grown_sizes, size_in};
 
 use crate::cursor::Part;
-use indexmap::IndexMap;
+use crate::hints::{Hints, PROBES, hash_of};
 use size_core::NoMemory;
 use std::alloc::Global;
 use std::marker::Model;
@@ -94,7 +94,7 @@ impl LabelSizes {
 
     // The index of the sizes of a number, if they are there.
     fn find(&self, label: usize) -> Option<usize>
-        ensures { ForSome result (IsIndexOf label self.now) }
+        ensures { ForSome result (IsIndexOf (label ∷ []) self.now) }
     {
         let index = *self.indices.get(label)?;
         let item = self.items.get(index)?;
@@ -137,20 +137,32 @@ impl LabelSizes {
     }
 }
 
-// The sizes of lists of label numbers, found by a hash of the list.
+// A list of numbers, by its first position and length among the numbers of all lists, and its sizes.
+#[derive(Clone, Copy)]
+struct ListSize {
+    first: usize,
+    len: usize,
+    sizes: Sizes,
+}
+
+// The sizes of lists of label numbers, in the order in which the lists came.
 #[derive(Drop)]
 struct ListSizes {
-    sizes: IndexMap<Vec<usize>, Sizes>,
-    alloc: Global,
+    items: Vec<ListSize>,
+    numbers: Vec<usize>,
+    hints: Hints,
 }
 
 impl Model for ListSizes {
-    ghost use Rattle.std.specs.Prelude.{List, map};
-    ghost use Rattle.rollup.specs.Sizes.{Entry, entry_of};
+    ghost use Rattle.std.specs.Prelude.{List, ◌+◌, ◌≤◌, All, length, map};
+    ghost use Rattle.rollup.specs.declared.sizes.ListSize.{ListSize};
+    ghost use Rattle.rollup.specs.Sizes.{Entry, entry_of_list};
 
     ghost Value = { List Entry };
 
-    ghost view = { λ p. map (λ e. entry_of e.0.items e.1) p.sizes.entries };
+    ghost view = { λ p. map (entry_of_list p.numbers.items) p.items.items };
+
+    ghost invariant = { λ p. All (λ (i : ListSize). i.first + i.len ≤ length p.numbers.items) p.items.items };
 }
 
 impl ListSizes {
@@ -159,8 +171,9 @@ impl ListSizes {
         ensures { result ≡ [] }
     {
         ListSizes {
-            sizes: IndexMap::new(alloc),
-            alloc,
+            items: Vec::new(alloc),
+            numbers: Vec::new(alloc),
+            hints: Hints::new(alloc),
         }
     }
 
@@ -169,7 +182,7 @@ impl ListSizes {
         ensures len { result ≡ length self.now }
         ensures small { result < 2 ^ 63 }
     {
-        self.sizes.len()
+        self.items.len()
     }
 
     // The list at an index, and its sizes.
@@ -177,23 +190,70 @@ impl ListSizes {
         requires { i < length self.now }
         ensures { slice_get self.now i ≡ Some (entry_of result.0.now result.1) }
     {
-        let (numbers, sizes) = self.sizes.get_index(i).unwrap();
-        (numbers.as_slice(), *sizes)
+        let item = self.items[i];
+        let end = item.first + item.len;
+        (&self.numbers[item.first..end], item.sizes)
     }
 
-    // Adds to one of the sizes of a list of numbers. A new list becomes the last one; a list that is there already is
-    // not copied.
+    // Whether the list at an index is this one.
+    fn is_at(&self, i: usize, numbers: &[usize]) -> bool
+        ensures { IsTrue result → IsIndexOf numbers.now self.now i }
+    {
+        if i >= self.len() {
+            return false;
+        }
+        let (there, _) = self.get(i);
+        there == numbers
+    }
+
+    // The index of a list, if there is a hint at it.
+    fn find(&self, numbers: &[usize], hash: usize) -> Option<usize>
+        ensures { ForSome result (IsIndexOf numbers.now self.now) }
+    {
+        let next = self.hints.likely();
+        if self.is_at(next, numbers) {
+            return Some(next);
+        }
+        for probe in 0..PROBES {
+            let i = self.hints.get(hash, probe)?;
+            if self.is_at(i, numbers) {
+                return Some(i);
+            }
+        }
+        None
+    }
+
+    fn grow(&mut self, i: usize, part: Part, size: u128)
+        requires within { i < length self.old }
+        requires fits { size_in part (slice_index_or self.old i no_entry) + size < 2 ^ 128 }
+        ensures { self.new ≡ slice_set self.old i (grown part size (slice_index_or self.old i no_entry)) }
+    {
+        self.items[i].sizes.grow(part, size);
+        self.hints.pass(i);
+    }
+
+    fn push(&mut self, numbers: &[usize], hash: usize, sizes: Sizes) -> Result<(), NoMemory>
+        ensures { OnOk result (self.new ≡ self.old ++ entry_of numbers.now sizes ∷ []) }
+    {
+        self.hints.push(hash)?;
+        let first = self.numbers.len();
+        let len = numbers.len();
+        self.numbers.extend_from_slice(numbers)?;
+        self.items.push(ListSize { first, len, sizes })?;
+        Ok(())
+    }
+
+    // Adds to one of the sizes of a list of numbers. A new list becomes the last one.
     fn add(&mut self, part: Part, numbers: &[usize], size: u128) -> Result<(), NoMemory>
         requires { (i : ℕ) → size_in part (slice_index_or self.old i no_entry) + size < 2 ^ 128 }
         ensures { OnOk result (IsGrown part numbers.now size self.old self.new) }
     {
-        if let Some((i, _, _)) = self.sizes.get_full(numbers) {
-            self.sizes[i].grow(part, size);
+        let hash = hash_of(numbers);
+        if let Some(i) = self.find(numbers, hash) {
+            self.grow(i, part, size);
             return Ok(());
         }
-        let owned = numbers.to_vec(self.alloc)?;
-        self.sizes.insert(owned, Sizes::of(part, size))?;
-        Ok(())
+        self.push(numbers, hash, Sizes::of(part, size))
     }
 }
 
@@ -244,8 +304,7 @@ impl PathSizes {
         self.lists.get(i - count)
     }
 
-    /// Adds to one of the sizes of a list of numbers. A new list becomes the last one; a list that is there already is
-    /// not copied.
+    /// Adds to one of the sizes of a list of numbers. A list that isn't found becomes the last one.
     pub fn add(&mut self, part: Part, numbers: &[usize], size: u128) -> Result<(), NoMemory>
         requires { (i : ℕ) → size_in part (slice_index_or self.old i no_entry) + size < 2 ^ 128 }
         ensures { OnOk result (IsGrown part numbers.now size self.old self.new) }

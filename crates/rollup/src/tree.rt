@@ -1,9 +1,9 @@
 //! Rows in the order of their paths, in a balanced tree.
 
-ghost use Rattle.std.specs.Prelude.{◌≡◌, ◌+◌, ◌^◌, ◌<◌, Some, [], ◌∷◌, ◌++◌, length, slice_get, IfErr, IfOk};
+ghost use Rattle.std.specs.Prelude.{◌≡◌, ◌+◌, ◌-◌, ◌^◌, ◌<◌, ◌≤◌, Some, [], ◌∷◌, ◌++◌, length, map, reverse, slice_get, vec_len, IfErr, IfOk, IsTrue};
 ghost use Rattle.std.specs.List.Sorted.{IsStrictlySortedBy};
 ghost use Rattle.rollup.specs.Totals.{row_cmp};
-ghost use Rattle.rollup.specs.Rows.{FitTogether, larger, with_row};
+ghost use Rattle.rollup.specs.Rows.{FitTogether, IsSplit, RisesAt, RisesFrom, larger, with_rows};
 ghost use Rattle.rollup.specs.Parts.{IsAlone, all_of, alone};
 ghost use Rattle.rollup.specs.Tree.{rows_in};
 
@@ -119,7 +119,7 @@ impl Branch {
         self.len
     }
 
-    // Compares the paths of two rows, by their first bytes where these differ.
+    // Compares the paths of two rows, by their first bytes if these differ.
     fn compare(&self, other: &Branch) -> Ordering
         ensures { result ≡ row_cmp self.now.row other.now.row }
     {
@@ -290,29 +290,150 @@ fn with_low(mut top: Box<Branch>, low: Box<Branch>) -> Box<Branch>
     }
 }
 
-/// Inserts a branch of one row into a tree. The sizes of a path that is there already are added to its row.
-pub fn insert(tree: Tree, new: Box<Branch>) -> Box<Branch>
-    requires alone { IsAlone new.value }
-    requires ordered { IsStrictlySortedBy row_cmp (rows_in tree) }
-    requires fits { FitTogether (rows_in tree) (new.value.row ∷ []) }
-    requires count { length (rows_in tree) + 1 < 2 ^ 64 }
-    ensures { all_of result.value ≡ with_row (rows_in tree) new.value.row }
+/// Joins two trees by a branch of one row, which is above the rows of the first tree and below those of the second one. If
+/// one tree is much larger, the other one is joined to the near side of its top.
+pub fn join(low: Tree, mut top: Box<Branch>, high: Tree) -> Box<Branch>
+    requires alone { IsAlone top.value }
+    requires count { length (rows_in low) + 1 + length (rows_in high) < 2 ^ 64 }
+    ensures { all_of result.value ≡ rows_in low ++ top.value.row ∷ rows_in high }
 {
-    match tree {
-        Tree::Leaf => new,
-        Tree::Fork(mut top) => match top.compare(&new) {
-            Ordering::Less => {
-                let high = insert(top.take_high(), new);
-                with_high(top, high)
+    if low.len() / 3 > high.len() {
+        match low {
+            Tree::Leaf => {
+                top.set_high(high);
+                return top;
             }
-            Ordering::Equal => {
-                top.enlarge(&new.row);
-                top
+            Tree::Fork(mut side) => {
+                let near = side.take_high();
+                return with_high(side, join(near, top, high));
             }
-            Ordering::Greater => {
-                let low = insert(top.take_low(), new);
-                with_low(top, low)
-            }
-        },
+        }
     }
+    if high.len() / 3 > low.len() {
+        match high {
+            Tree::Leaf => {
+                top.set_low(low);
+                return top;
+            }
+            Tree::Fork(mut side) => {
+                let near = side.take_low();
+                return with_low(side, join(low, top, near));
+            }
+        }
+    }
+    top.set_low(low);
+    top.set_high(high);
+    top
+}
+
+// Splits a tree at the path of a branch, into the rows below it and those above it. The sizes of the row with that path
+// are added to the branch.
+fn split(rows: Tree, at: &mut Branch) -> (Tree, Tree)
+    requires ordered { IsStrictlySortedBy row_cmp (rows_in rows) }
+    requires fits { FitTogether (all_of at.old) (rows_in rows) }
+    requires count { length (rows_in rows) < 2 ^ 64 }
+    ensures split { IsSplit at.old.row at.new.row
+        (rows_in rows) (rows_in result.0) (rows_in result.1) }
+    ensures low { at.new.low ≡ at.old.low }
+    ensures high { at.new.high ≡ at.old.high }
+{
+    match rows {
+        Tree::Leaf => (Tree::Leaf, Tree::Leaf),
+        Tree::Fork(mut top) => {
+            let low = top.take_low();
+            let high = top.take_high();
+            match at.compare(&top) {
+                Ordering::Less => {
+                    let (below, above) = split(low, at);
+                    (below, Tree::Fork(join(above, top, high)))
+                }
+                Ordering::Equal => {
+                    at.enlarge(&top.row);
+                    (low, high)
+                }
+                Ordering::Greater => {
+                    let (below, above) = split(high, at);
+                    (Tree::Fork(join(low, top, below)), above)
+                }
+            }
+        }
+    }
+}
+
+/// Unites the rows of two trees. The sizes of a path that both have are added up. If all rows of one tree are between
+/// two rows of the other, only the rows on the way to these are visited.
+pub fn unite(rows: Tree, new: Tree) -> Tree
+    requires ordered { IsStrictlySortedBy row_cmp (rows_in rows) }
+    requires new_ordered { IsStrictlySortedBy row_cmp (rows_in new) }
+    requires fits { FitTogether (rows_in rows) (rows_in new) }
+    requires count { length (rows_in rows) + length (rows_in new) < 2 ^ 64 }
+    ensures { rows_in result ≡ with_rows (rows_in rows) (rows_in new) }
+{
+    match rows {
+        Tree::Leaf => new,
+        Tree::Fork(mut top) => {
+            if new.len() == 0 {
+                return Tree::Fork(top);
+            }
+            let (below, above) = split(new, &mut top);
+            let low = unite(top.take_low(), below);
+            let high = unite(top.take_high(), above);
+            Tree::Fork(join(low, top, high))
+        }
+    }
+}
+
+/// Makes a balanced tree of the last branches of a list, each of one row. The last one of the list becomes the least.
+pub fn build(branches: &mut Vec<Box<Branch>>, count: usize) -> Tree
+    requires alone { map (λ b. b.value) branches.old.items
+        ≡ map (λ b. alone b.value.row) branches.old.items }
+    requires count { count ≤ vec_len branches.old }
+    ensures rows { map (λ b. b.value.row) branches.old.items
+        ≡ map (λ b. b.value.row) branches.new.items ++ reverse (rows_in result) }
+    ensures alone { map (λ b. b.value) branches.new.items
+        ≡ map (λ b. alone b.value.row) branches.new.items }
+    ensures count { length (rows_in result) ≡ count }
+    ensures len { vec_len branches.new + count ≡ vec_len branches.old }
+{
+    if count == 0 {
+        return Tree::Leaf;
+    }
+    let low = build(branches, count / 2);
+    let Some(mut top) = branches.pop() else {
+        return low;
+    };
+    let high = build(branches, count - count / 2 - 1);
+    top.set_low(low);
+    top.set_high(high);
+    Tree::Fork(top)
+}
+
+// Whether the branch before the last `count` ones of a list is above the next one.
+fn climbs(branches: &[Box<Branch>], count: usize) -> bool
+    requires some { 0 < count }
+    requires within { count < length branches.now }
+    ensures { IsTrue result
+        → RisesAt (map (λ b. b.value.row) branches.now) (length branches.now - count - 1) }
+{
+    let next = branches.len() - count;
+    branches[next].compare(&branches[next - 1]) == Ordering::Less
+}
+
+/// How many of the last branches of a list have ascending paths, from the last one on. Those of a file have different
+/// paths and are sorted, so they all do.
+pub fn rising(branches: &[Box<Branch>]) -> usize
+    requires some { 0 < length branches.now }
+    ensures some { 0 < result }
+    ensures bound { result ≤ length branches.now }
+    ensures rising { RisesFrom (map (λ b. b.value.row) branches.now)
+        (length branches.now - result) }
+{
+    let mut count = 1;
+    while count < branches.len() {
+        if !climbs(branches, count) {
+            return count;
+        }
+        count += 1;
+    }
+    count
 }

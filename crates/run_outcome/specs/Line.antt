@@ -1,11 +1,11 @@
--- The line that a run writes where it isn't done.
+-- The line that a run writes to standard error, unless it is done.
 use Rattle.std.specs.Prelude.{ℕ, List, [], ◌++◌, codes, decimal, Result}
 use Rattle.size_core.specs.FaultNames.{fault_name}
 use Rattle.config_text.specs.declared.config.ConfigKind.{ConfigKind}
 use Rattle.config_text.specs.declared.config.ConfigKind.TheVariants.{Syntax, BadString, NotUtf8, UnknownField, RepeatedField, MissingField, BadName, BadBase, BadReplacement, TooMany}
-use Rattle.size_options.specs.declared.chosen.Options.{Options}
-use Rattle.size_options.specs.declared.answer.UsageKind.{UsageKind}
-use Rattle.size_options.specs.declared.answer.UsageKind.TheVariants.{Words, BadNumber, BadSort, BadDomain, TwoFormats, BadSourceList, NoFile, SynthWithFile, NoBase, DebugFile, BadPlace, TwoPlaces, PlaceFile}
+use Rattle.size_options.specs.declared.run_options.Options.{Options}
+use Rattle.size_options.specs.declared.errors.UsageKind.{UsageKind}
+use Rattle.size_options.specs.declared.errors.UsageKind.TheVariants.{Words, BadNumber, BadSort, BadDomain, TwoFormats, BadSourceList, NoFile, SynthWithFile, NoBase, DebugFile, BadPlace, TwoPlaces, PlaceFile}
 use Rattle.run_outcome.specs.declared.outcome.Outcome.{Outcome}
 use Rattle.run_outcome.specs.declared.outcome.Outcome.TheVariants.{Done, Usage, ReadFailed, TooLong, Config, UnknownSource, PatternSyntax, PatternTooBig, Bad, TooManyClaims, MappedTooLarge, NoMatch, PlaceOutside, WriteFailed, NoMemory}
 use Rattle.run_outcome.specs.Names.{file_name, source_name}
@@ -26,7 +26,7 @@ usage_text BadPlace = codes "bad place"
 usage_text TwoPlaces = codes "two places"
 usage_text PlaceFile = codes "a place needs one file"
 
--- the number of a kind of fault of a configuration
+-- The number of a kind of configuration fault, as the line prints it.
 abbrev pub config_number : ConfigKind → ℕ
 config_number Syntax = 1
 config_number BadString = 2
@@ -39,7 +39,7 @@ config_number BadBase = 8
 config_number BadReplacement = 9
 config_number TooMany = 10
 
--- a file's name, and what is wrong with it
+-- The line for a file: its name, and what is wrong with it.
 abbrev pub file_line : Result Options UsageKind → ℕ → List ℕ → List ℕ
 file_line asked i text = codes "bloaty: " ++ file_name asked i ++ codes ": " ++ text ++ codes "\n"
 
@@ -47,7 +47,7 @@ file_line asked i text = codes "bloaty: " ++ file_name asked i ++ codes ": " ++ 
 abbrev pub pattern_line : ℕ → List ℕ → List ℕ
 pattern_line i text = codes "bloaty: pattern " ++ decimal i ++ codes ": " ++ text ++ codes "\n"
 
--- the line for an outcome, where the arguments come to this
+-- The line for an outcome. asked are the options, or the usage error of the arguments.
 abbrev pub line_of : Result Options UsageKind → Outcome → List ℕ
 line_of asked Done = []
 line_of asked (Usage kind) = codes "bloaty: usage: " ++ usage_text kind ++ codes "\n"

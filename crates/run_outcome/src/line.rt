@@ -1,9 +1,8 @@
 //! The line that reports how a run ended.
 
 ghost use Rattle.std.specs.Prelude.{◌≡◌, ◌≤◌, ◌<◌, ◌++◌, [], List, ℕ, Ok, Err, codes, decimal, slice_get, unwrap_or, OnOk, OnErr};
-ghost use Rattle.outside.specs.Causes.{Rose};
-ghost use Rattle.outside.specs.Grown.{Grew};
-ghost use Rattle.size_options.specs.declared.answer.UsageKind.{UsageKind as UsageKindSpec};
+ghost use Rattle.outside.specs.Writes.{Writes};
+ghost use Rattle.size_options.specs.declared.errors.UsageKind.{UsageKind as UsageKindSpec};
 ghost use Rattle.run_outcome.specs.Line.{config_number, line_of, pattern_line, usage_text};
 ghost use Rattle.run_outcome.specs.Names.{file_name, other_names, source_name};
 ghost use Rattle.run_outcome.specs.declared.outcome.Outcome.TheVariants.{Done, Usage, NoMemory as OutOfMemory};
@@ -14,6 +13,7 @@ use itoa::Buffer;
 use outside::{Failed, Sink, write_pieces};
 use size_options::{Options, UsageKind};
 
+// The text of a usage error.
 fn usage_text(kind: UsageKind) -> &'static str
     ensures { result.now ≡ usage_text kind }
 {
@@ -34,7 +34,7 @@ fn usage_text(kind: UsageKind) -> &'static str
     }
 }
 
-// The number of a kind of fault of a configuration.
+// The number of a kind of configuration fault, as the line prints it.
 fn config_number(kind: ConfigKind) -> u64
     ensures { result ≡ config_number kind }
 {
@@ -52,7 +52,7 @@ fn config_number(kind: ConfigKind) -> u64
     }
 }
 
-// The name of a base file by its index among them.
+// The name of the base file at this index, counted from 0. Empty if there is none.
 fn base_name(options: &Options, place: usize) -> &[u8]
     ensures { result.now ≡ unwrap_or (slice_get options.now.bases place) [] }
 {
@@ -62,7 +62,7 @@ fn base_name(options: &Options, place: usize) -> &[u8]
     &[]
 }
 
-// The name of a debug file, or of a base file, by its index after the files.
+// The name at this index among the debug file and the base files, which follow the files. Empty if there is none.
 fn other_name(options: &Options, place: usize) -> &[u8]
     ensures { result.now ≡ unwrap_or (slice_get (other_names options.now) place) [] }
 {
@@ -73,7 +73,7 @@ fn other_name(options: &Options, place: usize) -> &[u8]
     }
 }
 
-// The name of a file by its number.
+// The name of the file with this number. Empty if there is none.
 fn file_name(options: &Options, number: usize) -> &[u8]
     ensures { result.now ≡ file_name (Ok options.now) number }
 {
@@ -91,7 +91,7 @@ fn file_name(options: &Options, number: usize) -> &[u8]
     }
 }
 
-// The name of a data source by its number from 1 on.
+// The name of the data source with this number, counted from 1. Empty if there is none.
 fn source_name(options: &Options, number: usize) -> &[u8]
     ensures { result.now ≡ source_name (Ok options.now) number }
 {
@@ -101,21 +101,19 @@ fn source_name(options: &Options, number: usize) -> &[u8]
     options.sources.get(number - 1).as_slice()
 }
 
+// Writes the line for a file: its name, and what is wrong with it.
 fn tell_file<E: Sink>(err: &mut E, name: &[u8], text: &[u8]) -> Result<(), Failed>
-    ensures whole { OnOk result (Grew (E.written err.old) (E.written err.new)
-        (codes "bloaty: " ++ name.now ++ codes ": " ++ text.now ++ codes "\n")) }
-    ensures later { E.faults err.old ≤ E.faults err.new }
-    ensures failed { OnErr result (Rose (E.faults err.old) (E.faults err.new)) }
+    ensures writes { let line = codes "bloaty: " ++ name.now ++ codes ": " ++ text.now ++ codes "\n" in
+        Writes E.Sink result line err.old err.new }
 {
     write_pieces(err, &[b"bloaty: ", name, b": ", text, b"\n"])
 }
 
+// Writes the line for a fault of a file, with the file offset of the fault.
 fn tell_fault<E: Sink>(err: &mut E, name: &[u8], offset: u64, fault: &[u8]) -> Result<(), Failed>
-    ensures whole { OnOk result (Grew (E.written err.old) (E.written err.new)
-        (codes "bloaty: " ++ name.now ++ codes ": offset " ++ decimal offset
-        ++ codes ": " ++ fault.now ++ codes "\n")) }
-    ensures later { E.faults err.old ≤ E.faults err.new }
-    ensures failed { OnErr result (Rose (E.faults err.old) (E.faults err.new)) }
+    ensures writes { let line = codes "bloaty: " ++ name.now ++ codes ": offset " ++ decimal offset
+        ++ codes ": " ++ fault.now ++ codes "\n" in
+        Writes E.Sink result line err.old err.new }
 {
     let mut digits = Buffer::new();
     let offset = digits.format(offset).as_bytes();
@@ -125,17 +123,16 @@ fn tell_fault<E: Sink>(err: &mut E, name: &[u8], offset: u64, fault: &[u8]) -> R
     )
 }
 
+// Writes the line for a fault of the configuration. The offset and the number are decimal digits.
 fn write_config<E: Sink>(
     err: &mut E,
     name: &[u8],
     offset: &[u8],
     number: &[u8],
 ) -> Result<(), Failed>
-    ensures whole { OnOk result (Grew (E.written err.old) (E.written err.new)
-        (codes "bloaty: " ++ name.now ++ codes ": offset " ++ offset.now
-        ++ codes ": config fault " ++ number.now ++ codes "\n")) }
-    ensures later { E.faults err.old ≤ E.faults err.new }
-    ensures failed { OnErr result (Rose (E.faults err.old) (E.faults err.new)) }
+    ensures writes { let line = codes "bloaty: " ++ name.now ++ codes ": offset " ++ offset.now
+        ++ codes ": config fault " ++ number.now ++ codes "\n" in
+        Writes E.Sink result line err.old err.new }
 {
     write_pieces(
         err,
@@ -151,17 +148,16 @@ fn write_config<E: Sink>(
     )
 }
 
+// Writes the line for a fault of the configuration.
 fn tell_config<E: Sink>(
     err: &mut E,
     name: &[u8],
     offset: u64,
     kind: ConfigKind,
 ) -> Result<(), Failed>
-    ensures whole { OnOk result (Grew (E.written err.old) (E.written err.new)
-        (codes "bloaty: " ++ name.now ++ codes ": offset " ++ decimal offset
-        ++ codes ": config fault " ++ decimal (config_number kind) ++ codes "\n")) }
-    ensures later { E.faults err.old ≤ E.faults err.new }
-    ensures failed { OnErr result (Rose (E.faults err.old) (E.faults err.new)) }
+    ensures writes { let line = codes "bloaty: " ++ name.now ++ codes ": offset " ++ decimal offset
+        ++ codes ": config fault " ++ decimal (config_number kind) ++ codes "\n" in
+        Writes E.Sink result line err.old err.new }
 {
     let mut offset_digits = Buffer::new();
     let offset = offset_digits.format(offset).as_bytes();
@@ -170,19 +166,17 @@ fn tell_config<E: Sink>(
     write_config(err, name, offset, number)
 }
 
+// Writes the line for a pattern that is refused. The number is decimal digits.
 fn write_pattern<E: Sink>(err: &mut E, number: &[u8], text: &[u8]) -> Result<(), Failed>
-    ensures whole { OnOk result (Grew (E.written err.old) (E.written err.new)
-        (codes "bloaty: pattern " ++ number.now ++ codes ": " ++ text.now ++ codes "\n")) }
-    ensures later { E.faults err.old ≤ E.faults err.new }
-    ensures failed { OnErr result (Rose (E.faults err.old) (E.faults err.new)) }
+    ensures writes { let line = codes "bloaty: pattern " ++ number.now ++ codes ": " ++ text.now ++ codes "\n" in
+        Writes E.Sink result line err.old err.new }
 {
     write_pieces(err, &[b"bloaty: pattern ", number, b": ", text, b"\n"])
 }
 
+// Writes the line for a pattern that is refused.
 fn tell_pattern<E: Sink>(err: &mut E, number: usize, text: &[u8]) -> Result<(), Failed>
-    ensures whole { OnOk result (Grew (E.written err.old) (E.written err.new) (pattern_line number text.now)) }
-    ensures later { E.faults err.old ≤ E.faults err.new }
-    ensures failed { OnErr result (Rose (E.faults err.old) (E.faults err.new)) }
+    ensures writes { Writes E.Sink result (pattern_line number text.now) err.old err.new }
 {
     let mut digits = Buffer::new();
     let number = digits.format(number).as_bytes();
@@ -191,10 +185,8 @@ fn tell_pattern<E: Sink>(err: &mut E, number: usize, text: &[u8]) -> Result<(), 
 
 /// Writes the line for arguments that are misused.
 pub fn tell_usage<E: Sink>(err: &mut E, kind: UsageKind) -> Result<(), Failed>
-    ensures whole { OnOk result (Grew (E.written err.old) (E.written err.new)
-        (codes "bloaty: usage: " ++ usage_text kind ++ codes "\n")) }
-    ensures later { E.faults err.old ≤ E.faults err.new }
-    ensures failed { OnErr result (Rose (E.faults err.old) (E.faults err.new)) }
+    ensures writes { let line = codes "bloaty: usage: " ++ usage_text kind ++ codes "\n" in
+        Writes E.Sink result line err.old err.new }
 {
     write_pieces(
         err,
@@ -204,19 +196,15 @@ pub fn tell_usage<E: Sink>(err: &mut E, kind: UsageKind) -> Result<(), Failed>
 
 /// Writes the line for running out of memory.
 pub fn tell_no_memory<E: Sink>(err: &mut E) -> Result<(), Failed>
-    ensures whole { OnOk result (Grew (E.written err.old) (E.written err.new) (codes "bloaty: out of memory\n")) }
-    ensures later { E.faults err.old ≤ E.faults err.new }
-    ensures failed { OnErr result (Rose (E.faults err.old) (E.faults err.new)) }
+    ensures writes { Writes E.Sink result (codes "bloaty: out of memory\n") err.old err.new }
 {
     write_pieces(err, &[b"bloaty: out of memory\n"])
 }
 
-/// Writes the line for an outcome of a run with these options, which is none where the run is done. It takes no memory.
+/// Writes the line for an outcome of a run with these options, and nothing if the run is done. It allocates no memory.
 pub fn tell<E: Sink>(err: &mut E, options: &Options, outcome: &Outcome) -> Result<(), Failed>
-    ensures whole { OnOk result (Grew (E.written err.old) (E.written err.new) (line_of (Ok options.now) outcome.now)) }
+    ensures writes { Writes E.Sink result (line_of (Ok options.now) outcome.now) err.old err.new }
     ensures silent { outcome.now ≡ Done → E.written err.new ≡ E.written err.old }
-    ensures later { E.faults err.old ≤ E.faults err.new }
-    ensures failed { OnErr result (Rose (E.faults err.old) (E.faults err.new)) }
 {
     match *outcome {
         Outcome::Done => Ok(()),

@@ -6,10 +6,10 @@ use config_text::ConfigKind;
 use size_core::{Fault, NoMemory};
 use size_options::UsageKind;
 
-/// How a run ends. File 0 is the configuration, and the files have the numbers from 1 on, in the order of the command line.
+/// How a run ends. Files are numbered: 0 is the configuration, and the files follow from 1 on, in the order of the command line.
 #[derive(Clone, Copy, Debug, PartialEq, Eq, Hash)]
 pub enum Outcome {
-    /// The report was written whole.
+    /// The whole report was written.
     Done,
     /// The arguments are misused.
     Usage(UsageKind),
@@ -19,9 +19,9 @@ pub enum Outcome {
     TooLong(usize),
     /// The configuration has a fault, at an offset in bytes.
     Config(ConfigKind, u64),
-    /// A name of `-d` means no data source; the names are numbered from 1.
+    /// A name in `-d` is that of no data source. The names are numbered from 1.
     UnknownSource(usize),
-    /// A pattern is no regular expression, or nests too deep. The filter is pattern 0, rewrites have the numbers from 1 on.
+    /// A pattern is no regular expression, or is nested too deeply. The filter is pattern 0, and rewrites are numbered from 1.
     PatternSyntax(usize),
     /// A pattern was refused for its size.
     PatternTooBig(usize),
@@ -33,13 +33,13 @@ pub enum Outcome {
     },
     /// The data sources in `-d` make more claims on the file than the limit.
     TooManyClaims(usize),
-    /// The mapped sizes of the files pass 2^63 - 1.
+    /// The mapped sizes of the files exceed 2^63 - 1.
     MappedTooLarge,
     /// The identifiers of the file and its debug file differ, or one has none.
     NoMatch,
     /// The location isn't below the file's end, or isn't mapped.
     PlaceOutside,
-    /// The output didn't take the whole report.
+    /// The report couldn't be written completely.
     WriteFailed,
     /// There was not enough memory.
     NoMemory,

@@ -52,25 +52,29 @@ fn with_code(alloc: Global, address: u64, debug: &[Section<'_>]) -> Result<Vec<u
     file(alloc, EXECUTABLE, &[load, dropped], &sections)
 }
 
+// The ranges of `a.c`, in DWARF 5.
+const RANGES: [Entry; 5] = [
+    Entry::BaseAddressx(0),
+    Entry::OffsetPair(0, 0x10),
+    Entry::StartxLength(2, 8),
+    Entry::StartLength(0, 5),
+    Entry::EndOfList,
+];
+
 // What two units name: strings and ranges, and from DWARF 5 on by indexes.
-fn add_tables(debug: &mut Debug, version: u16) -> Result<(), AllocError> {
-    debug.strings(&[b"a.c", b"b.c"])?;
+fn add_tables(debug: &mut Debug, version: u16) {
+    debug.strings(&[b"a.c", b"b.c"]);
     if version < 5 {
-        return debug.pairs(&[(0, 0x10), (0x18, 0x20), (u64::MAX, 0), (0, 5)]);
+        debug.pairs(&[(0, 0x10), (0x18, 0x20), (u64::MAX, 0), (0, 5)]);
+        return;
     }
-    debug.string_offsets(&[0, 4])?;
-    debug.addresses(&[CODE, CODE + 0x10, CODE + 0x18])?;
-    debug.list(&[
-        Entry::BaseAddressx(0),
-        Entry::OffsetPair(0, 0x10),
-        Entry::StartxLength(2, 8),
-        Entry::StartLength(0, 5),
-        Entry::EndOfList,
-    ])
+    debug.string_offsets(&[0, 4]);
+    debug.addresses(&[CODE, CODE + 0x10, CODE + 0x18]);
+    debug.list(&RANGES);
 }
 
-// Two units. It gives the offset of the second one.
-fn add_units(debug: &mut Debug, version: u16) -> Result<u32, AllocError> {
+// Two units. It returns the offset of the second one.
+fn add_units(debug: &mut Debug, version: u16) -> u32 {
     debug.unit(
         version,
         &[
@@ -79,7 +83,7 @@ fn add_units(debug: &mut Debug, version: u16) -> Result<u32, AllocError> {
             (DW_AT_RANGES, ranges_value(version)),
             (DW_AT_STMT_LIST, offset_value(version, 0)),
         ],
-    )?;
+    );
     // An end, and from DWARF 4 on a length.
     let high = if version < 4 {
         Value::Addr(CODE + 0x18)
@@ -96,32 +100,38 @@ fn add_units(debug: &mut Debug, version: u16) -> Result<u32, AllocError> {
     )
 }
 
+// The files of a line program, of which DWARF 5 alone names the first.
+const TWO_FILES: [(&[u8], u8); 2] = [(b"a.c", 0), (b"a.c", 0)];
+
+// One row of `a.c`, of 16 bytes.
+const STEPS: [Step; 5] = [
+    Step::SetAddress(CODE),
+    Step::AdvanceLine(2),
+    Step::Copy,
+    Step::AdvancePc(16),
+    Step::EndSequence,
+];
+
 // The units `a.c`, with 24 bytes of code in two ranges, one at 0 and a line program, and `b.c`, with 8 bytes of code;
 // a set that gives `b.c` the first 16 bytes and 8 of those that no unit has, and one of no unit with 8 more.
-fn two_units_of(alloc: Global, version: u16) -> Result<Debug, AllocError> {
+fn two_units_of(alloc: Global, version: u16) -> Debug {
     let mut debug = Debug::new(alloc, Class::Bits64);
-    add_tables(&mut debug, version)?;
-    let second = add_units(&mut debug, version)?;
-    debug.set(second, &[(CODE, 16), (CODE + 0x20, 8)])?;
-    debug.set(5, &[(CODE + 0x28, 8)])?;
+    add_tables(&mut debug, version);
+    let second = add_units(&mut debug, version);
+    debug.set(second, &[(CODE, 16), (CODE + 0x20, 8)]);
+    debug.set(5, &[(CODE + 0x28, 8)]);
     debug.program(&Program {
         version,
-        files: numbered(version, &[(b"a.c", 0), (b"a.c", 0)]),
-        steps: &[
-            Step::SetAddress(CODE),
-            Step::AdvanceLine(2),
-            Step::Copy,
-            Step::AdvancePc(16),
-            Step::EndSequence,
-        ],
+        files: numbered(version, &TWO_FILES),
+        steps: &STEPS,
         ..PLAIN
-    })?;
-    Ok(debug)
+    });
+    debug
 }
 
 /// Code of two units, 48 bytes at 0x401000, with debug information of a version of DWARF.
 pub fn two_units(alloc: Global, version: u16) -> Result<Vec<u8>, AllocError> {
-    let debug = two_units_of(alloc, version)?;
+    let debug = two_units_of(alloc, version);
     with_code(alloc, CODE, &debug.sections()?)
 }
 
@@ -194,7 +204,7 @@ const MACHO_TEXT: [MachoSection<'static>; 1] = [MachoSection {
 /// A Mach-O file of debug information, in DWARF 5, for the same code: 1,233 bytes, the last 337 of them debug
 /// sections.
 pub fn macho_units(alloc: Global) -> Result<Vec<u8>, AllocError> {
-    let debug = two_units_of(alloc, 5)?;
+    let debug = two_units_of(alloc, 5);
     let mut bytes = Vec::new(alloc);
     for section in &debug.sections()? {
         bytes.extend_from_slice(section.bytes)?;
@@ -228,7 +238,7 @@ pub fn macho_units(alloc: Global) -> Result<Vec<u8>, AllocError> {
 
 /// Code of two units, whose `.debug_info` is marked as compressed, by its flag or by the older name.
 pub fn compressed_units(alloc: Global, marked: bool) -> Result<Vec<u8>, AllocError> {
-    let debug = two_units_of(alloc, 4)?;
+    let debug = two_units_of(alloc, 4);
     let mut sections = debug.sections()?;
     if let Some(info) = sections.first_mut() {
         if marked {
@@ -249,7 +259,7 @@ pub fn unnamed_units(alloc: Global) -> Result<Vec<u8>, AllocError> {
             (DW_AT_LOW_PC, Value::Addr(CODE)),
             (DW_AT_HIGH_PC, Value::Data4(16)),
         ],
-    )?;
+    );
     debug.unit(
         3,
         &[
@@ -257,7 +267,7 @@ pub fn unnamed_units(alloc: Global) -> Result<Vec<u8>, AllocError> {
             (DW_AT_LOW_PC, Value::Addr(CODE + 0x20)),
             (DW_AT_HIGH_PC, Value::Addr(CODE + 0x30)),
         ],
-    )?;
+    );
     with_code(alloc, CODE, &debug.sections()?)
 }
 
@@ -265,10 +275,25 @@ pub fn unnamed_units(alloc: Global) -> Result<Vec<u8>, AllocError> {
 fn with_program(alloc: Global, address: u64, program: &Program<'_>) -> Result<Vec<u8>, AllocError> {
     let mut debug = Debug::new(alloc, Class::Bits64);
     let offset = offset_value(program.version, 0);
-    debug.unit(program.version, &[(DW_AT_STMT_LIST, offset)])?;
-    debug.program(program)?;
+    debug.unit(program.version, &[(DW_AT_STMT_LIST, offset)]);
+    debug.program(program);
     with_code(alloc, address, &debug.sections()?)
 }
+
+// The sequences of `operations`.
+const OPERATIONS: [Step; 11] = [
+    Step::SetAddress(0x1000),
+    Step::Copy,
+    Step::ConstAddPc,
+    Step::Special(32),
+    Step::Special(32),
+    Step::AdvancePc(2),
+    Step::EndSequence,
+    Step::SetAddress(0),
+    Step::Copy,
+    Step::AdvancePc(8),
+    Step::EndSequence,
+];
 
 /// Instructions of two operations each, in a sequence from 0x1000 on and in one from 0 on.
 pub fn operations(alloc: Global, version: u16) -> Result<Vec<u8>, AllocError> {
@@ -279,20 +304,8 @@ pub fn operations(alloc: Global, version: u16) -> Result<Vec<u8>, AllocError> {
         line_base: 0xfd,
         line_range: 12,
         folders: numbered(version, &[b"/w"]),
-        files: numbered(version, &[(b"a.c", 0), (b"a.c", 0)]),
-        steps: &[
-            Step::SetAddress(0x1000),
-            Step::Copy,
-            Step::ConstAddPc,
-            Step::Special(32),
-            Step::Special(32),
-            Step::AdvancePc(2),
-            Step::EndSequence,
-            Step::SetAddress(0),
-            Step::Copy,
-            Step::AdvancePc(8),
-            Step::EndSequence,
-        ],
+        files: numbered(version, &TWO_FILES),
+        steps: &OPERATIONS,
     };
     with_program(alloc, 0x1000, &program)
 }
@@ -329,22 +342,27 @@ pub fn two_rows(alloc: Global, cut: bool) -> Result<Vec<u8>, AllocError> {
     with_program(alloc, 0x2000, &program)
 }
 
+// The files of `folders`, and its one sequence.
+const THREE_FILES: [(&[u8], u8); 3] = [(b"a.c", 0), (b"b.h", 1), (b"/usr/c.h", 1)];
+
+const IN_FOLDERS: [Step; 7] = [
+    Step::SetAddress(0x2000),
+    Step::Copy,
+    Step::AdvancePc(8),
+    Step::SetFile(2),
+    Step::Copy,
+    Step::AdvancePc(4),
+    Step::EndSequence,
+];
+
 /// Lines of files in folders: 8 bytes of the file 1, `b.h` of the folder 1, `inc`; and 4 bytes of the file 2, whose
 /// name begins with a slash.
 pub fn folders(alloc: Global, version: u16) -> Result<Vec<u8>, AllocError> {
     let program = Program {
         version,
         folders: numbered(version, &[b"/w", b"inc"]),
-        files: numbered(version, &[(b"a.c", 0), (b"b.h", 1), (b"/usr/c.h", 1)]),
-        steps: &[
-            Step::SetAddress(0x2000),
-            Step::Copy,
-            Step::AdvancePc(8),
-            Step::SetFile(2),
-            Step::Copy,
-            Step::AdvancePc(4),
-            Step::EndSequence,
-        ],
+        files: numbered(version, &THREE_FILES),
+        steps: &IN_FOLDERS,
         ..PLAIN
     };
     with_program(alloc, 0x2000, &program)

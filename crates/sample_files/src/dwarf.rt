@@ -44,7 +44,7 @@ impl Value<'_> {
         }
     }
 
-    fn put(&self, numbers: &mut Numbers) -> Result<(), AllocError> {
+    fn put(&self, numbers: &mut Numbers) {
         match self {
             Value::Addr(x) => numbers.address(*x),
             Value::Data4(x) | Value::Strp(x) | Value::SecOffset(x) => numbers.word(*x),
@@ -121,12 +121,27 @@ fn empty(alloc: Global, class: Class) -> Numbers {
 }
 
 // A declaration of code 1, a compile unit without children, which ends its table.
-fn put_declaration(abbrev: &mut Numbers, root: &[(u8, Value<'_>)]) -> Result<(), AllocError> {
-    abbrev.text(&[1, 0x11, 0])?;
+fn put_declaration(abbrev: &mut Numbers, root: &[(u8, Value<'_>)]) {
+    abbrev.text(&[1, 0x11, 0]);
     for (attribute, value) in root {
-        abbrev.text(&[*attribute, value.form()])?;
+        abbrev.text(&[*attribute, value.form()]);
     }
-    abbrev.text(&[0, 0, 0])
+    abbrev.text(&[0, 0, 0]);
+}
+
+// An entry of a range list.
+fn put_entry(list: &mut Numbers, entry: Entry) {
+    match entry {
+        Entry::EndOfList => list.text(&[0]),
+        Entry::BaseAddressx(index) => list.text(&[1, index]),
+        Entry::StartxLength(index, len) => list.text(&[3, index, len]),
+        Entry::OffsetPair(begin, end) => list.text(&[4, begin, end]),
+        Entry::StartLength(start, len) => {
+            list.text(&[7]);
+            list.address(start);
+            list.text(&[len]);
+        }
+    }
 }
 
 impl Debug {
@@ -146,114 +161,87 @@ impl Debug {
         }
     }
 
+    // A table that begins with a version.
+    fn table(&self, version: u16) -> Numbers {
+        let mut table = empty(self.alloc, self.class);
+        table.half(version);
+        table
+    }
+
     /// A unit with these values at its root, whose table of abbreviations is its own. It gives the unit's offset.
-    pub fn unit(&mut self, version: u16, root: &[(u8, Value<'_>)]) -> Result<u32, AllocError> {
+    pub fn unit(&mut self, version: u16, root: &[(u8, Value<'_>)]) -> u32 {
         let offset = self.info.len();
-        let mut unit = empty(self.alloc, self.class);
-        unit.half(version)?;
+        let mut unit = self.table(version);
+        let size = self.class.address_size();
         if version < 5 {
-            unit.word(self.abbrev.len())?;
-            unit.text(&[self.class.address_size()])?;
+            unit.word(self.abbrev.len());
+            unit.text(&[size, 1]);
         } else {
-            unit.text(&[1, self.class.address_size()])?;
-            unit.word(self.abbrev.len())?;
+            unit.text(&[1, size]);
+            unit.word(self.abbrev.len());
+            unit.text(&[1]);
         }
-        unit.text(&[1])?;
         for (_, value) in root {
-            value.put(&mut unit)?;
+            value.put(&mut unit);
         }
-        put_declaration(&mut self.abbrev, root)?;
-        self.info.counted(&unit.bytes)?;
-        Ok(offset)
+        put_declaration(&mut self.abbrev, root);
+        self.info.counted(&unit);
+        offset
     }
 
     /// A set of addresses, each with a length, of the unit at an offset.
-    pub fn set(&mut self, unit: u32, tuples: &[(u64, u64)]) -> Result<(), AllocError> {
-        let mut set = empty(self.alloc, self.class);
-        set.half(2)?;
-        set.word(unit)?;
-        set.text(&[self.class.address_size(), 0, 0, 0, 0, 0])?;
-        for (address, len) in tuples {
-            set.address(*address)?;
-            set.address(*len)?;
-        }
-        set.address(0)?;
-        set.address(0)?;
-        self.sets.counted(&set.bytes)
+    pub fn set(&mut self, unit: u32, tuples: &[(u64, u64)]) {
+        let mut set = self.table(2);
+        set.word(unit);
+        set.text(&[self.class.address_size(), 0, 0, 0, 0, 0]);
+        set.pairs(tuples);
+        set.addresses(&[0, 0]);
+        self.sets.counted(&set);
     }
 
     /// Strings one after the other.
-    pub fn strings(&mut self, strings: &[&[u8]]) -> Result<(), AllocError> {
+    pub fn strings(&mut self, strings: &[&[u8]]) {
         for string in strings {
-            self.strings.name(string)?;
+            self.strings.name(string);
         }
-        Ok(())
     }
 
     /// A table of the offsets of strings.
-    pub fn string_offsets(&mut self, offsets: &[u32]) -> Result<(), AllocError> {
-        let mut table = empty(self.alloc, self.class);
-        table.half(5)?;
-        table.half(0)?;
-        for offset in offsets {
-            table.word(*offset)?;
-        }
-        self.str_offsets.counted(&table.bytes)
+    pub fn string_offsets(&mut self, offsets: &[u32]) {
+        let mut table = self.table(5);
+        table.half(0);
+        table.words(offsets);
+        self.str_offsets.counted(&table);
     }
 
     /// A table of addresses.
-    pub fn addresses(&mut self, addresses: &[u64]) -> Result<(), AllocError> {
-        let mut table = empty(self.alloc, self.class);
-        table.half(5)?;
-        table.text(&[self.class.address_size(), 0])?;
-        for address in addresses {
-            table.address(*address)?;
-        }
-        self.addresses.counted(&table.bytes)
+    pub fn addresses(&mut self, addresses: &[u64]) {
+        let mut table = self.table(5);
+        table.text(&[self.class.address_size(), 0]);
+        table.addresses(addresses);
+        self.addresses.counted(&table);
     }
 
     /// Pairs of addresses, which (0, 0) ends.
-    pub fn pairs(&mut self, pairs: &[(u64, u64)]) -> Result<(), AllocError> {
-        for (begin, end) in pairs {
-            self.ranges.address(*begin)?;
-            self.ranges.address(*end)?;
-        }
-        self.ranges.address(0)?;
-        self.ranges.address(0)
-    }
-
-    // An entry of a range list.
-    fn put_entry(&self, list: &mut Numbers, entry: Entry) -> Result<(), AllocError> {
-        match entry {
-            Entry::EndOfList => list.text(&[0]),
-            Entry::BaseAddressx(index) => list.text(&[1, index]),
-            Entry::StartxLength(index, len) => list.text(&[3, index, len]),
-            Entry::OffsetPair(begin, end) => list.text(&[4, begin, end]),
-            Entry::StartLength(start, len) => {
-                list.text(&[7])?;
-                list.address(start)?;
-                list.text(&[len])
-            }
-        }
+    pub fn pairs(&mut self, pairs: &[(u64, u64)]) {
+        self.ranges.pairs(pairs);
+        self.ranges.addresses(&[0, 0]);
     }
 
     /// A range list, after a table whose one offset is its own.
-    pub fn list(&mut self, entries: &[Entry]) -> Result<(), AllocError> {
-        let mut list = empty(self.alloc, self.class);
-        list.half(5)?;
-        list.text(&[self.class.address_size(), 0])?;
-        list.word(1)?;
-        list.word(4)?;
+    pub fn list(&mut self, entries: &[Entry]) {
+        let mut list = self.table(5);
+        list.text(&[self.class.address_size(), 0]);
+        list.words(&[1, 4]);
         for entry in entries {
-            self.put_entry(&mut list, *entry)?;
+            put_entry(&mut list, *entry);
         }
-        self.rnglists.counted(&list.bytes)
+        self.rnglists.counted(&list);
     }
 
     /// A line program.
-    pub fn program(&mut self, program: &Program<'_>) -> Result<(), AllocError> {
-        let bytes = program.bytes(self.alloc, self.class)?;
-        self.lines.counted(&bytes)
+    pub fn program(&mut self, program: &Program<'_>) {
+        self.lines.counted(&program.numbers(self.alloc, self.class));
     }
 
     /// The sections that have bytes, for an ELF file. The first one is `.debug_info`.
@@ -270,8 +258,8 @@ impl Debug {
             (b".debug_aranges", &self.sets),
             (b".debug_line", &self.lines),
         ] {
-            if !numbers.bytes.is_empty() {
-                sections.push(part(name, &numbers.bytes))?;
+            if !numbers.is_empty() {
+                sections.push(part(name, numbers.bytes()?))?;
             }
         }
         Ok(sections)

@@ -8,7 +8,7 @@ use crate::image::{
     EXECUTABLE, FUNCTION, Head, LOAD, NAMES, NULL, Section, Segment, Symbol, file, part, symbols,
 };
 use crate::lines::{PLAIN, Program, Step};
-use crate::numbers::Class;
+use crate::numbers::{Class, Numbers, Order};
 use std::alloc::{AllocError, Global};
 
 // A section that is loaded: its name, its type, its flags, how far its address is above its offset, and its size.
@@ -48,37 +48,42 @@ const TEXT: u64 = 0x1680;
 // How many functions of 16 bytes follow one another in `.text`, the first 25 of them of `main.c`.
 const FUNCTIONS: u8 = 40;
 
-fn segment(kind: u32, flags: u32, offset: u64, gap: u64, size: u64) -> Segment {
-    Segment {
-        kind,
-        flags,
-        offset,
-        vaddr: offset.wrapping_add(gap),
-        filesz: size,
-        memsz: size,
-    }
-}
+// A program header: its type, its flags, its offset, how far its address is above that, and its size in the file and in
+// memory.
+type Header = (u32, u32, u64, u64, u64, u64);
 
-fn segments() -> [Segment; 13] {
-    let data = segment(LOAD.kind, 6, 3008, 0x3000, 256);
-    [
-        // PT_PHDR and PT_INTERP
-        segment(6, 4, 64, 0, 728),
-        segment(3, 4, 792, 0, 28),
-        segment(LOAD.kind, 4, 0, 0, 1536),
-        segment(LOAD.kind, 5, 1536, 0x1000, 1168),
-        segment(LOAD.kind, 4, 2704, 0x2000, 304),
-        Segment { memsz: 320, ..data },
-        // PT_DYNAMIC and twice PT_NOTE
-        segment(2, 6, 3024, 0x3000, 160),
-        segment(4, 4, 820, 0, 36),
-        segment(4, 4, 856, 0, 32),
-        // PT_GNU_PROPERTY, PT_GNU_EH_FRAME, PT_GNU_STACK and PT_GNU_RELRO
-        segment(0x6474_e553, 4, 820, 0, 36),
-        segment(0x6474_e550, 4, 2768, 0x2000, 64),
-        segment(0x6474_e551, 6, 0, 0, 0),
-        segment(0x6474_e552, 4, 3008, 0x3000, 240),
-    ]
+const SEGMENTS: [Header; 13] = [
+    // PT_PHDR and PT_INTERP
+    (6, 4, 64, 0, 728, 728),
+    (3, 4, 792, 0, 28, 28),
+    (LOAD.kind, 4, 0, 0, 1536, 1536),
+    (LOAD.kind, 5, 1536, 0x1000, 1168, 1168),
+    (LOAD.kind, 4, 2704, 0x2000, 304, 304),
+    (LOAD.kind, 6, 3008, 0x3000, 256, 320),
+    // PT_DYNAMIC and twice PT_NOTE
+    (2, 6, 3024, 0x3000, 160, 160),
+    (4, 4, 820, 0, 36, 36),
+    (4, 4, 856, 0, 32, 32),
+    // PT_GNU_PROPERTY, PT_GNU_EH_FRAME, PT_GNU_STACK and PT_GNU_RELRO
+    (0x6474_e553, 4, 820, 0, 36, 36),
+    (0x6474_e550, 4, 2768, 0x2000, 64, 64),
+    (0x6474_e551, 6, 0, 0, 0, 0),
+    (0x6474_e552, 4, 3008, 0x3000, 240, 240),
+];
+
+fn segments(alloc: Global) -> Result<Vec<Segment>, AllocError> {
+    let mut segments = Vec::new(alloc);
+    for (kind, flags, offset, gap, filesz, memsz) in SEGMENTS {
+        segments.push(Segment {
+            kind,
+            flags,
+            offset,
+            vaddr: offset.wrapping_add(gap),
+            filesz,
+            memsz,
+        })?;
+    }
+    Ok(segments)
 }
 
 // The null section, the sections that are loaded, and zeros after them.
@@ -112,29 +117,34 @@ fn loaded(alloc: Global, zeros: &[u8]) -> Result<Vec<Section<'_>>, AllocError> {
 
 // The names of symbols: that of a source file at 1, and from 8 on `f00`, `f01` and so on.
 fn symbol_names(alloc: Global) -> Result<Vec<u8>, AllocError> {
-    let mut names = Vec::new(alloc);
-    names.extend_from_slice(b"\0main.c\0")?;
+    let mut names = Numbers::new(alloc, Class::Bits64, Order::Little);
+    names.text(b"\0main.c\0");
     for k in 0..FUNCTIONS {
-        names.extend_from_slice(&[b'f', b'0' + k / 10, b'0' + k % 10, 0])?;
+        names.text(&[b'f', b'0' + k / 10, b'0' + k % 10, 0]);
     }
-    Ok(names)
+    names.finish()
 }
 
-// A source file, a section, and the functions.
-fn symbol_table(alloc: Global) -> Result<Vec<u8>, AllocError> {
-    let mut table = Vec::new(alloc);
-    table.push(Symbol {
+// A source file and a section.
+const FIRST_SYMBOLS: [Symbol; 2] = [
+    Symbol {
         name: 1,
         kind: 4,
         section: 0xfff1,
         ..FUNCTION
-    })?;
-    table.push(Symbol {
+    },
+    Symbol {
         kind: 3,
         value: TEXT,
         section: TEXT_NUMBER,
         ..FUNCTION
-    })?;
+    },
+];
+
+// A source file, a section, and the functions.
+fn symbol_table(alloc: Global) -> Result<Vec<u8>, AllocError> {
+    let mut table = Vec::new(alloc);
+    table.extend_from_slice(&FIRST_SYMBOLS)?;
     for k in 0..FUNCTIONS {
         table.push(Symbol {
             name: 8 + 4 * k as u32,
@@ -147,24 +157,28 @@ fn symbol_table(alloc: Global) -> Result<Vec<u8>, AllocError> {
     symbols(alloc, EXECUTABLE, &table)
 }
 
+// The ranges of `util.c`, in DWARF 5.
+const RANGES: [Entry; 3] = [
+    Entry::StartLength(TEXT + 400, 112),
+    Entry::StartLength(TEXT + 528, 112),
+    Entry::EndOfList,
+];
+
 // What the units name: strings and ranges, and from DWARF 5 on by indexes.
-fn add_tables(debug: &mut Debug, version: u16) -> Result<(), AllocError> {
-    debug.strings(&[b"main.c", b"util.c", b"dropped.c"])?;
+fn add_tables(debug: &mut Debug, version: u16) {
+    debug.strings(&[b"main.c", b"util.c", b"dropped.c"]);
     if version < 5 {
-        return debug.pairs(&[(TEXT + 400, TEXT + 512), (TEXT + 528, TEXT + 640)]);
+        debug.pairs(&[(TEXT + 400, TEXT + 512), (TEXT + 528, TEXT + 640)]);
+        return;
     }
-    debug.string_offsets(&[0, 7, 14])?;
-    debug.addresses(&[TEXT, 0])?;
-    debug.list(&[
-        Entry::StartLength(TEXT + 400, 112),
-        Entry::StartLength(TEXT + 528, 112),
-        Entry::EndOfList,
-    ])
+    debug.string_offsets(&[0, 7, 14]);
+    debug.addresses(&[TEXT, 0]);
+    debug.list(&RANGES);
 }
 
 // The units `main.c`, of 25 functions and a line program; `util.c`, of two ranges of 7 functions; and `dropped.c`,
 // whose code isn't there.
-fn add_units(debug: &mut Debug, version: u16) -> Result<(), AllocError> {
+fn add_units(debug: &mut Debug, version: u16) {
     debug.unit(
         version,
         &[
@@ -173,14 +187,14 @@ fn add_units(debug: &mut Debug, version: u16) -> Result<(), AllocError> {
             (DW_AT_HIGH_PC, Value::Data4(400)),
             (DW_AT_STMT_LIST, Value::SecOffset(0)),
         ],
-    )?;
+    );
     debug.unit(
         version,
         &[
             (DW_AT_NAME, name_value(version, 7, 1)),
             (DW_AT_RANGES, ranges_value(version)),
         ],
-    )?;
+    );
     debug.unit(
         version,
         &[
@@ -188,35 +202,37 @@ fn add_units(debug: &mut Debug, version: u16) -> Result<(), AllocError> {
             (DW_AT_LOW_PC, address_value(version, 0, 1)),
             (DW_AT_HIGH_PC, Value::Data4(16)),
         ],
-    )?;
-    Ok(())
+    );
 }
 
+// The first row of `main.c`.
+const FIRST_STEPS: [Step; 2] = [Step::SetAddress(TEXT), Step::Copy];
+
 // A line for each function of `main.c`.
-fn add_lines(alloc: Global, debug: &mut Debug, version: u16) -> Result<(), AllocError> {
+fn steps(alloc: Global) -> Result<Vec<Step>, AllocError> {
     let mut steps = Vec::new(alloc);
-    steps.push(Step::SetAddress(TEXT))?;
-    steps.push(Step::Copy)?;
+    steps.extend_from_slice(&FIRST_STEPS)?;
     for _ in 0..25 {
         // 16 bytes and a line further.
         steps.push(Step::Special(243))?;
     }
     steps.push(Step::EndSequence)?;
-    let files: [(&[u8], u8); 2] = [(b"main.c", 0), (b"main.c", 0)];
-    debug.program(&Program {
-        version,
-        files: if version < 5 { &files[1..] } else { &files },
-        steps: &steps,
-        ..PLAIN
-    })
+    Ok(steps)
 }
+
+const FILES: [(&[u8], u8); 2] = [(b"main.c", 0), (b"main.c", 0)];
 
 fn debug_sections(alloc: Global, version: u16) -> Result<Debug, AllocError> {
     let mut debug = Debug::new(alloc, Class::Bits64);
-    add_tables(&mut debug, version)?;
-    add_units(&mut debug, version)?;
-    debug.set(0, &[(TEXT, 400)])?;
-    add_lines(alloc, &mut debug, version)?;
+    add_tables(&mut debug, version);
+    add_units(&mut debug, version);
+    debug.set(0, &[(TEXT, 400)]);
+    debug.program(&Program {
+        version,
+        files: if version < 5 { &FILES[1..] } else { &FILES },
+        steps: &steps(alloc)?,
+        ..PLAIN
+    });
     Ok(debug)
 }
 
@@ -265,5 +281,5 @@ pub fn executable(alloc: Global, version: u16) -> Result<Vec<u8>, AllocError> {
         ..EXECUTABLE
     };
     let sections = contents.sections(alloc, version)?;
-    file(alloc, head, &segments(), &sections)
+    file(alloc, head, &segments(alloc)?, &sections)
 }

@@ -87,88 +87,64 @@ pub struct Symbol {
     pub section: u16,
 }
 
-fn put_header(
-    image: &mut Numbers,
-    head: Head,
-    segments: usize,
-    sections: usize,
-    names: usize,
-) -> Result<(), AllocError> {
+// A number of items in a field of 2 bytes.
+fn count(items: usize) -> u16 {
+    u16::try_from(items).unwrap_or(u16::MAX)
+}
+
+// The file's header. The offset of the section headers is still 0.
+fn put_header(image: &mut Numbers, head: Head, segments: usize, sections: &[Section<'_>]) {
     let (class, header, segment, section) = match head.class {
-        Class::Bits32 => (1, 52, 32, 40),
+        Class::Bits32 => (1, 52u16, 32, 40),
         Class::Bits64 => (2, 64, 56, 64),
     };
     let order = match head.order {
         Order::Little => 1,
         Order::Big => 2,
     };
-    image.text(b"\x7fELF")?;
-    image.text(&[class, order, 1])?;
-    image.zeros(9)?;
-    image.half(head.kind)?;
-    image.half(head.machine)?;
-    image.word(1)?;
-    image.address(0x400078)?;
-    image.address(if segments == 0 { 0 } else { u64::from(header) })?;
-    image.address(0)?;
-    image.word(0)?;
-    image.half(header)?;
-    image.half(segment)?;
-    image.half(u16::try_from(segments).unwrap_or(u16::MAX))?;
-    image.half(section)?;
-    image.half(u16::try_from(sections).unwrap_or(u16::MAX))?;
-    image.half(u16::try_from(names).unwrap_or(u16::MAX))
+    let names = sections.iter().position(|s| s.name == NAMES.name);
+    let first = if segments == 0 { 0 } else { header };
+    image.text(b"\x7fELF");
+    image.text(&[class, order, 1, 0, 0, 0, 0, 0, 0, 0, 0, 0]);
+    image.halves(&[head.kind, head.machine]);
+    image.word(1);
+    image.addresses(&[0x400078, u64::from(first), 0]);
+    image.word(0);
+    image.halves(&[header, segment, count(segments), section]);
+    image.halves(&[count(sections.len()), count(names.unwrap_or(0))]);
 }
 
-fn put_segment(image: &mut Numbers, class: Class, s: Segment) -> Result<(), AllocError> {
-    image.word(s.kind)?;
+fn put_segment(image: &mut Numbers, class: Class, s: &Segment) {
+    image.word(s.kind);
     if class == Class::Bits64 {
-        image.word(s.flags)?;
+        image.word(s.flags);
     }
-    image.address(s.offset)?;
-    image.address(s.vaddr)?;
-    image.address(s.vaddr)?;
-    image.address(s.filesz)?;
-    image.address(s.memsz)?;
+    image.addresses(&[s.offset, s.vaddr, s.vaddr, s.filesz, s.memsz]);
     if class == Class::Bits32 {
-        image.word(s.flags)?;
+        image.word(s.flags);
     }
-    image.address(4096)
+    image.address(4096);
 }
 
 // The header of a section whose name and bytes are at these offsets.
-fn put_section(
-    image: &mut Numbers,
-    s: &Section<'_>,
-    name: usize,
-    offset: u64,
-    size: u64,
-) -> Result<(), AllocError> {
-    image.word(u32::try_from(name).unwrap_or(u32::MAX))?;
-    image.word(s.kind)?;
-    image.address(s.flags)?;
-    image.address(s.addr)?;
-    image.address(offset)?;
-    image.address(size)?;
-    image.word(s.link)?;
-    image.word(0)?;
-    image.address(1)?;
-    image.address(0)
+fn put_section(headers: &mut Numbers, s: &Section<'_>, name: u32, offset: u64, size: u64) {
+    headers.words(&[name, s.kind]);
+    headers.addresses(&[s.flags, s.addr, offset, size]);
+    headers.words(&[s.link, 0]);
+    headers.addresses(&[1, 0]);
 }
 
-fn put_symbol(image: &mut Numbers, class: Class, s: Symbol) -> Result<(), AllocError> {
-    image.word(s.name)?;
+fn put_symbol(image: &mut Numbers, class: Class, s: &Symbol) {
+    image.word(s.name);
     if class == Class::Bits64 {
-        image.text(&[s.kind, 0])?;
-        image.half(s.section)?;
+        image.text(&[s.kind, 0]);
+        image.half(s.section);
     }
-    image.address(s.value)?;
-    image.address(s.size)?;
+    image.addresses(&[s.value, s.size]);
     if class == Class::Bits32 {
-        image.text(&[s.kind, 0])?;
-        image.half(s.section)?;
+        image.text(&[s.kind, 0]);
+        image.half(s.section);
     }
-    Ok(())
 }
 
 /// A table of symbols, the first of which is the null symbol.
@@ -177,11 +153,11 @@ pub fn symbols(alloc: Global, head: Head, symbols: &[Symbol]) -> Result<Vec<u8>,
     image.zeros(match head.class {
         Class::Bits32 => 16,
         Class::Bits64 => 24,
-    })?;
+    });
     for symbol in symbols {
-        put_symbol(&mut image, head.class, *symbol)?;
+        put_symbol(&mut image, head.class, symbol);
     }
-    Ok(image.bytes)
+    image.finish()
 }
 
 /// A symbol of type STT_FUNC in the first section, without a name.
@@ -193,20 +169,50 @@ pub const FUNCTION: Symbol = Symbol {
     section: 1,
 };
 
-// The names of sections, and where each begins.
-fn names_of(alloc: Global, sections: &[Section<'_>]) -> Result<(Vec<u8>, Vec<usize>), AllocError> {
-    let mut names = Vec::new(alloc);
-    let mut places = Vec::new(alloc);
+// The names of sections, of which an empty one is at 0.
+fn names_of(alloc: Global, head: Head, sections: &[Section<'_>]) -> Numbers {
+    let mut names = Numbers::new(alloc, head.class, head.order);
+    names.text(&[0]);
     for section in sections {
-        if section.name.is_empty() && !names.is_empty() {
-            places.push(0)?;
-        } else {
-            places.push(names.len())?;
-            names.extend_from_slice(section.name)?;
-            names.push(0)?;
+        if !section.name.is_empty() {
+            names.name(section.name);
         }
     }
-    Ok((names, places))
+    names
+}
+
+// How many bytes a section's name takes.
+fn name_size(name: &[u8]) -> u32 {
+    if name.is_empty() {
+        return 0;
+    }
+    u32::try_from(name.len()).unwrap_or(0).wrapping_add(1)
+}
+
+// The bytes of the sections, and their headers.
+fn put_sections(
+    image: &mut Numbers,
+    headers: &mut Numbers,
+    names: &Numbers,
+    sections: &[Section<'_>],
+) {
+    let mut next_name = 1u32;
+    for section in sections {
+        let name = if section.name.is_empty() {
+            0
+        } else {
+            next_name
+        };
+        next_name = next_name.wrapping_add(name_size(section.name));
+        let start = image.len();
+        image.text(section.bytes);
+        if section.name == NAMES.name {
+            image.all(names);
+        }
+        let size = image.len().wrapping_sub(start) as u64;
+        let offset = if section.kind == 0 { 0 } else { start as u64 };
+        put_section(headers, section, name, offset, section.empty.max(size));
+    }
 }
 
 /// A file: its header, the program headers, the bytes of each section, and, from a multiple of 8 on, the section
@@ -217,41 +223,27 @@ pub fn file(
     segments: &[Segment],
     sections: &[Section<'_>],
 ) -> Result<Vec<u8>, AllocError> {
-    let (names, places) = names_of(alloc, sections)?;
     let mut image = Numbers::new(alloc, head.class, head.order);
-    let names_index = sections.iter().position(|s| s.name == NAMES.name);
-    put_header(
-        &mut image,
-        head,
-        segments.len(),
-        sections.len(),
-        names_index.unwrap_or(0),
-    )?;
+    put_header(&mut image, head, segments.len(), sections);
     for segment in segments {
-        put_segment(&mut image, head.class, *segment)?;
+        put_segment(&mut image, head.class, segment);
     }
     let mut headers = Numbers::new(alloc, head.class, head.order);
-    for (i, section) in sections.iter().enumerate() {
-        let name = places.get(i).copied().unwrap_or(0);
-        let start = image.bytes.len() as u64;
-        image.text(section.bytes)?;
-        if section.name == NAMES.name {
-            image.text(&names)?;
-        }
-        let size = (image.bytes.len() as u64).wrapping_sub(start);
-        let offset = if section.kind == 0 { 0 } else { start };
-        put_section(&mut headers, section, name, offset, section.empty.max(size))?;
-    }
-    let end = image.bytes.len();
-    image.zeros(7 - end.wrapping_sub(1) % 8)?;
+    put_sections(
+        &mut image,
+        &mut headers,
+        &names_of(alloc, head, sections),
+        sections,
+    );
+    image.zeros(7 - (image.len().wrapping_sub(1) % 8) as usize);
     let mut table = Numbers::new(alloc, head.class, head.order);
-    table.address(image.bytes.len() as u64)?;
-    image.text(&headers.bytes)?;
+    table.address(image.len() as u64);
+    image.all(&headers);
     let place = match head.class {
         Class::Bits32 => 32,
         Class::Bits64 => 40,
     };
-    Ok(patched(image.bytes, place, &table.bytes))
+    Ok(patched(image.finish()?, place, table.bytes()?))
 }
 
 /// Writes bytes over those from an offset on.

@@ -1,7 +1,7 @@
 //! Line programs (DWARF 5, section 6.2).
 
 use crate::numbers::{Class, Numbers, Order};
-use std::alloc::{AllocError, Global};
+use std::alloc::Global;
 
 /// An instruction, whose operands are below 64.
 #[derive(Clone, Copy)]
@@ -50,11 +50,11 @@ fn count<T>(items: &[T]) -> u8 {
     u8::try_from(items.len()).unwrap_or(u8::MAX)
 }
 
-fn put_step(numbers: &mut Numbers, class: Class, step: Step) -> Result<(), AllocError> {
+fn put_step(numbers: &mut Numbers, class: Class, step: Step) {
     match step {
         Step::SetAddress(address) => {
-            numbers.text(&[0, class.address_size().wrapping_add(1), 2])?;
-            numbers.address(address)
+            numbers.text(&[0, class.address_size().wrapping_add(1), 2]);
+            numbers.address(address);
         }
         Step::EndSequence => numbers.text(&[0, 1, 1]),
         Step::Copy => numbers.text(&[1]),
@@ -67,62 +67,63 @@ fn put_step(numbers: &mut Numbers, class: Class, step: Step) -> Result<(), Alloc
     }
 }
 
+fn put_folders(numbers: &mut Numbers, folders: &[&[u8]]) {
+    for folder in folders {
+        numbers.name(folder);
+    }
+}
+
 impl Program<'_> {
     // Folders and files, each list up to an empty name.
-    fn put_names(&self, numbers: &mut Numbers) -> Result<(), AllocError> {
-        for folder in self.folders {
-            numbers.name(folder)?;
-        }
-        numbers.text(&[0])?;
+    fn put_names(&self, numbers: &mut Numbers) {
+        put_folders(numbers, self.folders);
+        numbers.text(&[0]);
         for (name, folder) in self.files {
-            numbers.name(name)?;
-            numbers.text(&[*folder, 0, 0])?;
+            numbers.name(name);
+            numbers.text(&[*folder, 0, 0]);
         }
-        numbers.text(&[0])
+        numbers.text(&[0]);
     }
 
     // Folders by their path, and files by their path and folder, in DW_FORM_string and DW_FORM_data1.
-    fn put_tables(&self, numbers: &mut Numbers) -> Result<(), AllocError> {
-        numbers.text(&[1, 1, 0x08, count(self.folders)])?;
-        for folder in self.folders {
-            numbers.name(folder)?;
-        }
-        numbers.text(&[2, 1, 0x08, 2, 0x0b, count(self.files)])?;
+    fn put_tables(&self, numbers: &mut Numbers) {
+        numbers.text(&[1, 1, 0x08, count(self.folders)]);
+        put_folders(numbers, self.folders);
+        numbers.text(&[2, 1, 0x08, 2, 0x0b, count(self.files)]);
         for (name, folder) in self.files {
-            numbers.name(name)?;
-            numbers.text(&[*folder])?;
+            numbers.name(name);
+            numbers.text(&[*folder]);
         }
-        Ok(())
     }
 
     // What is between the length of the header and the instructions.
-    fn header(&self, alloc: Global, class: Class) -> Result<Vec<u8>, AllocError> {
+    fn header(&self, alloc: Global, class: Class) -> Numbers {
         let mut header = Numbers::new(alloc, class, Order::Little);
-        header.text(&[self.min_inst])?;
+        header.text(&[self.min_inst]);
         if self.version >= 4 {
-            header.text(&[self.max_ops])?;
+            header.text(&[self.max_ops]);
         }
-        header.text(&[1, self.line_base, self.line_range, 13])?;
-        header.text(&[0, 1, 1, 1, 1, 0, 0, 0, 1, 0, 0, 1])?;
+        header.text(&[1, self.line_base, self.line_range, 13]);
+        header.text(&[0, 1, 1, 1, 1, 0, 0, 0, 1, 0, 0, 1]);
         if self.version < 5 {
-            self.put_names(&mut header)?;
+            self.put_names(&mut header);
         } else {
-            self.put_tables(&mut header)?;
+            self.put_tables(&mut header);
         }
-        Ok(header.bytes)
+        header
     }
 
     /// The program after its length.
-    pub fn bytes(&self, alloc: Global, class: Class) -> Result<Vec<u8>, AllocError> {
+    pub fn numbers(&self, alloc: Global, class: Class) -> Numbers {
         let mut program = Numbers::new(alloc, class, Order::Little);
-        program.half(self.version)?;
+        program.half(self.version);
         if self.version >= 5 {
-            program.text(&[class.address_size(), 0])?;
+            program.text(&[class.address_size(), 0]);
         }
-        program.counted(&self.header(alloc, class)?)?;
+        program.counted(&self.header(alloc, class));
         for step in self.steps {
-            put_step(&mut program, class, *step)?;
+            put_step(&mut program, class, *step);
         }
-        Ok(program.bytes)
+        program
     }
 }

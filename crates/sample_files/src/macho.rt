@@ -1,6 +1,6 @@
 //! Mach-O files (Apple's `mach-o/loader.h` and `mach-o/nlist.h`).
 
-use crate::image::patched;
+use crate::image::put_all;
 use crate::numbers::{Class, Numbers, Order};
 use std::alloc::{AllocError, Global};
 
@@ -57,86 +57,59 @@ pub enum Command<'a> {
 pub type MachoSymbol = (u32, u8, u8, u64);
 
 // A name in a field of 16 bytes.
-fn put_name(numbers: &mut Numbers, name: &[u8]) -> Result<(), AllocError> {
-    numbers.text(name)?;
-    numbers.zeros(16usize.saturating_sub(name.len()))
+fn put_name(numbers: &mut Numbers, name: &[u8]) {
+    numbers.text(name);
+    numbers.zeros(16usize.saturating_sub(name.len()));
 }
 
-fn put_words(numbers: &mut Numbers, words: &[u32]) -> Result<(), AllocError> {
-    for word in words {
-        numbers.word(*word)?;
-    }
-    Ok(())
-}
-
-fn put_section(
-    numbers: &mut Numbers,
-    class: Class,
-    s: &MachoSection<'_>,
-) -> Result<(), AllocError> {
-    put_name(numbers, s.name)?;
-    put_name(numbers, s.segment)?;
-    numbers.address(s.addr)?;
-    numbers.address(s.size)?;
-    put_words(numbers, &[s.offset, 0, 0, 0, s.flags, 0, 0])?;
+fn put_section(numbers: &mut Numbers, class: Class, s: &MachoSection<'_>) {
+    put_name(numbers, s.name);
+    put_name(numbers, s.segment);
+    numbers.addresses(&[s.addr, s.size]);
+    numbers.words(&[s.offset, 0, 0, 0, s.flags, 0, 0]);
     if class == Class::Bits64 {
-        numbers.word(0)?;
+        numbers.word(0);
     }
-    Ok(())
 }
 
-fn put_segment(
-    numbers: &mut Numbers,
-    class: Class,
-    s: &MachoSegment<'_>,
-) -> Result<(), AllocError> {
+fn put_segment(numbers: &mut Numbers, class: Class, s: &MachoSegment<'_>) {
     let (kind, len, section) = match class {
         Class::Bits32 => (0x01, 56, 68u32),
         Class::Bits64 => (0x19, 72, 80u32),
     };
     let count = u32::try_from(s.sections.len()).unwrap_or(0);
-    numbers.word(kind)?;
-    numbers.word(count.wrapping_mul(section).wrapping_add(len))?;
-    put_name(numbers, s.name)?;
-    numbers.address(s.vaddr)?;
-    numbers.address(s.memsz)?;
-    numbers.address(s.offset)?;
-    numbers.address(s.filesz)?;
-    put_words(numbers, &[s.access, s.access, count, 0])?;
+    numbers.words(&[kind, count.wrapping_mul(section).wrapping_add(len)]);
+    put_name(numbers, s.name);
+    numbers.addresses(&[s.vaddr, s.memsz, s.offset, s.filesz]);
+    numbers.words(&[s.access, s.access, count, 0]);
     for section in s.sections {
-        put_section(numbers, class, section)?;
+        put_section(numbers, class, section);
     }
-    Ok(())
 }
 
-fn put_command(
-    numbers: &mut Numbers,
-    class: Class,
-    command: &Command<'_>,
-) -> Result<(), AllocError> {
+fn put_indirect(numbers: &mut Numbers, fields: &[u32]) {
+    numbers.words(&[0x0b, 80]);
+    numbers.zeros(48);
+    numbers.words(fields);
+    numbers.zeros(16);
+}
+
+// The number of a command, its size, and its fields.
+fn put_fields(numbers: &mut Numbers, command: u32, size: u32, fields: &[u32]) {
+    numbers.words(&[command, size]);
+    numbers.words(fields);
+}
+
+fn put_command(numbers: &mut Numbers, class: Class, command: &Command<'_>) {
     match command {
         Command::Segment(segment) => put_segment(numbers, class, segment),
-        Command::Symbols(fields) => {
-            put_words(numbers, &[0x02, 24])?;
-            put_words(numbers, fields)
-        }
-        Command::Indirect(fields) => {
-            put_words(numbers, &[0x0b, 80])?;
-            numbers.zeros(48)?;
-            put_words(numbers, fields)?;
-            numbers.zeros(16)
-        }
-        Command::DyldInfo(fields) => {
-            put_words(numbers, &[0x8000_0022, 48])?;
-            put_words(numbers, fields)
-        }
-        Command::Signature(fields) => {
-            put_words(numbers, &[0x1d, 16])?;
-            put_words(numbers, fields)
-        }
+        Command::Symbols(fields) => put_fields(numbers, 0x02, 24, fields),
+        Command::Indirect(fields) => put_indirect(numbers, fields),
+        Command::DyldInfo(fields) => put_fields(numbers, 0x8000_0022, 48, fields),
+        Command::Signature(fields) => put_fields(numbers, 0x1d, 16, fields),
         Command::Uuid(byte) => {
-            put_words(numbers, &[0x1b, 24])?;
-            numbers.text(&[*byte; 16])
+            numbers.words(&[0x1b, 24]);
+            numbers.text(&[*byte; 16]);
         }
     }
 }
@@ -149,12 +122,28 @@ pub fn macho_symbols(
 ) -> Result<Vec<u8>, AllocError> {
     let mut table = Numbers::new(alloc, head.class, head.order);
     for (name, kind, section, value) in symbols {
-        table.word(*name)?;
-        table.text(&[*kind, *section])?;
-        table.half(0)?;
-        table.address(*value)?;
+        table.word(*name);
+        table.text(&[*kind, *section]);
+        table.half(0);
+        table.address(*value);
     }
-    Ok(table.bytes)
+    table.finish()
+}
+
+// The header of a file with these commands.
+fn header(alloc: Global, head: MachoHead, count: usize, commands: &Numbers) -> Numbers {
+    let mut header = Numbers::new(alloc, head.class, head.order);
+    let (magic, machine) = match head.class {
+        Class::Bits32 => (0xfeed_face, 12),
+        Class::Bits64 => (0xfeed_facf, 0x0100_000c),
+    };
+    let count = u32::try_from(count).unwrap_or(0);
+    header.words(&[magic, machine, 0, head.kind, count, commands.len(), 0]);
+    if head.class == Class::Bits64 {
+        header.word(0);
+    }
+    header.all(commands);
+    header
 }
 
 /// A file of so many bytes: its header, the commands, and zeros after them, with these bytes at these offsets.
@@ -167,27 +156,11 @@ pub fn macho_file(
 ) -> Result<Vec<u8>, AllocError> {
     let mut body = Numbers::new(alloc, head.class, head.order);
     for command in commands {
-        put_command(&mut body, head.class, command)?;
+        put_command(&mut body, head.class, command);
     }
-    let mut file = Numbers::new(alloc, head.class, head.order);
-    let (magic, machine) = match head.class {
-        Class::Bits32 => (0xfeed_face, 12),
-        Class::Bits64 => (0xfeed_facf, 0x0100_000c),
-    };
-    let count = u32::try_from(commands.len()).unwrap_or(0);
-    put_words(
-        &mut file,
-        &[magic, machine, 0, head.kind, count, body.len(), 0],
-    )?;
-    if head.class == Class::Bits64 {
-        file.word(0)?;
-    }
-    file.text(&body.bytes)?;
-    let made = file.bytes.len();
-    file.zeros(len.saturating_sub(made))?;
-    let mut bytes = file.bytes;
-    for (place, part) in parts {
-        bytes = patched(bytes, *place, part);
-    }
+    let mut file = header(alloc, head, commands.len(), &body);
+    file.zeros(len.saturating_sub(file.len() as usize));
+    let mut bytes = file.finish()?;
+    put_all(&mut bytes, parts);
     Ok(bytes)
 }

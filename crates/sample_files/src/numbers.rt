@@ -26,12 +26,13 @@ pub enum Order {
     Big,
 }
 
-/// Bytes that grow by numbers.
+/// Bytes that grow by numbers. A write that gets no memory is left out, and `bytes` and `finish` report it.
 #[derive(Drop)]
 pub struct Numbers {
     class: Class,
     order: Order,
-    pub bytes: Vec<u8>,
+    out_of_memory: bool,
+    bytes: Vec<u8>,
 }
 
 impl Numbers {
@@ -39,6 +40,7 @@ impl Numbers {
         Numbers {
             class,
             order,
+            out_of_memory: false,
             bytes: Vec::new(alloc),
         }
     }
@@ -48,33 +50,76 @@ impl Numbers {
         u32::try_from(self.bytes.len()).unwrap_or(u32::MAX)
     }
 
-    pub fn text(&mut self, text: &[u8]) -> Result<(), AllocError> {
-        self.bytes.extend_from_slice(text)
+    pub fn is_empty(&self) -> bool {
+        self.bytes.is_empty()
+    }
+
+    /// The bytes, if each write got its memory.
+    pub fn bytes(&self) -> Result<&[u8], AllocError> {
+        if self.out_of_memory {
+            return Err(AllocError);
+        }
+        Ok(&self.bytes)
+    }
+
+    /// The bytes, if each write got its memory.
+    pub fn finish(self) -> Result<Vec<u8>, AllocError> {
+        if self.out_of_memory {
+            return Err(AllocError);
+        }
+        Ok(self.bytes)
+    }
+
+    pub fn text(&mut self, text: &[u8]) {
+        if self.bytes.extend_from_slice(text).is_err() {
+            self.out_of_memory = true;
+        }
     }
 
     /// A text with the zero byte that ends it.
-    pub fn name(&mut self, name: &[u8]) -> Result<(), AllocError> {
-        self.text(name)?;
-        self.text(&[0])
+    pub fn name(&mut self, name: &[u8]) {
+        self.text(name);
+        self.text(&[0]);
     }
 
-    pub fn zeros(&mut self, count: usize) -> Result<(), AllocError> {
+    pub fn zeros(&mut self, count: usize) {
         for _ in 0..count {
-            self.bytes.push(0)?;
+            if self.bytes.push(0).is_err() {
+                self.out_of_memory = true;
+            }
         }
-        Ok(())
     }
 
     /// A number of 2 bytes.
-    pub fn half(&mut self, x: u16) -> Result<(), AllocError> {
+    pub fn half(&mut self, x: u16) {
         match self.order {
             Order::Little => self.text(&x.to_le_bytes()),
             Order::Big => self.text(&x.to_be_bytes()),
         }
     }
 
+    pub fn halves(&mut self, numbers: &[u16]) {
+        for x in numbers {
+            self.half(*x);
+        }
+    }
+
     /// A number of 4 bytes.
-    pub fn word(&mut self, x: u32) -> Result<(), AllocError> {
+    pub fn word(&mut self, x: u32) {
+        match self.order {
+            Order::Little => self.text(&x.to_le_bytes()),
+            Order::Big => self.text(&x.to_be_bytes()),
+        }
+    }
+
+    pub fn words(&mut self, numbers: &[u32]) {
+        for x in numbers {
+            self.word(*x);
+        }
+    }
+
+    // A number of 8 bytes.
+    fn long(&mut self, x: u64) {
         match self.order {
             Order::Little => self.text(&x.to_le_bytes()),
             Order::Big => self.text(&x.to_be_bytes()),
@@ -82,17 +127,36 @@ impl Numbers {
     }
 
     /// A number of 4 or 8 bytes, by the class.
-    pub fn address(&mut self, x: u64) -> Result<(), AllocError> {
-        match (self.class, self.order) {
-            (Class::Bits32, _) => self.word(u32::try_from(x).unwrap_or(u32::MAX)),
-            (Class::Bits64, Order::Little) => self.text(&x.to_le_bytes()),
-            (Class::Bits64, Order::Big) => self.text(&x.to_be_bytes()),
+    pub fn address(&mut self, x: u64) {
+        match self.class {
+            Class::Bits32 => self.word(u32::try_from(x).unwrap_or(u32::MAX)),
+            Class::Bits64 => self.long(x),
         }
     }
 
-    /// Bytes after their count.
-    pub fn counted(&mut self, bytes: &[u8]) -> Result<(), AllocError> {
-        self.word(u32::try_from(bytes.len()).unwrap_or(u32::MAX))?;
-        self.text(bytes)
+    pub fn addresses(&mut self, numbers: &[u64]) {
+        for x in numbers {
+            self.address(*x);
+        }
+    }
+
+    /// Pairs of addresses.
+    pub fn pairs(&mut self, pairs: &[(u64, u64)]) {
+        for (first, second) in pairs {
+            self.address(*first);
+            self.address(*second);
+        }
+    }
+
+    /// Other numbers.
+    pub fn all(&mut self, others: &Numbers) {
+        self.text(&others.bytes);
+        self.out_of_memory = self.out_of_memory || others.out_of_memory;
+    }
+
+    /// Other numbers after the count of their bytes.
+    pub fn counted(&mut self, others: &Numbers) {
+        self.word(others.len());
+        self.all(others);
     }
 }

@@ -29,7 +29,7 @@ both : (r s : Check) → (r >> s) ≡ Ok tt → (r ≡ Ok tt) × (s ≡ Ok tt)
 both (Ok x) s h = (refl, h)
 both (Err e) s h = cc
 
--- Where all of the checks hold, each of them does.
+-- If all checks hold, each of them does.
 pub each_at : (check : ℕ → Check) (count i k : ℕ) → each check i count ≡ Ok tt → i ≤ k → k < i + count → check k ≡ Ok tt
 unfolding each
 each_at check zero i k h low high = absurd (omega arith)

@@ -31,7 +31,7 @@ all_hold (Ok x ∷ cs) h zero lt = refl
 all_hold (Ok x ∷ cs) h (suc j) lt = all_hold cs h j (omega arith)
 all_hold (Err e ∷ cs) h j lt = cc
 
--- What a function returns that returns the first of these checks that fails.
+-- What it means that a result is the first failing check of a list.
 pub means : (r : Check) (cs : List Check) → r ≡ first_of cs → MatchResult r (λ _. AllHold cs) (IsFirstFault cs)
 means (Ok x) cs h = all_hold cs (sym h)
 means (Err e) cs h = is_first cs e (sym h)

@@ -23,7 +23,7 @@ pub first_end : (p : ℕ → Bool) (n i : ℕ) → n ≤ i → first_from p i (n
 unfolding first_from
 first_end p n i le = let k : n - i ≡ 0 = omega arith in rw k refl
 
--- What two rows of numbers give, joined.
+-- The lists of two adjacent ranges of numbers, joined.
 pub gather_append : {X : Type 0} (f : ℕ → List X) (a m n : ℕ) → gather f a (m + n) ≡ gather f a m ++ gather f (a + m) n
 unfolding gather
 gather_append f a zero n =

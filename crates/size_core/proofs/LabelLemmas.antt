@@ -46,7 +46,7 @@ module _ {V : Type 0} (f : V → List ℕ) (label : List ℕ) where
     slice_get-map f new i ∙ ap (option_map f) at ∙ ap Some (sym ((bytes_eq-Decides (f v) (f k)).0 equal) ∙ is),
   )
 
--- Labels are distinct where their vectors are distinguished by them.
+-- If the label of an item differs from those of other items, it differs from each label in their list.
 each-distinct : {V : Type 0} (f : V → List ℕ) (v : V) (keys : List V) → AllByRecursion (λ w. bytes_eq (f v) (f w) ≡ false) keys → AllByRecursion (λ l. bytes_eq (f v) l ≡ false) (map f keys)
 each-distinct f v [] h = tt
 each-distinct f v (w ∷ keys) h = (h.0, each-distinct f v keys h.1)

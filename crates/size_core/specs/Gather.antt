@@ -1,4 +1,4 @@
--- Lists and searches over a row of numbers.
+-- Lists and searches over a range of numbers.
 use Rattle.std.specs.Prelude.{ℕ, zero, suc, ◌+◌, Bool, List, [], ◌++◌, Option, None, Some, if◌then◌else◌}
 
 -- The lists that f gives for count numbers from i on, joined in order.

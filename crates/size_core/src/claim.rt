@@ -23,8 +23,11 @@ pub struct Span {
 /// A claim: the label that a data source gives a range of bytes. A span that the side doesn't use is all zero.
 #[derive(Clone, Copy, Debug, PartialEq, Eq, Hash)]
 pub struct Claim {
+    /// Which of the two spans the claim names.
     pub side: Side,
+    /// The virtual addresses.
     pub vm: Span,
+    /// The file offsets.
     pub file: Span,
     /// The label's number in a `LabelPool`.
     pub label: usize,

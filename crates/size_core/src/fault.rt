@@ -94,6 +94,8 @@ impl Fault {
 /// A fault and the file offset, in bytes, where it was found.
 #[derive(Clone, Copy, Debug, PartialEq, Eq, Hash)]
 pub struct BadFile {
+    /// What is wrong.
     pub fault: Fault,
+    /// The file offset in bytes.
     pub offset: u64,
 }

@@ -16,7 +16,7 @@ pub struct List<T> {
 /// Names from the command line.
 pub type Names = List<Text>;
 
-/// The labels of a byte: one for each data source, in the order in which the sources were asked for.
+/// The labels of a byte: one for each data source, in the order of the requested sources.
 pub type Path = List<Bytes>;
 
 impl<T> Model for List<T> {

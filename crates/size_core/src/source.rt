@@ -17,7 +17,7 @@ pub enum Source {
 impl Source {
     ghost use Rattle.size_core.specs.SourceNames.{source_named};
 
-    /// The data source with this name, as `-d` and configuration files write it.
+    /// The data source with this name, as `-d` and configuration files write it. `None` if no built-in one has it.
     pub fn named(name: &[u8]) -> Option<Source>
         ensures { result ≡ source_named name.now }
     {

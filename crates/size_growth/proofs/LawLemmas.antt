@@ -1,4 +1,4 @@
--- Where paths are sorted, each label that they begin with comes once.
+-- If paths are sorted, each label that they begin with comes once.
 use Rattle.std.proofs.Common.{◌≡◌, ℕ, ◌+◌, ◌<◌, List, [], ◌∷◌, length, drop, refl, sym, ap, ◌∙◌, subst, Bool, true, false, cond, arith}
 use Rattle.std.specs.Prelude.{All}
 use Rattle.std.specs.List.{sum_by, AllByRecursion}
@@ -70,7 +70,7 @@ abbrev Before : GrowthPath → Under → Type 0
 Before p u = AllByRecursion (λ (q : GrowthPath). path_cmp p.path (u.label ∷ q.path) ≡ Less) u.below
 
 -- The first label of a path and the rest.
-parts : (p : GrowthPath) (path : List (List ℕ)) → p.path ≡ path → 0 < length path → p.path ≡ first_label p ∷ drop 1 p.path
+pub parts : (p : GrowthPath) (path : List (List ℕ)) → p.path ≡ path → 0 < length path → p.path ≡ first_label p ∷ drop 1 p.path
 parts p [] e lt = absurd (omega arith)
 parts p (l ∷ path) e lt = rw e refl
 

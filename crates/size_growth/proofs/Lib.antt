@@ -1,6 +1,7 @@
 pub mod BetweenLemmas
 pub mod EntryLemmas
 pub mod GatherLemmas
+pub mod GrowthOrderLemmas
 pub mod LawLemmas
 pub mod ListLemmas
 pub mod MergeLemmas
@@ -8,3 +9,5 @@ pub mod RunLemmas
 pub mod SortLemmas
 pub mod SumLemmas
 pub mod TreeLemmas
+pub mod TurnLemmas
+pub mod UnderLemmas

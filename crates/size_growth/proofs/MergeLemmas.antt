@@ -120,7 +120,7 @@ pub gone : (out old rest all : List GrowthPath) (p q : GrowthPath) → out ≡ o
 gone out old rest all p q e f g =
     ap (λ xs. xs ++ rest) (e ∙ ap (λ r. old ++ r ∷ []) f) ∙ (append_assoc old (q ∷ []) rest ∙ ap (λ xs. old ++ xs) (sym g))
 
--- The next path, where base rows are at their end, and where both sides have a row.
+-- The next path, if base rows are at their end, and if both sides have a row.
 module _ (ns bs : List RollupRow) (i j : ℕ) (n b : RollupRow) (out old : List GrowthPath) (p : GrowthPath) (push : out ≡ old ++ p ∷ []) where
   pub no-base : length bs ≤ j → i < length ns → slice_get ns i ≡ Some n → p ≡ new_path n → out ++ merged (drop (i + 1) ns) (drop j bs) ≡ old ++ merged (drop i ns) (drop j bs)
   no-base end lt at is =

@@ -57,7 +57,7 @@ module _ (o : RowOptions) (f : Group → Entry) (says : (g : Group) → (f g).si
   key-is : (g : Group) → HasKey o g → g.key.0 ≡ growth_key o (f g).sizes
   key-is g has = has ∙ ap (growth_key o) (sym (says g))
 
-  -- A later group comes before another where its key is larger.
+  -- A later group comes before another if its key is larger.
   tells : (g h : Group) → HasKey o g → HasKey o h → g.from < h.from → is_lt (group_cmp h g) ≡ is_lt (by_key o (f h) (f g))
   tells g h kg kh lt =
       then-greater (nat_cmp g.key.0 h.key.0) (nat_cmp h.from g.from) (ordering_then (nat_cmp h.to g.to) (sizes_cmp h.sizes g.sizes)) (nat_greater h.from g.from lt)

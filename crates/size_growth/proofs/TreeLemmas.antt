@@ -95,7 +95,7 @@ module _ (size : GrowthSizes → ℕ) (is : IsSize size) where
   pub sum-entries : (o : RowOptions) (t : List GrowthPath) → sum_by of-entry (entries_of o t) ≡ sum_by of-entry (children o t)
   sum-entries o t = sum_by-within o.limit (by_key o) others_entry of-entry (children o t) (is.others (drop o.limit (children o t)))
 
--- A new size and its base size, which are equal where nothing shown has changed.
+-- A new size and its base size, which are equal if nothing shown has changed.
 pub record ArePair (o : RowOptions) (new base : GrowthSizes → ℕ) : Type 0 where
   pub new_is : IsSize new
   pub base_is : IsSize base
@@ -144,7 +144,7 @@ file-pair o shows = record {
   alike = λ s unchanged. no-amount s.new_file s.base_file (second-none (shows_vm o.domain) (shows_file o.domain) (vm_amount s) (file_amount s) shows unchanged);
 }
 
--- Where a shown size has changed, there are entries.
+-- If a shown size has changed, there are entries.
 not-empty : (o : RowOptions) (new base : GrowthSizes → ℕ) → ArePair o new base → (t : List GrowthPath) (es : List Entry) → entries_of o t ≡ es → 0 < amount (new (sums t)) (base (sums t)) → 0 < length es
 not-empty o new base pair t [] e lt =
     let g = entries-grow o new base pair t in
@@ -159,7 +159,7 @@ some-entry o t is = elim (some-shown (shows_vm o.domain) (shows_file o.domain) (
 ]
 
 -- There are no entries without paths.
-entries-none : (o : RowOptions) → entries_of o [] ≡ []
+pub entries-none : (o : RowOptions) → entries_of o [] ≡ []
 unfolding children in_order runs
 entries-none o = within-nil o.limit (by_key o) others_entry
 

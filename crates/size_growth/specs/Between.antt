@@ -3,7 +3,7 @@ use Rattle.std.specs.Prelude.{◌≡◌, ◌≤◌, ℕ, Bool, List, length, if�
 use Rattle.std.specs.List.{sum_by}
 use Rattle.rollup.specs.Adding.{file_where, vm_where}
 use Rattle.rollup.specs.declared.table.RollupRow.{RollupRow}
-use Rattle.size_growth.specs.declared.between.Place.{Place}
+use Rattle.size_growth.specs.declared.between.Processed.{Processed}
 use Rattle.size_growth.specs.declared.growth.GrowthPath.{GrowthPath}
 use Rattle.size_growth.specs.declared.growth.GrowthSizes.{GrowthSizes}
 
@@ -20,6 +20,6 @@ pub record IsBetween (new base : List RollupRow) (paths : List GrowthPath) : Typ
   pub base_file : (test : List (List ℕ) → Bool) → size_where (λ (s : GrowthSizes). s.base_file) test paths ≡ file_where test base
 
 -- No more rows have been processed than there are.
-pub record Stands (new base : List RollupRow) (at : Place) : Type 0 where
+pub record IsWithin (new base : List RollupRow) (at : Processed) : Type 0 where
   pub within_new : at.new ≤ length new
   pub within_base : at.base ≤ length base

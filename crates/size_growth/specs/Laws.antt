@@ -34,9 +34,9 @@ pub record AreLabels (paths : List GrowthPath) : Type 0 where
   pub below : All (λ (u : Under). IsStrictlySortedBy growth_cmp u.below) (runs paths)
 
 -- For all sorted paths, the labels that they begin with have these properties. This is the contract of
--- `labels_stand_once`.
-abbrev pub LabelsStandOnce : Type 0
-LabelsStandOnce = (paths : List GrowthPath) → IsStrictlySortedBy growth_cmp paths
+-- `labels_appear_once`.
+abbrev pub LabelsAppearOnce : Type 0
+LabelsAppearOnce = (paths : List GrowthPath) → IsStrictlySortedBy growth_cmp paths
     → All (λ (p : GrowthPath). 0 < length p.path) paths → AreLabels paths
 
 -- In the rows of every growth the growths of each shown size add up.

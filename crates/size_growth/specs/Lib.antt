@@ -1,4 +1,5 @@
 pub mod Between
+pub mod GrowthTrees
 pub mod ItemKinds
 pub mod Items
 pub mod Keys

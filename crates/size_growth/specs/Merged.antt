@@ -4,7 +4,7 @@ use Rattle.std.specs.declared.cmp.Ordering.{Ordering}
 use Rattle.std.specs.declared.cmp.Ordering.TheVariants.{Less, Equal, Greater}
 use Rattle.rollup.specs.Totals.{row_cmp}
 use Rattle.rollup.specs.declared.table.RollupRow.{RollupRow}
-use Rattle.size_growth.specs.declared.between.Place.{Place}
+use Rattle.size_growth.specs.declared.between.Processed.{Processed}
 use Rattle.size_growth.specs.declared.growth.GrowthPath.{GrowthPath}
 
 -- The sizes of a path that only the new files have.
@@ -22,11 +22,11 @@ both_path n b = record { path = n.path; sizes = record { new_vm = n.vm; new_file
 -- The lesser of two paths, and then the rest of the merge: after the new row, after both, or after the base
 -- row.
 abbrev pub by_order : Ordering → RollupRow → RollupRow → List GrowthPath → List GrowthPath → List GrowthPath → List GrowthPath
-by_order Less n b behind_new behind_both behind_base = new_path n ∷ behind_new
-by_order Equal n b behind_new behind_both behind_base = both_path n b ∷ behind_both
-by_order Greater n b behind_new behind_both behind_base = base_path b ∷ behind_base
+by_order Less n b after_new after_both after_base = new_path n ∷ after_new
+by_order Equal n b after_new after_both after_base = both_path n b ∷ after_both
+by_order Greater n b after_new after_both after_base = base_path b ∷ after_base
 
--- A new row merged with base rows, where further merges the rest of the new rows.
+-- A new row merged with base rows, if further merges the rest of the new rows.
 abbrev pub beside : RollupRow → (List RollupRow → List GrowthPath) → List RollupRow → List GrowthPath
 beside n further [] = new_path n ∷ further []
 beside n further (b ∷ bs) = by_order (row_cmp n b) n b (further (b ∷ bs)) (further bs) (beside n further bs)
@@ -37,5 +37,5 @@ merged [] bs = map base_path bs
 merged (n ∷ ns) bs = beside n (λ rest. merged ns rest) bs
 
 -- The merge of the rows that haven't been processed.
-abbrev pub left : List RollupRow → List RollupRow → Place → List GrowthPath
+abbrev pub left : List RollupRow → List RollupRow → Processed → List GrowthPath
 left new base at = merged (drop at.new new) (drop at.base base)

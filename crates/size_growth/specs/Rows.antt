@@ -38,12 +38,12 @@ by_key o a b = nat_cmp (growth_key o b.sizes) (growth_key o a.sizes)
 abbrev pub is_child : RowOptions → Entry → Bool
 is_child o e = has_changed o e.sizes
 
--- The children of paths: the labels that they begin with, where a shown size has changed. The larger key comes
+-- The children of paths: the labels that they begin with, if a shown size has changed. The larger key comes
 -- first, and for equal keys the lesser label.
 unfoldable pub children : RowOptions → List GrowthPath → List Entry
 children o paths = in_order (by_key o) (filter (is_child o) (map label_entry (runs paths)))
 
--- The entries within a limit. Where the limit is above 0 and there are more entries, that many stay. The others
+-- The entries within a limit. If the limit is above 0 and there are more entries, that many stay. The others
 -- become one entry, before the entries with the same key.
 abbrev pub limited : RowOptions → List Entry → List Entry
 limited o entries = within o.limit (by_key o) others_entry entries

@@ -21,7 +21,7 @@ path_from level p = record { path = drop level p.path; sizes = p.sizes }
 abbrev pub table_at : ℕ → List GrowthPath → List GrowthPath
 table_at level paths = map (path_from level) paths
 
--- A path before others. It joins the first run where that has its label.
+-- A path before others. It joins the first run if that has its label.
 abbrev pub joined : GrowthPath → List Under → List Under
 joined p [] = record { label = first_label p; below = path_from 1 p ∷ [] } ∷ []
 joined p (u ∷ us) =

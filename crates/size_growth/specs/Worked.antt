@@ -6,10 +6,12 @@ use Rattle.size_core.specs.declared.choices.Sort.{Sort}
 use Rattle.size_core.specs.declared.choices.Sort.TheVariants as sorts
 use Rattle.rollup.specs.declared.table.RollupRow.{RollupRow}
 use Rattle.report_rows.specs.declared.row.RowOptions.{RowOptions}
+use Rattle.report_rows.specs.Ordered.{InReportOrder}
 use Rattle.size_growth.specs.declared.growth.GrowthPath.{GrowthPath}
 use Rattle.size_growth.specs.declared.growth.GrowthSizes.{GrowthSizes}
 use Rattle.size_growth.specs.declared.row.GrowthKind.TheVariants.{Label, Others}
 use Rattle.size_growth.specs.declared.row.GrowthRow.{GrowthRow}
+use Rattle.size_growth.specs.GrowthTrees.{growth_report, sizes_of}
 use Rattle.size_growth.specs.Merged.{merged}
 use Rattle.size_growth.specs.Rows.{listing}
 
@@ -64,7 +66,7 @@ four =
     path_with (codes "a" ∷ []) (sizes 0 0 1 9) ∷ path_with (codes "b" ∷ []) (sizes 2 8 0 0)
     ∷ path_with (codes "c" ∷ []) (sizes 3 4 3 12) ∷ path_with (codes "d" ∷ []) (sizes 9 1 4 1) ∷ []
 
--- Paths of two labels, where the paths under the first label grow and shrink by the same amount.
+-- Paths of two labels, if the paths under the first label grow and shrink by the same amount.
 abbrev pub pairs : List GrowthPath
 pairs =
     path_with (codes "a" ∷ codes "x" ∷ []) (sizes 0 5 0 2) ∷ path_with (codes "a" ∷ codes "y" ∷ []) (sizes 0 2 0 5)
@@ -94,3 +96,15 @@ pub record WorkedGrowths : Type 0 where
   pub alike_in_all : listing (asked 0 sorts.Both domains.Both) 2 0 pairs
       ≡ label_row 0 (codes "b") (sizes 0 16 0 12) ∷ label_row 1 (codes "x") (sizes 0 9 0 2) ∷ label_row 1 (codes "y") (sizes 0 1 0 4) ∷ []
   pub nothing : listing (asked 20 sorts.Both domains.Both) 1 0 (path_with (codes "a" ∷ []) (sizes 1 1 1 1) ∷ []) ≡ []
+
+-- Rows are in the order of a report of the growth of the four labels by file size, with this limit.
+abbrev pub IsOrdered : ℕ → List GrowthRow → Type 0
+IsOrdered limit rows = InReportOrder (growth_report (asked limit sorts.File domains.File)) 1 0 (sizes_of four) rows
+
+-- Rows that are in the order of a report of growth, and rows that aren't.
+pub record WorkedGrowthOrders : Type 0 where
+  pub before_its_equal : IsOrdered 2
+      (label_row 0 (codes "a") (sizes 0 0 1 9) ∷ others_row 0 1 (sizes 3 4 3 12) ∷ label_row 0 (codes "b") (sizes 2 8 0 0) ∷ [])
+  pub not_after_its_equal : ¬ IsOrdered 2
+      (label_row 0 (codes "a") (sizes 0 0 1 9) ∷ label_row 0 (codes "b") (sizes 2 8 0 0) ∷ others_row 0 1 (sizes 3 4 3 12) ∷ [])
+  pub none_left_out : ¬ IsOrdered 0 (label_row 0 (codes "a") (sizes 0 0 1 9) ∷ label_row 0 (codes "b") (sizes 2 8 0 0) ∷ [])

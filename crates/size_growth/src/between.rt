@@ -1,7 +1,7 @@
 //! Comparing the rows of two rollups.
 
 ghost use Rattle.std.specs.Prelude.{◌≡◌, ◌+◌, ◌^◌, ◌<◌, ◌≤◌, ◌++◌, IfOk, OnOk, drop, length, map};
-ghost use Rattle.size_growth.specs.Between.{IsBetween, Stands};
+ghost use Rattle.size_growth.specs.Between.{IsBetween, IsWithin};
 ghost use Rattle.size_growth.specs.Merged.{base_path, both_path, new_path, left};
 
 use crate::growth::{Growth, GrowthPath, GrowthSizes};
@@ -12,7 +12,7 @@ use std::cmp::Ordering;
 
 /// How many rows of each rollup have been processed.
 #[derive(Clone, Copy, Debug)]
-pub struct Place {
+pub struct Processed {
     pub new: usize,
     pub base: usize,
 }
@@ -73,21 +73,21 @@ fn in_both(alloc: Global, new: &RollupRow, base: &RollupRow) -> Result<GrowthPat
     })
 }
 
-// Processes the lesser of the two next paths, or both where they are equal.
+// Processes the lesser of the two next paths, or both if they are equal.
 fn pass_lesser(
     alloc: Global,
     new: &Rollup,
     base: &Rollup,
-    at: Place,
+    at: Processed,
     paths: &mut Vec<GrowthPath>,
-) -> Result<Place, NoMemory>
+) -> Result<Processed, NoMemory>
     requires new { at.new < length new.now.rows }
     requires base { at.base < length base.now.rows }
     requires new_fits { length new.now.rows < 2 ^ 64 }
     requires base_fits { length base.now.rows < 2 ^ 64 }
     ensures left { IfOk result (λ to. paths.new.items ++ left new.now.rows base.now.rows to
         ≡ paths.old.items ++ left new.now.rows base.now.rows at) }
-    ensures stands { IfOk result (Stands new.now.rows base.now.rows) }
+    ensures within { IfOk result (IsWithin new.now.rows base.now.rows) }
     ensures further { IfOk result (λ to. at.new + at.base < to.new + to.base) }
 {
     let ours = new.row(at.new);
@@ -95,21 +95,21 @@ fn pass_lesser(
     match compare_paths(&ours.path, &theirs.path) {
         Ordering::Less => {
             paths.push(only_new(alloc, ours)?)?;
-            Ok(Place {
+            Ok(Processed {
                 new: at.new + 1,
                 base: at.base,
             })
         }
         Ordering::Equal => {
             paths.push(in_both(alloc, ours, theirs)?)?;
-            Ok(Place {
+            Ok(Processed {
                 new: at.new + 1,
                 base: at.base + 1,
             })
         }
         Ordering::Greater => {
             paths.push(only_base(alloc, theirs)?)?;
-            Ok(Place {
+            Ok(Processed {
                 new: at.new,
                 base: at.base + 1,
             })
@@ -122,23 +122,23 @@ fn pass(
     alloc: Global,
     new: &Rollup,
     base: &Rollup,
-    at: Place,
+    at: Processed,
     paths: &mut Vec<GrowthPath>,
-) -> Result<Place, NoMemory>
+) -> Result<Processed, NoMemory>
     requires new { at.new < length new.now.rows }
     requires base { at.base ≤ length base.now.rows }
     requires new_fits { length new.now.rows < 2 ^ 64 }
     requires base_fits { length base.now.rows < 2 ^ 64 }
     ensures left { IfOk result (λ to. paths.new.items ++ left new.now.rows base.now.rows to
         ≡ paths.old.items ++ left new.now.rows base.now.rows at) }
-    ensures stands { IfOk result (Stands new.now.rows base.now.rows) }
+    ensures within { IfOk result (IsWithin new.now.rows base.now.rows) }
     ensures further { IfOk result (λ to. at.new + at.base < to.new + to.base) }
 {
     if at.base < base.len() {
         return pass_lesser(alloc, new, base, at, paths);
     }
     paths.push(only_new(alloc, new.row(at.new))?)?;
-    Ok(Place {
+    Ok(Processed {
         new: at.new + 1,
         base: at.base,
     })
@@ -148,7 +148,7 @@ fn pass(
 fn pass_rest(
     alloc: Global,
     base: &Rollup,
-    at: Place,
+    at: Processed,
     paths: &mut Vec<GrowthPath>,
 ) -> Result<(), NoMemory>
     requires { at.base ≤ length base.now.rows }
@@ -161,7 +161,7 @@ fn pass_rest(
 }
 
 impl Growth {
-    /// The paths that the new files or the base files have, each with its sizes in both. A size is 0 where the
+    /// The paths that the new files or the base files have, each with its sizes in both. A size is 0 if the
     /// files don't have the path. The only error is running out of memory.
     pub fn between(alloc: Global, new: &Rollup, base: &Rollup) -> Result<Growth, NoMemory>
         requires { new.now.depth ≡ base.now.depth }
@@ -169,7 +169,7 @@ impl Growth {
         ensures sizes { IfOk result (λ g. IsBetween new.now.rows base.now.rows g.paths) }
     {
         let mut paths = Vec::with_capacity(alloc, new.len().max(base.len()))?;
-        let mut at = Place { new: 0, base: 0 };
+        let mut at = Processed { new: 0, base: 0 };
         while at.new < new.len() {
             at = pass(alloc, new, base, at, &mut paths)?;
         }

@@ -103,7 +103,7 @@ fn make_group(
     }
 }
 
-// Appends a group, where one of its shown sizes has changed.
+// Appends a group if one of its shown sizes has changed.
 fn keep(options: &RowOptions, groups: &mut Vec<Group>, group: Group) -> Result<(), NoMemory>
     ensures { OnOk result (groups.new.items
         ≡ groups.old.items ++ (if has_changed options.now group.sizes then group ∷ [] else [])) }

@@ -11,6 +11,9 @@ mod listing;
 mod row;
 
 pub use growth::{Growth, GrowthPath, GrowthSizes};
-pub use laws::{growths_add_up, labels_stand_once};
+pub use laws::{
+    growth_turns, growths_add_up, labels_appear_once, no_growth_has_no_rows, one_growth_fits,
+    rows_show_growth,
+};
 pub use listing::growth_rows;
 pub use row::{GrowthKind, GrowthRow, GrowthRows, GrowthTree};

@@ -45,7 +45,7 @@ distinct_tail x xs h i j d lt within = h (suc i) (suc j) d (omega arith) (omega 
 distinct_head : (x : List ℕ) (xs : List (List ℕ)) → AreDistinct (x ∷ xs) → (k : ℕ) (d : List ℕ) → k < length xs → x ≡ get_or xs k d → ⊥
 distinct_head x xs h k d lt = h 0 (suc k) d (omega arith) (omega arith)
 
--- 1 where a label is the next one.
+-- 1 if a label is the next one.
 abbrev one_at : List ℕ → List ℕ → ℕ
 one_at next label = cond (bytes_eq label next) 1 0
 
@@ -72,13 +72,13 @@ one_next next [] distinct there = absurd (omega (arith, there.1))
 one_next next (x ∷ xs) distinct there =
     sum_by-cons (one_at next) x xs ∙ one_step next x xs (bytes_eq x next) refl distinct there (one_next next xs (distinct_tail x xs distinct))
 
--- How many of the labels a position counts for, where its next label is one of them.
+-- A position that passes counts for exactly one of the labels, if its next label is one of them.
 at_position : (next : List ℕ) (labels : List (List ℕ)) (b : Bool) → AreDistinct labels → (b ≡ true → Contains labels next)
     → sum_by (λ label. cond (b && bytes_eq label next) 1 0) labels ≡ cond b 1 0
 at_position next labels false distinct there = sum_by-zero labels
 at_position next labels true distinct there = one_next next labels distinct (there refl)
 
--- How many of the labels n positions count for.
+-- The counts of the labels over n positions add up to the number of positions that pass.
 by_positions : (t : ℕ → Bool) (next : ℕ → List ℕ) (labels : List (List ℕ)) (a n : ℕ) → AreDistinct labels → ((x : ℕ) → a ≤ x → x < a + n → t x ≡ true → Contains labels (next x))
     → sum_by (λ label. count_from (λ x. t x && bytes_eq label (next x)) a n) labels ≡ count_from t a n
 by_positions t next labels a zero distinct there =
@@ -123,7 +123,7 @@ module _ (gate : ℕ → Bool) (path : ℕ → List (List ℕ)) (filter : Option
       sum_by-same (λ label. size_at gate path filter n (prefix ++ label ∷ [])) (λ label. count_from (λ x. here x && bytes_eq label (next x)) 0 n) labels child_size
       ∙ by_positions here next labels 0 n distinct (λ x low high h. complete (next x) (has_size x (omega arith) h))
 
--- The same over a list of files, where it holds of each file.
+-- The same over a list of files, if it holds for each file.
 over_files : (size : List (List ℕ) → FileView → ℕ) (files : List FileView) (prefix labels : List (List ℕ))
     → All (λ (f : FileView). sum_by (λ (label : List ℕ). size (prefix ++ label ∷ []) f) labels ≡ size prefix f) files
     → sum_by (λ (f : FileView). sum_by (λ (label : List ℕ). size (prefix ++ label ∷ []) f) labels) files ≡ sum_by (size prefix) files

@@ -98,7 +98,7 @@ count-some f a (suc n) x b c e =
 pub count-more : (f : ℕ → Bool) (a n : ℕ) → count_from f a (n + 1) ≡ count_from f a n + cond (f (a + n)) 1 0
 count-more f a n = omega (arith, count-append f a n 1, count-suc f (a + n) 0, count-zero f (a + n + 1))
 
--- A count that grows by a Boolean as a number is at most the count of the numbers so far.
+-- A count over n numbers, plus 1 if a test holds, is at most n + 1.
 pub byte_fits : (t : ℕ → Bool) (a n size : ℕ) (b : Bool) → size ≡ count_from t a n → size + bool_byte b ≤ n + 1
 byte_fits t a n size b e = omega (arith, e, count-le-length t a n, byte_le b)
   where

@@ -41,7 +41,7 @@ counts_for-push filter prefix path label d lt =
 cons_same : (x y : List ℕ) (xs ys : List (List ℕ)) → x ≡ y → xs ≡ ys → (x ∷ xs) ≡ (y ∷ ys)
 cons_same x y xs ys a b = cc
 
--- Two prefixes of the same length are the same prefix.
+-- Two prefixes of a path that have the same length are equal.
 pub starts_with-unique : (path p q : List (List ℕ)) → length p ≡ length q → starts_with bytes_eq path p ≡ true → starts_with bytes_eq path q ≡ true → p ≡ q
 starts_with-unique path [] [] e a b = refl
 starts_with-unique path [] (y ∷ ys) e a b = absurd (omega arith)

@@ -1,4 +1,4 @@
--- The positions at which pieces of a tidy list begin and end.
+-- The positions where pieces of a tidy list begin and end.
 use Rattle.std.proofs.Common.{◌≡◌, ◌+◌, ◌≤◌, ℕ, zero, suc, Bool, true, false, cond, ◌||◌, nat_eq, List, [], ◌∷◌, ◌++◌, Option, None, Some, refl, sym, ap, ◌∙◌, inl, inr, ◌⊎◌, arith}
 use Rattle.std.proofs.lemmas.Bool.Decides.{nat_tests}
 use Rattle.std.proofs.lemmas.Bool.{cases_lt}
@@ -30,7 +30,7 @@ has_steady p x a b =
       ]
     ]
 
--- Where no range begins or ends, the label stays.
+-- If no range begins or ends at a position, the label doesn't change there.
 pub steady : (rs : List Piece) (x : ℕ) → is_place rs x ≡ false → before (label_in rs) x ≡ label_in rs x
 steady [] zero e = refl
 steady [] (suc x) e = refl
@@ -68,7 +68,7 @@ place_from (p ∷ ps) at x t s e =
       ]
     ]
 
--- Where a piece of a tidy list begins or ends, the label changes.
+-- If a piece of a tidy list begins or ends at a position, the label changes there.
 moves : (ps : List Piece) (x : ℕ) → IsTidy ps → is_place ps x ≡ true → before (label_in ps) x ≡ label_in ps x → ⊥
 moves [] x t e s = cc
 moves (p ∷ ps) zero t e s =
@@ -100,7 +100,7 @@ place_kept rs ps x l e true h = refl
 place_kept rs ps x l e false h =
     absurd (moves ps x l.tidy e (before_same (label_in ps) (label_in rs) l.labels x ∙ (steady rs x h ∙ sym (l.labels x))))
 
--- Where a piece of a cut begins or ends, a range does.
+-- If a piece of a cut begins or ends at a position, so does a range.
 pub place-laid : (rs ps : List Piece) (x : ℕ) → IsLaid rs ps → is_place ps x ≡ true → is_place rs x ≡ true
 place-laid rs ps x l e = place_kept rs ps x l e (is_place rs x) refl
 
@@ -108,7 +108,7 @@ is_place-append : (ps : List Piece) (r : Piece) (x : ℕ) → is_place (ps ++ r 
 is_place-append [] r x e = grind (arith, nat_tests)
 is_place-append (p ∷ ps) r x e = let later = is_place-append ps r x in grind (arith, nat_tests)
 
--- A range adds at most two positions at which pieces begin or end.
+-- A range adds at most two positions where pieces begin or end.
 pub place_count-laid : (old new : List Piece) (r : Piece) (n : ℕ) → IsLaid (old ++ r ∷ []) new → place_count new n ≤ place_count old n + 2
 place_count-laid old new r n l =
     let edges : ℕ → Bool = λ x. nat_eq x r.start || nat_eq x (end_of r) in

@@ -16,7 +16,7 @@ abbrev pub label_in : List Piece → ℕ → Option ℕ
 label_in [] x = None
 label_in (p ∷ ps) x = if has p x then Some p.label else label_in ps x
 
--- A piece can come before these pieces: it ends at or before the start of the first, and where they touch,
+-- A piece can come before these pieces: it ends at or before the start of the first, and if they touch,
 -- their labels differ.
 abbrev pub Precedes : Piece → List Piece → Type 0
 Precedes p [] = Unit {0}
@@ -32,7 +32,7 @@ pub record IsCut (labelling : ℕ → Option ℕ) (ps : List Piece) : Type 0 whe
   pub tidy : IsTidy ps
   pub labels : (x : ℕ) → label_in ps x ≡ labelling x
 
--- The pieces are the cut of the labelling that a list of ranges gives. Where ranges overlap, the first one
+-- The pieces are the cut of the labelling that a list of ranges gives. If ranges overlap, the first one
 -- counts.
 abbrev pub IsLaid : List Piece → List Piece → Type 0
 IsLaid ranges ps = IsCut (label_in ranges) ps

@@ -5,7 +5,7 @@ use Rattle.size_core.specs.declared.claim.Claim.{Claim}
 use Rattle.size_model.specs.Loads.{is_mapped, space_of, address_of}
 use Rattle.size_model.specs.Claims.{covers_offset, covers_address}
 
--- The label of the first item that covers, or `unmapped` where no item covers.
+-- The label of the first item that passes the test `covers`, or `unmapped` if none does.
 abbrev pub first_label : {C L : Type 0} → (C → Bool) → (C → L) → L → List C → L
 first_label covers label unmapped [] = unmapped
 first_label covers label unmapped (c ∷ cs) = if covers c then label c else first_label covers label unmapped cs

@@ -136,7 +136,7 @@ fn counts_first<T: LabelTest>(
 }
 
 // Returns how many addresses count for a prefix, of those that load `i` is the first to cover. Only
-// addresses below 2^64 are visited, also where the load ends past it.
+// addresses below 2^64 are visited, even if the load ends past it.
 fn size_of_load<T: LabelTest>(
     alloc: Global,
     filter: Option<&T>,

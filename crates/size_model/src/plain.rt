@@ -17,12 +17,14 @@ fn load_len(load: &Load) -> u64
     load.filesz.min(load.memsz)
 }
 
+// Returns whether a load covers an address of a space.
 fn load_has_address(load: &Load, space: u32, address: u64) -> bool
     ensures { result ≡ load_has_address load.now space address }
 {
     load.space == space && load.vaddr <= address && address - load.vaddr < load.memsz
 }
 
+// Returns whether a load covers an offset of a file of `len` bytes.
 fn load_has_offset(len: u64, load: &Load, offset: u64) -> bool
     ensures { result ≡ load_has_offset len load.now offset }
 {
@@ -63,7 +65,7 @@ pub fn mapped(loads: &List<Load>, space: u32, address: u64) -> bool
 }
 
 /// Returns the space and the virtual address of an offset in a file of `len` bytes, by the first load that
-/// covers the offset. The address is 2^64 or more where the load ends past 2^64.
+/// covers the offset. The address is 2^64 or more if the load ends past 2^64.
 pub fn addr(len: u64, loads: &List<Load>, offset: u64) -> Option<(u32, u128)>
     ensures { result ≡ addr len loads.now offset }
 {
@@ -93,6 +95,7 @@ pub fn place(len: u64, loads: &List<Load>, space: u32, address: u64) -> Option<u
     None
 }
 
+// Returns whether a number lies in a span. The span's space is not compared.
 fn span_has(span: &Span, x: u128) -> bool
     ensures { result ≡ span_has span.now x }
 {
@@ -100,6 +103,7 @@ fn span_has(span: &Span, x: u128) -> bool
     start <= x && x < start + span.len as u128
 }
 
+// Returns whether an address lies in a span and in the span's space.
 fn address_in(span: &Span, address: Option<(u32, u128)>) -> bool
     ensures { result ≡ address_in span.now address }
 {
@@ -109,6 +113,7 @@ fn address_in(span: &Span, address: Option<(u32, u128)>) -> bool
     }
 }
 
+// Returns whether an offset lies in a span.
 fn offset_in(span: &Span, offset: Option<u64>) -> bool
     ensures { result ≡ offset_in span.now offset }
 {
@@ -118,6 +123,7 @@ fn offset_in(span: &Span, offset: Option<u64>) -> bool
     }
 }
 
+// Returns whether a claim covers an offset of a file of `len` bytes.
 fn covers_offset(
     len: u64,
     loads: &List<Load>,
@@ -134,6 +140,7 @@ fn covers_offset(
     }
 }
 
+// Returns whether a claim covers an address of a space.
 fn covers_address(
     len: u64,
     loads: &List<Load>,

@@ -5,9 +5,13 @@ use size_core::{Bytes, List, Load, Side, Span};
 /// A claim that has the bytes of its label and not a number.
 #[derive(Debug, Drop)]
 pub struct LabelledClaim {
+    /// Which of the two spans the claim names.
     pub side: Side,
+    /// The virtual addresses.
     pub vm: Span,
+    /// The file offsets.
     pub file: Span,
+    /// The bytes of the label.
     pub label: Bytes,
 }
 

@@ -27,12 +27,12 @@ not_true : (b : Bool) → (b ≡ true → ⊥) → b ≡ false
 not_true true never = absurd (never refl)
 not_true false never = refl
 
--- An error other than a failed allocation comes only where the arguments can't be parsed.
+-- An error other than a failed allocation comes only if the arguments can't be parsed.
 pub not_taken : (a : App) (words : List Text) (k : ErrorKind) → a ≡ profile_app
     → (takes a words ≡ true → k ≡ OutOfMemory) → (k ≡ OutOfMemory → ⊥) → takes_words words ≡ false
 not_taken a words k is passes never = not_true (takes_words words) (λ h. never (passes (taken a words is h)))
 
--- There is no kind of error where parsing succeeds.
+-- There is no kind of error if parsing succeeds.
 pub none_refused : {T : Type 0} (a : App) (words : List Text) (r : Result T Error) (x : T) → a ≡ profile_app
     → (is_simple_and_free a ≡ true → FailsBy (fault_of a words) r) → r ≡ Ok x → errors_of words ≡ []
 unfolding errors_of

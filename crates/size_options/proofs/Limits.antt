@@ -10,13 +10,13 @@ use Rattle.size_options.specs.Asked.{first_usage, options_in, usage_tests}
 use Rattle.size_options.specs.Given.{GivenTexts}
 use Rattle.size_options.specs.Values.{is_bad, number_of, place_of, small_number_of}
 use Rattle.size_options.proofs.NameLemmas.{some_name}
-use Rattle.size_options.specs.declared.answer.UsageKind.{UsageKind}
+use Rattle.size_options.specs.declared.errors.UsageKind.{UsageKind}
 
 abbrev NoneHolds : List (Bool × UsageKind) → Type 0
 NoneHolds [] = Unit {0}
 NoneHolds (p ∷ ps) = (p.0 ≡ false) × NoneHolds ps
 
--- Where there is no first error, no test holds.
+-- If there is no first error, no test holds.
 none_holds : (ps : List (Bool × UsageKind)) → first_usage ps ≡ None → NoneHolds ps
 none_holds [] h = tt
 none_holds ((true, kind) ∷ ps) h = cc

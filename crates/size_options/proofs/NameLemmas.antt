@@ -14,7 +14,7 @@ cut (x ∷ a) b h =
     ap (λ (t : Bool). if t then [] ∷ names_in (a ++ 44 ∷ b) else begun_by x (names_in (a ++ 44 ∷ b))) (differs x (h 0 (omega arith)))
     ∙ ap (begun_by x) (cut a b (λ i lt. h (suc i) (omega arith)))
 
--- Where there is no comma, the name is the whole text.
+-- If there is no comma, the name is the whole text.
 pub uncut : (a : List ℕ) → ((i : ℕ) → i < length a → get_or a i 0 ≢ 44) → names_in a ≡ a ∷ []
 uncut [] h = refl
 uncut (x ∷ a) h =

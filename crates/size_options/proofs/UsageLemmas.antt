@@ -1,4 +1,4 @@
--- The first error, and what it says about the arguments.
+-- The first error, and what it means for the arguments.
 use Rattle.std.proofs.Common.{◌≡◌, ◌∙◌, ℕ, ◌+◌, ◌≤◌, ◌==◌, Bool, true, false, not, ◌&&◌, cond, List, [], ◌∷◌, map, take, drop, min, length, sym, ap, ap₂, refl, subst, Option, Some, None, Ok, unwrap_or, position, nat_le, nat_lt, arith}
 use Rattle.std.specs.List.{list_all, position_or_len}
 use Rattle.std.proofs.lemmas.List.{drop-map, take-map, length-map}
@@ -10,11 +10,11 @@ use Rattle.size_options.specs.Answers.{IsRefusalOf, IsUnread, IsUnreadAnswer, Is
 use Rattle.size_options.specs.Asked.{asked, first_usage, given_by, options_in, unless_usage, usage_tests}
 use Rattle.size_options.specs.Given.{GivenTexts}
 use Rattle.size_options.specs.Words.{base_words, ends_in_mark, has_mark, is_mark, mark_at, profile_words}
-use Rattle.size_options.specs.declared.answer.OptionAnswer.{OptionAnswer}
-use Rattle.size_options.specs.declared.answer.OptionAnswer.TheVariants.{Usage, NoMemory}
-use Rattle.size_options.specs.declared.answer.UsageKind.{UsageKind}
-use Rattle.size_options.specs.declared.answer.UsageKind.TheVariants.{Words, BadNumber, BadSort, BadDomain, TwoFormats, BadSourceList, NoFile, SynthWithFile, NoBase, DebugFile, BadPlace, TwoPlaces, PlaceFile}
-use Rattle.size_options.specs.declared.chosen.Options.{Options}
+use Rattle.size_options.specs.declared.errors.OptionAnswer.{OptionAnswer}
+use Rattle.size_options.specs.declared.errors.OptionAnswer.TheVariants.{Usage, NoMemory}
+use Rattle.size_options.specs.declared.errors.UsageKind.{UsageKind}
+use Rattle.size_options.specs.declared.errors.UsageKind.TheVariants.{Words, BadNumber, BadSort, BadDomain, TwoFormats, BadSourceList, NoFile, SynthWithFile, NoBase, DebugFile, BadPlace, TwoPlaces, PlaceFile}
+use Rattle.size_options.specs.declared.run_options.Options.{Options}
 
 -- The first error that the tests find in the arguments.
 abbrev pub first_of_words : List Text → Option UsageKind
@@ -55,22 +55,22 @@ module _ {X : Type 0} (f : X → Text) where
   pub words_before : (xs : List X) (n : ℕ) → n ≡ mark_at (map f xs) → map f (take n xs) ≡ profile_words (map f xs)
   words_before xs n is = sym (take-map f n xs) ∙ ap (λ k. take k (map f xs)) is
 
-  -- What the tests say about the parsed values, they say about the arguments.
+  -- The first error in the parsed values is the first error in the arguments.
   pub first_is : (xs : List X) (n : ℕ) (g : GivenTexts) (found : Option UsageKind) → n ≡ mark_at (map f xs) → g ≡ given_by (map f xs)
       → found ≡ first_usage (usage_tests g (n + 1 == length xs) (nat_lt n (length xs))) → found ≡ first_of_words (map f xs)
   first_is xs n g found at given is =
       is ∙ ap (λ (x : GivenTexts). first_usage (usage_tests x (n + 1 == length xs) (nat_lt n (length xs)))) given
       ∙ ap₂ (λ (k l : ℕ). first_usage (usage_tests (given_by (map f xs)) (k + 1 == l) (nat_lt k l))) at (sym (length-map xs f))
 
-  -- Where no argument is `--`, none follows one.
-  pub none_behind : (xs : List X) (n : ℕ) → n ≡ mark_at (map f xs) → nat_lt n (length xs) ≡ false → base_words (map f xs) ≡ []
-  none_behind xs n is none =
+  -- If no argument is `--`, there are no base files.
+  pub no_base_words : (xs : List X) (n : ℕ) → n ≡ mark_at (map f xs) → nat_lt n (length xs) ≡ false → base_words (map f xs) ≡ []
+  no_base_words xs n is none =
       let beyond : length xs ≤ n = grind (arith, nat_tests) in
       drop_of_length-le (map f xs) (omega (arith, length-map xs f))
 
-  -- The arguments after `--`, or none where there is no `--`.
-  pub words_behind : (xs : List X) (n : ℕ) → n ≡ mark_at (map f xs) → map f (drop (min (n + 1) (length xs)) xs) ≡ base_words (map f xs)
-  words_behind xs n is = ap (map f) (drop_within (n + 1) xs) ∙ sym (drop-map f (n + 1) xs) ∙ ap (λ k. drop (k + 1) (map f xs)) is
+  -- The arguments after `--`, or none if there is no `--`.
+  pub words_after : (xs : List X) (n : ℕ) → n ≡ mark_at (map f xs) → map f (drop (min (n + 1) (length xs)) xs) ≡ base_words (map f xs)
+  words_after xs n is = ap (map f) (drop_within (n + 1) xs) ∙ sym (drop-map f (n + 1) xs) ∙ ap (λ k. drop (k + 1) (map f xs)) is
 
 -- ---- arguments that can't be parsed
 

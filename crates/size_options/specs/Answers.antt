@@ -5,11 +5,11 @@ use Rattle.clap.specs.Words.{Kinds, Text}
 use Rattle.size_options.specs.Asked.{asked}
 use Rattle.size_options.specs.Command.{errors_of, takes_words}
 use Rattle.size_options.specs.Words.{profile_words}
-use Rattle.size_options.specs.declared.answer.OptionAnswer.{OptionAnswer}
-use Rattle.size_options.specs.declared.answer.OptionAnswer.TheVariants.{NoMemory, Usage}
-use Rattle.size_options.specs.declared.answer.UsageKind.{UsageKind}
-use Rattle.size_options.specs.declared.answer.UsageKind.TheVariants.{Words}
-use Rattle.size_options.specs.declared.chosen.Options.{Options}
+use Rattle.size_options.specs.declared.errors.OptionAnswer.{OptionAnswer}
+use Rattle.size_options.specs.declared.errors.OptionAnswer.TheVariants.{NoMemory, Usage}
+use Rattle.size_options.specs.declared.errors.UsageKind.{UsageKind}
+use Rattle.size_options.specs.declared.errors.UsageKind.TheVariants.{Words}
+use Rattle.size_options.specs.declared.run_options.Options.{Options}
 
 -- Whether clap's definition parses the arguments before `--`. A failed allocation can still keep them from
 -- being parsed.
@@ -20,7 +20,7 @@ are_taken words = takes_words (profile_words words)
 abbrev pub word_errors : List Text → Kinds
 word_errors words = errors_of (profile_words words)
 
--- The arguments can't be parsed, and this is the kind that says so.
+-- The arguments can't be parsed, and this is the kind of that error.
 abbrev pub IsUnread : List Text → UsageKind → Type 0
 IsUnread words Words = (takes_words words ≡ false) × (errors_of words ≢ [])
 IsUnread words _ = ⊥

@@ -9,15 +9,15 @@ use Rattle.size_options.specs.Command.{rows_by}
 use Rattle.size_options.specs.Given.{GivenTexts, given_in}
 use Rattle.size_options.specs.Values.{address_of, domain_of, is_bad, is_bad_list, names_in, number_of, offset_of, place_of, small_number_of, sort_of, value_or}
 use Rattle.size_options.specs.Words.{base_words, ends_in_mark, has_mark, profile_words}
-use Rattle.size_options.specs.declared.answer.UsageKind.{UsageKind}
-use Rattle.size_options.specs.declared.answer.UsageKind.TheVariants.{BadNumber, BadSort, BadDomain, TwoFormats, BadSourceList, NoFile, SynthWithFile, NoBase, DebugFile, BadPlace, TwoPlaces, PlaceFile}
-use Rattle.size_options.specs.declared.chosen.Options.{Options}
+use Rattle.size_options.specs.declared.errors.UsageKind.{UsageKind}
+use Rattle.size_options.specs.declared.errors.UsageKind.TheVariants.{BadNumber, BadSort, BadDomain, TwoFormats, BadSourceList, NoFile, SynthWithFile, NoBase, DebugFile, BadPlace, TwoPlaces, PlaceFile}
+use Rattle.size_options.specs.declared.run_options.Options.{Options}
 
 -- The names of the data sources: those of `-d`, or `sections` alone.
 abbrev pub source_names : GivenTexts → List Text
 source_names g = names_in (unwrap_or g.sources (codes "sections"))
 
--- Whether a debug file is given, but not exactly one file alone.
+-- Whether a debug file is given, and either there isn't exactly one file, or `--` is given.
 abbrev pub is_unpaired : GivenTexts → Bool → Bool
 is_unpaired g has_mark = is_some g.debug && (not (length g.files == 1) || has_mark)
 
@@ -25,7 +25,7 @@ is_unpaired g has_mark = is_some g.debug && (not (length g.files == 1) || has_ma
 abbrev pub is_bad_place : GivenTexts → Bool
 is_bad_place g = is_bad offset_of g.offset || is_bad address_of g.address
 
--- Whether an offset or an address is given together with another file.
+-- Whether an offset or an address is given together with a debug file, `--` or a second file.
 abbrev pub is_place_beside : GivenTexts → Bool → Bool
 is_place_beside g has_mark = (is_some g.offset || is_some g.address)
     && ((is_some g.debug || has_mark) || nat_lt 1 (length g.files))
@@ -37,7 +37,7 @@ debug_tests g has_mark = (is_unpaired g has_mark, DebugFile)
     ∷ (is_some g.offset && is_some g.address, TwoPlaces)
     ∷ (is_place_beside g has_mark, PlaceFile) ∷ []
 
--- Each error with its test, in the order in which they are tried.
+-- Each error with its test. The tests are tried in this order.
 abbrev pub usage_tests : GivenTexts → Bool → Bool → List (Bool × UsageKind)
 usage_tests g has_no_base has_mark = (is_bad number_of g.limit || is_bad small_number_of g.synth, BadNumber)
     ∷ (is_bad sort_of g.sort, BadSort)
@@ -53,7 +53,7 @@ abbrev pub first_usage : List (Bool × UsageKind) → Option UsageKind
 first_usage [] = None
 first_usage (p ∷ ps) = if p.0 then Some p.1 else first_usage ps
 
--- The format: CSV, TSV, or text where neither is given.
+-- The format: CSV, TSV, or text if neither is given.
 abbrev pub format_of : GivenTexts → Format
 format_of g = if g.csv then format.Csv else (if g.tsv then format.Tsv else format.Text)
 

@@ -74,6 +74,6 @@ rows_by words = matches_of profile_app words
 unfoldable pub takes_words : List Text → Bool
 takes_words words = takes profile_app words
 
--- The kinds of error that clap's definition gives for these arguments: none where they are parsed.
+-- The kinds of error that clap's definition gives for these arguments: none if they are parsed.
 unfoldable pub errors_of : List Text → Kinds
 errors_of words = fault_of profile_app words

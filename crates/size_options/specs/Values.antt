@@ -56,7 +56,7 @@ offset_of t = option_map (λ n. Offset n) (wide_number_of t)
 abbrev pub is_colon : ℕ → Bool
 is_colon c = c == 58
 
--- The address in this address space, where both can be parsed.
+-- The address in this address space, if both can be parsed.
 abbrev pub address_in : Option ℕ → Option ℕ → Option Place
 address_in (Some space) (Some address) = Some (Address space address)
 address_in _ _ = None
@@ -67,7 +67,7 @@ address_of t = if nat_lt (position_or_len is_colon t) (length t)
     then address_in (number_of (before_first is_colon t)) (wide_number_of (after_first is_colon t))
     else address_in (Some 0) (wide_number_of t)
 
--- The location to explain: that of an offset, or that of an address where there is no offset.
+-- The location to explain: that of an offset, or that of an address if there is no offset.
 abbrev pub place_of : Option Text → Option Text → Option Place
 place_of (Some offset) address = offset_of offset
 place_of None address = option_and_then address_of address

@@ -13,7 +13,7 @@ seen_words words = map string_bytes words
 abbrev pub is_mark : Text → Bool
 is_mark word = bytes_eq word (codes "--")
 
--- The number of arguments before the first `--`, or of all arguments where there is none.
+-- The number of arguments before the first `--`, or of all arguments if there is none.
 abbrev pub mark_at : List Text → ℕ
 mark_at = position_or_len is_mark
 

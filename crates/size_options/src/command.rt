@@ -24,6 +24,7 @@ fn word_option<'a>(alloc: Global, id: &'a str) -> Arg<'a>
     Arg::new(alloc, id).long(id)
 }
 
+// A flag with one letter.
 fn letter_flag<'a>(alloc: Global, id: &'a str, letter: char) -> Arg<'a>
     ensures rule { rule_of result ≡ letter_flag letter id.entry.now }
     ensures local { result.global ≡ false }
@@ -31,6 +32,7 @@ fn letter_flag<'a>(alloc: Global, id: &'a str, letter: char) -> Arg<'a>
     Arg::new(alloc, id).short(letter).action(ArgAction::SetTrue)
 }
 
+// A flag with a long name.
 fn word_flag<'a>(alloc: Global, id: &'a str) -> Arg<'a>
     ensures rule { rule_of result ≡ word_flag id.entry.now }
     ensures local { result.global ≡ false }
@@ -38,6 +40,7 @@ fn word_flag<'a>(alloc: Global, id: &'a str) -> Arg<'a>
     Arg::new(alloc, id).long(id).action(ArgAction::SetTrue)
 }
 
+// Any number of files, each a separate argument.
 fn file_words<'a>(alloc: Global) -> Arg<'a>
     ensures rule { rule_of result ≡ file_words }
     ensures local { result.global ≡ false }
@@ -45,6 +48,7 @@ fn file_words<'a>(alloc: Global) -> Arg<'a>
     Arg::new(alloc, "FILE").action(ArgAction::Append)
 }
 
+// A command without arguments, and without flags for help and for the version.
 fn bare_command<'a>(alloc: Global) -> Command<'a>
     ensures { app_of result ≡ bare_app }
 {
@@ -94,6 +98,7 @@ fn with_debug_options<'a>(command: Command<'a>, alloc: Global) -> Result<Command
         .arg(word_option(alloc, "debug-vmaddr"))
 }
 
+// Adds the option `--synth`, and the files.
 fn with_files<'a>(command: Command<'a>, alloc: Global) -> Result<Command<'a>, AllocError>
     ensures { IfOk result (λ c. app_of c ≡ with_rules (app_of command.entry) file_rules) }
 {

@@ -1,14 +1,14 @@
 //! Parsing the command line into options, by one `clap` command.
 #![tactic(auto)]
 
-mod answer;
-mod chosen;
 mod command;
+mod errors;
 mod given;
-mod matched;
+mod matches;
+mod parse;
+mod run_options;
 mod values;
-mod words;
 
-pub use answer::{OptionAnswer, UsageKind};
-pub use chosen::Options;
-pub use words::options;
+pub use errors::{OptionAnswer, UsageKind};
+pub use parse::options;
+pub use run_options::Options;

@@ -21,12 +21,14 @@ fn is_short(text: &str, most: usize) -> bool
     !text.is_empty() && text.len() <= most
 }
 
+// Whether each byte of the text is a decimal digit.
 fn is_digits(text: &str) -> bool
     ensures { result ≡ list_all is_ascii_digit text.now }
 {
     text.as_bytes().iter().all(|b| b.is_ascii_digit())
 }
 
+// Whether each byte of the text is a hexadecimal digit.
 fn is_hexadecimal(text: &str) -> bool
     ensures { result ≡ list_all is_ascii_hexdigit text.now }
 {
@@ -84,6 +86,7 @@ fn hexadecimal_of(text: &str) -> Option<u64>
     u64::from_str_radix(text, 16).ok()
 }
 
+// A number below 2^64: `0x` and hexadecimal digits, or decimal digits.
 fn wide_number_of(text: &str) -> Option<u64>
     ensures { result ≡ wide_number_of text.entry.now }
 {
@@ -100,7 +103,7 @@ pub fn offset_of(text: &str) -> Option<Place>
     wide_number_of(text).map(Place::Offset)
 }
 
-// The address in this address space, where both were parsed.
+// The address in this address space, if both were parsed.
 fn address_in(space: Option<u32>, address: Option<u64>) -> Option<Place>
     ensures { result ≡ address_in space address }
 {

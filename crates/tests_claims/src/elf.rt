@@ -12,7 +12,6 @@ use sample_files::{put, put_all};
 use size_core::{BadFile, Claim, Fault, LabelPool, Load, Side, Span};
 use std::alloc::Global;
 use std::process::Abort;
-use std::test::Fail;
 
 const PLAIN_FILE_BYTES: [(usize, &[u8]); 15] = [
     (0, b"\x7fELF\x02\x01\x01"),
@@ -40,9 +39,9 @@ fn plain_file() -> [u8; 440] {
 }
 
 #[test]
-fn loads_of_a_plain_file(rt: HostRuntime) -> Result<(), Fail> {
+fn loads_of_a_plain_file(rt: HostRuntime) {
     let file = plain_file();
-    let elf = ElfFile::parse(&file)?;
+    let elf = ElfFile::parse(&file).expect(&rt, "a sound file");
     assert_eq!(rt; load_slots(&elf), 1);
     let load = Load {
         space: 0,
@@ -52,7 +51,6 @@ fn loads_of_a_plain_file(rt: HostRuntime) -> Result<(), Fail> {
         filesz: 64,
     };
     assert_eq!(rt; load_at(&elf, 0), Some(load));
-    Ok(())
 }
 
 /// Adds the claims of a file's loads, sections, headers and symbols.
@@ -97,35 +95,34 @@ const SYMBOL: Claim = Claim {
 };
 
 #[test]
-fn groups_of_a_plain_file(rt: HostRuntime) -> Result<(), Fail> {
+fn groups_of_a_plain_file(rt: HostRuntime) {
     let alloc = rt.alloc();
     let file = plain_file();
-    let elf = ElfFile::parse(&file)?;
+    let elf = ElfFile::parse(&file).expect(&rt, "a sound file");
     let mut pool = LabelPool::new(alloc);
     let mut sheet = ClaimSheet::begin(alloc, &mut pool, 100);
-    add_all(alloc, &elf, &mut sheet)?;
-    let Ok(claims) = sheet.finish(&mut pool) else {
-        panic!(rt; "eight claims are within the limit");
-    };
+    add_all(alloc, &elf, &mut sheet).expect(&rt, "claims");
+    let claims = sheet
+        .finish(&mut pool)
+        .expect(&rt, "eight claims are within the limit");
     assert_labels(&rt, &pool);
     assert_eq!(rt; claims.len(), 8);
     assert_eq!(rt; claims[7], SYMBOL);
-    Ok(())
 }
 
-/// Whether the function's symbol claims bytes where these bytes are written over those of the plain file.
-fn claims_symbol(rt: &impl Abort, alloc: Global, at: usize, bytes: &[u8]) -> Result<bool, Fail> {
+/// Whether the function's symbol claims bytes if these bytes are written over those of the plain file.
+fn claims_symbol(rt: &impl Abort, alloc: Global, at: usize, bytes: &[u8]) -> bool {
     assert!(rt; at < 400 && bytes.len() < 4);
     let mut file = plain_file();
     put(&mut file, at, bytes);
-    let elf = ElfFile::parse(&file)?;
+    let elf = ElfFile::parse(&file).expect(rt, "a sound file");
     let mut pool = LabelPool::new(alloc);
     let mut sheet = ClaimSheet::begin(alloc, &mut pool, 100);
-    add_symbols(alloc, &elf, &mut sheet)?;
-    let Ok(claims) = sheet.finish(&mut pool) else {
-        panic!(rt; "a claim is within the limit");
-    };
-    Ok(!claims.is_empty())
+    add_symbols(alloc, &elf, &mut sheet).expect(rt, "symbols");
+    let claims = sheet
+        .finish(&mut pool)
+        .expect(rt, "a claim is within the limit");
+    !claims.is_empty()
 }
 
 /// What is written over which bytes, and whether the function's symbol still claims bytes.
@@ -143,25 +140,24 @@ const SYMBOLS: [(usize, &[u8], bool); 7] = [
 ];
 
 #[test]
-fn symbols_that_claim_bytes(rt: HostRuntime) -> Result<(), Fail> {
+fn symbols_that_claim_bytes(rt: HostRuntime) {
     let alloc = rt.alloc();
     for (at, bytes, is_claim) in SYMBOLS {
-        let claims = claims_symbol(&rt, alloc, at, bytes)?;
+        let claims = claims_symbol(&rt, alloc, at, bytes);
         assert_eq!(rt; claims, is_claim, "{bytes:?} at {at}");
     }
-    Ok(())
 }
 
 #[test]
-fn a_fault_past_the_limit_is_found(rt: HostRuntime) -> Result<(), Fail> {
+fn a_fault_past_the_limit_is_found(rt: HostRuntime) {
     let alloc = rt.alloc();
     let mut file = plain_file();
     // The function's name has no end.
     put(&mut file, 144, b"\x09");
-    let elf = ElfFile::parse(&file)?;
+    let elf = ElfFile::parse(&file).expect(&rt, "a sound file");
     let mut pool = LabelPool::new(alloc);
     let mut sheet = ClaimSheet::begin(alloc, &mut pool, 0);
-    add_headers(&elf, &mut sheet)?;
+    add_headers(&elf, &mut sheet).expect(&rt, "headers");
     let bad = BadFile {
         fault: Fault::NameOutside,
         offset: 144,
@@ -169,7 +165,6 @@ fn a_fault_past_the_limit_is_found(rt: HostRuntime) -> Result<(), Fail> {
     assert_eq!(rt; add_symbols(alloc, &elf, &mut sheet), Err(Stop::Bad(bad)));
     assert!(rt; sheet.finish(&mut pool).is_err());
     assert_eq!(rt; pool.len(), 0);
-    Ok(())
 }
 
 const DEBUG_FILE_BYTES: [(usize, &[u8]); 12] = [
@@ -196,50 +191,41 @@ fn debug_file() -> [u8; 448] {
 }
 
 #[test]
-fn debug_sections_by_their_names(rt: HostRuntime) -> Result<(), Fail> {
+fn debug_sections_by_their_names(rt: HostRuntime) {
     let file = debug_file();
-    let elf = ElfFile::parse(&file)?;
-    let sections = debug_sections(&elf)?;
+    let elf = ElfFile::parse(&file).expect(&rt, "a sound file");
+    let sections = debug_sections(&elf).expect(&rt, "debug sections");
     assert_eq!(rt; (sections.info.place(), sections.info.left()), (64, 12));
     assert_eq!(rt; (sections.abbrev.place(), sections.abbrev.left()), (76, 1));
     assert_eq!(rt; (sections.lines.place(), sections.lines.left()), (0, 0));
-    Ok(())
 }
 
 #[test]
-fn units_of_a_debug_file(rt: HostRuntime) -> Result<(), Fail> {
+fn units_of_a_debug_file(rt: HostRuntime) {
     let alloc = rt.alloc();
     let file = debug_file();
-    let elf = ElfFile::parse(&file)?;
+    let elf = ElfFile::parse(&file).expect(&rt, "a sound file");
     let mut pool = LabelPool::new(alloc);
     let mut sheet = ClaimSheet::begin(alloc, &mut pool, 100);
-    add_units(alloc, &elf, &mut sheet)?;
-    add_lines(alloc, &elf, &mut sheet)?;
-    let Ok(claims) = sheet.finish(&mut pool) else {
-        panic!(rt; "two claims are within the limit");
-    };
+    add_units(alloc, &elf, &mut sheet).expect(&rt, "units");
+    add_lines(alloc, &elf, &mut sheet).expect(&rt, "lines");
+    let claims = sheet
+        .finish(&mut pool)
+        .expect(&rt, "two claims are within the limit");
     assert_eq!(rt; claims.len(), 2);
     assert!(rt; pool.len() == 1 && pool.get(0) == b"[Unnamed unit]".as_slice());
-    Ok(())
 }
 
-/// The debug sections aren't read, for this fault, where these bytes are written over those of the debug file.
-fn assert_not_read(
-    rt: &impl Abort,
-    alloc: Global,
-    at: usize,
-    bytes: &[u8],
-    bad: BadFile,
-) -> Result<(), Fail> {
+/// The debug sections aren't read, for this fault, if these bytes are written over those of the debug file.
+fn assert_not_read(rt: &impl Abort, alloc: Global, at: usize, bytes: &[u8], bad: BadFile) {
     assert!(rt; at < 300 && bytes.len() < 20);
     let mut file = debug_file();
     put(&mut file, at, bytes);
-    let elf = ElfFile::parse(&file)?;
+    let elf = ElfFile::parse(&file).expect(rt, "a sound file");
     let mut pool = LabelPool::new(alloc);
     let mut sheet = ClaimSheet::begin(alloc, &mut pool, 0);
     assert_eq!(rt; add_units(alloc, &elf, &mut sheet), Err(Stop::Bad(bad)));
     assert_eq!(rt; add_lines(alloc, &elf, &mut sheet), Err(Stop::Bad(bad)));
-    Ok(())
 }
 
 /// What is written over which bytes, and the fault with its offset.
@@ -251,10 +237,9 @@ const UNREAD: [(usize, &[u8], Fault, u64); 3] = [
 ];
 
 #[test]
-fn compressed_debug_sections_are_not_read(rt: HostRuntime) -> Result<(), Fail> {
+fn compressed_debug_sections_are_not_read(rt: HostRuntime) {
     let alloc = rt.alloc();
     for (at, bytes, fault, offset) in UNREAD {
-        assert_not_read(&rt, alloc, at, bytes, BadFile { fault, offset })?;
+        assert_not_read(&rt, alloc, at, bytes, BadFile { fault, offset });
     }
-    Ok(())
 }

@@ -4,7 +4,6 @@ use claim_sheet::{ClaimSheet, Reach, TooMany, Wrap, span};
 use size_core::{Claim, LabelPool, Load, NoMemory, Side};
 use std::alloc::Global;
 use std::process::Abort;
-use std::test::Fail;
 
 const LOAD: Load = Load {
     space: 2,
@@ -55,34 +54,37 @@ fn assert_claims(rt: &impl Abort, claims: &[Claim]) {
 }
 
 #[test]
-fn claims_up_to_a_limit(rt: HostRuntime) -> Result<(), Fail> {
-    let (pool, claims) = made(rt.alloc(), 3)?;
+fn claims_up_to_a_limit(rt: HostRuntime) {
+    let (pool, claims) = made(rt.alloc(), 3).expect(&rt, "memory");
     assert_labels(&rt, &pool);
-    assert_claims(&rt, &claims?);
-    Ok(())
+    assert_claims(&rt, &claims.expect(&rt, "memory"));
 }
 
 #[test]
-fn claims_past_the_limit(rt: HostRuntime) -> Result<(), Fail> {
-    let (pool, claims) = made(rt.alloc(), 2)?;
+fn claims_past_the_limit(rt: HostRuntime) {
+    let (pool, claims) = made(rt.alloc(), 2).expect(&rt, "memory");
     assert_labels(&rt, &pool);
     assert!(rt; claims.is_err());
-    Ok(())
 }
 
 #[test]
-fn claims_on_addresses_alone(rt: HostRuntime) -> Result<(), Fail> {
+fn claims_on_addresses_alone(rt: HostRuntime) {
     let alloc = rt.alloc();
     let file = span(0, 7, 3);
     let vm = span(0, 9, 2);
     let mut pool = LabelPool::new(alloc);
     let mut sheet = ClaimSheet::begin_on_addresses(alloc, &mut pool, 1);
-    sheet.add(Reach::in_file(file), Wrap::Plain, b"file")?;
-    sheet.add(Reach::in_memory(vm), Wrap::Plain, b"vm")?;
-    sheet.add(Reach::in_both(vm, file), Wrap::Plain, b"both")?;
-    let made = sheet.finish(&mut pool)?;
+    sheet
+        .add(Reach::in_file(file), Wrap::Plain, b"file")
+        .expect(&rt, "memory");
+    sheet
+        .add(Reach::in_memory(vm), Wrap::Plain, b"vm")
+        .expect(&rt, "memory");
+    sheet
+        .add(Reach::in_both(vm, file), Wrap::Plain, b"both")
+        .expect(&rt, "memory");
+    let made = sheet.finish(&mut pool).expect(&rt, "memory");
     assert_eq!(rt; (made.len(), pool.len()), (1, 1));
     assert_eq!(rt; (made[0].side, made[0].vm), (Side::Vm, vm));
     assert!(rt; pool.get(0) == b"vm".as_slice());
-    Ok(())
 }

@@ -7,7 +7,6 @@ use sample_files::{put, put_all};
 use size_core::{BadFile, Fault, LabelPool, Load, Side, Source, Span};
 use std::alloc::Global;
 use std::process::Abort;
-use std::test::Fail;
 
 const ONE_LOAD_BYTES: [(usize, &[u8]); 7] = [
     (0, b"\x7fELF\x02\x01\x01"),
@@ -62,12 +61,12 @@ fn has_claims(
     binary: &Binary<'_>,
     name: &[u8],
     &(source, count, label): &Offered<'_>,
-) -> Result<LabelPool, Fail> {
+) -> LabelPool {
     let mut pool = LabelPool::new(alloc);
-    let made = claims(alloc, binary, source, name, &mut pool, count as u64)?;
+    let made = claims(alloc, binary, source, name, &mut pool, count as u64).expect(rt, "claims");
     assert_eq!(rt; made.len(), count);
     assert!(rt; pool.len() > 0 && pool.get(0) == label);
-    Ok(pool)
+    pool
 }
 
 /// A data source makes more than one claim.
@@ -96,18 +95,17 @@ const OF_ONE_LOAD: [Offered<'static>; 7] = [
 ];
 
 #[test]
-fn claims_of_each_data_source(rt: HostRuntime) -> Result<(), Fail> {
+fn claims_of_each_data_source(rt: HostRuntime) {
     let alloc = rt.alloc();
     let file = one_load();
-    let binary = open_binary(&file)?;
+    let binary = open_binary(&file).expect(&rt, "a sound file");
     assert_eq!(rt; binary.bytes().len(), 120);
     assert_eq!(rt; load_slots(&binary), 1);
     assert_eq!(rt; load_at(&binary, 0), Some(LOAD));
     for offered in &OF_ONE_LOAD {
-        has_claims(&rt, alloc, &binary, b"a.elf", offered)?;
+        has_claims(&rt, alloc, &binary, b"a.elf", offered);
         has_many(&rt, alloc, &binary, offered.0);
     }
-    Ok(())
 }
 
 const ONE_SEGMENT_BYTES: [(usize, &[u8]); 8] = [
@@ -144,21 +142,20 @@ const OF_SECTIONS: [&[u8]; 4] = [
 ];
 
 #[test]
-fn claims_of_a_macho_file(rt: HostRuntime) -> Result<(), Fail> {
+fn claims_of_a_macho_file(rt: HostRuntime) {
     let alloc = rt.alloc();
     let file = one_segment();
-    let binary = open_binary(&file)?;
+    let binary = open_binary(&file).expect(&rt, "a sound file");
     assert_eq!(rt; binary.bytes().len(), 216);
     assert_eq!(rt; load_slots(&binary), 1);
     assert!(rt; load_at(&binary, 0).is_some());
     for offered in &OF_ONE_SEGMENT {
-        has_claims(&rt, alloc, &binary, b"a.out", offered)?;
+        has_claims(&rt, alloc, &binary, b"a.out", offered);
     }
-    let pool = has_claims(&rt, alloc, &binary, b"a.out", &OF_ONE_SEGMENT[3])?;
+    let pool = has_claims(&rt, alloc, &binary, b"a.out", &OF_ONE_SEGMENT[3]);
     for (i, label) in OF_SECTIONS.iter().enumerate() {
         assert!(rt; i + 1 < pool.len() && pool.get(i + 1) == *label);
     }
-    Ok(())
 }
 
 const DEBUG_FILE_BYTES: [(usize, &[u8]); 17] = [
@@ -198,11 +195,11 @@ fn has_claim(
     alloc: Global,
     binary: &Binary<'_>,
     &(source, label, start, len): &Debugged<'_>,
-) -> Result<(), Fail> {
+) {
     let mut pool = LabelPool::new(alloc);
     let few = debug_claims(alloc, binary, source, &mut pool, 0);
     assert_eq!(rt; few.err(), Some(ClaimAnswer::TooManyClaims));
-    let made = debug_claims(alloc, binary, source, &mut pool, 1)?;
+    let made = debug_claims(alloc, binary, source, &mut pool, 1).expect(rt, "claims");
     assert_eq!(rt; made.len(), 1);
     let vm = Span {
         space: 0,
@@ -211,7 +208,6 @@ fn has_claim(
     };
     assert_eq!(rt; (made[0].side, made[0].vm), (Side::Vm, vm));
     assert!(rt; pool.len() == 1 && pool.get(0) == label);
-    Ok(())
 }
 
 const OF_DEBUG_FILE: [Debugged<'static>; 3] = [
@@ -221,13 +217,12 @@ const OF_DEBUG_FILE: [Debugged<'static>; 3] = [
 ];
 
 #[test]
-fn claims_of_a_debug_file(rt: HostRuntime) -> Result<(), Fail> {
+fn claims_of_a_debug_file(rt: HostRuntime) {
     let file = debug_file();
-    let binary = open_binary(&file)?;
+    let binary = open_binary(&file).expect(&rt, "a sound file");
     for case in &OF_DEBUG_FILE {
-        has_claim(&rt, rt.alloc(), &binary, case)?;
+        has_claim(&rt, rt.alloc(), &binary, case);
     }
-    Ok(())
 }
 
 // A symbol's name that has no end.
@@ -260,13 +255,12 @@ fn has_fault(
 }
 
 #[test]
-fn faults_of_a_debug_file(rt: HostRuntime) -> Result<(), Fail> {
+fn faults_of_a_debug_file(rt: HostRuntime) {
     let mut file = debug_file();
     // The function's name has no end.
     put(&mut file, 128, b"\x1d");
-    let binary = open_binary(&file)?;
+    let binary = open_binary(&file).expect(&rt, "a sound file");
     for &(source, fault) in &DEBUG_FAULTS {
         has_fault(&rt, rt.alloc(), &binary, source, fault);
     }
-    Ok(())
 }

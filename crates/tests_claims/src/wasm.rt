@@ -6,7 +6,6 @@ use claim_sheet::{ClaimSheet, Stop, Wrap};
 use size_core::{BadFile, Claim, Fault, LabelPool, Side, Span};
 use std::alloc::Global;
 use std::process::Abort;
-use std::test::Fail;
 use wasm_claims::{add_headers, add_sections, add_symbols};
 use wasm_file::WasmFile;
 
@@ -34,73 +33,69 @@ fn is_on(claim: &Claim, start: u64, len: u64) -> bool {
 }
 
 /// The module's groups make these claims: where each begins, its length and its label.
-fn assert_claims(
-    rt: &impl Abort,
-    alloc: Global,
-    bytes: &[u8],
-    wanted: &[(u64, u64, &[u8])],
-) -> Result<(), Fail>
+fn assert_claims(rt: &impl Abort, alloc: Global, bytes: &[u8], wanted: &[(u64, u64, &[u8])])
     requires { length bytes.now < 100 }
 {
-    let file = WasmFile::parse(bytes)?;
+    let file = WasmFile::parse(bytes).expect(rt, "a sound file");
     let mut pool = LabelPool::new(alloc);
     let mut sheet = ClaimSheet::begin(alloc, &mut pool, 100);
-    add_symbols(alloc, &file, &mut sheet)?;
-    add_sections(alloc, &file, Wrap::Section, &mut sheet)?;
-    add_headers(&file, &mut sheet)?;
-    let Ok(made) = sheet.finish(&mut pool) else {
-        panic!(rt; "within the limit");
-    };
+    add_symbols(alloc, &file, &mut sheet).expect(rt, "symbols");
+    add_sections(alloc, &file, Wrap::Section, &mut sheet).expect(rt, "sections");
+    add_headers(&file, &mut sheet).expect(rt, "headers");
+    let made = sheet.finish(&mut pool).expect(rt, "within the limit");
     assert_eq!(rt; made.len(), wanted.len());
     for (claim, (start, len, label)) in made.iter().zip(wanted) {
         assert!(rt; is_on(claim, *start, *len), "{claim:?}");
         assert!(rt; claim.label < pool.len());
         assert!(rt; pool.get(claim.label) == *label, "{claim:?}");
     }
-    Ok(())
 }
 
+const WHOLE: [(u64, u64, &[u8]); 7] = [
+    (42, 3, b"func[3]"),
+    (8, 6, b"[section Type]"),
+    (14, 21, b"[section Import]"),
+    (35, 4, b"[section Function]"),
+    (39, 6, b"[section Code]"),
+    (45, 10, b"[section name]"),
+    (0, 8, b"[WASM Header]"),
+];
+
+const NAMED_CLAIMS: [(u64, u64, &[u8]); 6] = [
+    (16, 3, b"hi"),
+    (8, 3, b"[section [Custom]]"),
+    (11, 2, b"[section [Section #13]]"),
+    (13, 6, b"[section Code]"),
+    (19, 14, b"[section name]"),
+    (0, 8, b"[WASM Header]"),
+];
+
+const OTHER_CLAIMS: [(u64, u64, &[u8]); 9] = [
+    (8, 2, b"[section Table]"),
+    (10, 2, b"[section Memory]"),
+    (12, 2, b"[section Global]"),
+    (14, 2, b"[section Export]"),
+    (16, 2, b"[section Start]"),
+    (18, 2, b"[section Element]"),
+    (20, 2, b"[section Data]"),
+    (22, 2, b"[section DataCount]"),
+    (0, 8, b"[WASM Header]"),
+];
+
 #[test]
-fn groups_of_modules(rt: HostRuntime) -> Result<(), Fail> {
+fn groups_of_modules(rt: HostRuntime) {
     let alloc = rt.alloc();
-    let whole: [(u64, u64, &[u8]); 7] = [
-        (42, 3, b"func[3]"),
-        (8, 6, b"[section Type]"),
-        (14, 21, b"[section Import]"),
-        (35, 4, b"[section Function]"),
-        (39, 6, b"[section Code]"),
-        (45, 10, b"[section name]"),
-        (0, 8, b"[WASM Header]"),
-    ];
-    let named: [(u64, u64, &[u8]); 6] = [
-        (16, 3, b"hi"),
-        (8, 3, b"[section [Custom]]"),
-        (11, 2, b"[section [Section #13]]"),
-        (13, 6, b"[section Code]"),
-        (19, 14, b"[section name]"),
-        (0, 8, b"[WASM Header]"),
-    ];
-    let others: [(u64, u64, &[u8]); 9] = [
-        (8, 2, b"[section Table]"),
-        (10, 2, b"[section Memory]"),
-        (12, 2, b"[section Global]"),
-        (14, 2, b"[section Export]"),
-        (16, 2, b"[section Start]"),
-        (18, 2, b"[section Element]"),
-        (20, 2, b"[section Data]"),
-        (22, 2, b"[section DataCount]"),
-        (0, 8, b"[WASM Header]"),
-    ];
-    assert_claims(&rt, alloc, MODULE, &whole)?;
-    assert_claims(&rt, alloc, NAMED, &named)?;
-    assert_claims(&rt, alloc, OTHERS, &others)
+    assert_claims(&rt, alloc, MODULE, &WHOLE);
+    assert_claims(&rt, alloc, NAMED, &NAMED_CLAIMS);
+    assert_claims(&rt, alloc, OTHERS, &OTHER_CLAIMS);
 }
 
 #[test]
-fn the_imports_fault_first(rt: HostRuntime) -> Result<(), Fail> {
+fn the_imports_fault_first(rt: HostRuntime) {
     let alloc = rt.alloc();
     // One import of an unknown kind, and a body that passes its section.
-    let file = WasmFile::parse(b"\0asm\x01\0\0\0\x02\x05\x01\x01m\x01f\x0a\x02\x01\x7f")?;
+    let bytes = b"\0asm\x01\0\0\0\x02\x05\x01\x01m\x01f\x0a\x02\x01\x7f";
+    let file = WasmFile::parse(bytes).expect(&rt, "a sound file");
     let mut pool = LabelPool::new(alloc);
     let mut sheet = ClaimSheet::begin(alloc, &mut pool, 100);
     let bad = BadFile {
@@ -111,5 +106,4 @@ fn the_imports_fault_first(rt: HostRuntime) -> Result<(), Fail> {
         add_symbols(alloc, &file, &mut sheet).err(),
         Some(Stop::Bad(bad))
     );
-    Ok(())
 }

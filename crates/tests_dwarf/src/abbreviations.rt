@@ -180,6 +180,28 @@ fn forms_of_a_fixed_size(rt: HostRuntime) {
     }
 }
 
+/// Forms, the bytes of a value, and what the value says.
+const READ_FORMS: [(u64, &[u8], Content<'static>); 18] = [
+    (0x0f, b"\x81\x01", Content::Constant(129)),
+    (0x0d, b"\x7e", Content::Signed(-2)),
+    (0x21, b"", Content::Signed(-5)),
+    (0x08, b"ab\0", Content::Text(b"ab")),
+    (0x1a, b"\x81\x01", Content::StrIndex(129)),
+    (0x1b, b"\x81\x01", Content::AddrIndex(129)),
+    (0x23, b"\x81\x01", Content::ListIndex(129)),
+    (0x15, b"\x81\x01", Content::Other),
+    (0x22, b"\x81\x01", Content::Other),
+    (0x1f01, b"\x81\x01", Content::Other),
+    (0x1f02, b"\x81\x01", Content::Other),
+    (0x0a, b"\x02ab", Content::Other),
+    (0x03, b"\x02\0ab", Content::Other),
+    (0x04, b"\x02\0\0\0ab", Content::Other),
+    (0x09, b"\x82\0ab", Content::Other),
+    (0x18, b"\x82\0ab", Content::Other),
+    (0x16, b"\x0b\x07", Content::Constant(7)),
+    (0x16, b"\x88\0ab\0", Content::Text(b"ab")),
+];
+
 #[test]
 fn forms_of_a_size_that_is_read(rt: HostRuntime) {
     let narrow = UnitShape {
@@ -188,26 +210,7 @@ fn forms_of_a_size_that_is_read(rt: HostRuntime) {
         address: 4,
         order: Order::Little,
     };
-    for (form, bytes, want) in [
-        (0x0f, b"\x81\x01".as_slice(), Content::Constant(129)),
-        (0x0d, b"\x7e".as_slice(), Content::Signed(-2)),
-        (0x21, b"".as_slice(), Content::Signed(-5)),
-        (0x08, b"ab\0".as_slice(), Content::Text(b"ab")),
-        (0x1a, b"\x81\x01".as_slice(), Content::StrIndex(129)),
-        (0x1b, b"\x81\x01".as_slice(), Content::AddrIndex(129)),
-        (0x23, b"\x81\x01".as_slice(), Content::ListIndex(129)),
-        (0x15, b"\x81\x01".as_slice(), Content::Other),
-        (0x22, b"\x81\x01".as_slice(), Content::Other),
-        (0x1f01, b"\x81\x01".as_slice(), Content::Other),
-        (0x1f02, b"\x81\x01".as_slice(), Content::Other),
-        (0x0a, b"\x02ab".as_slice(), Content::Other),
-        (0x03, b"\x02\0ab".as_slice(), Content::Other),
-        (0x04, b"\x02\0\0\0ab".as_slice(), Content::Other),
-        (0x09, b"\x82\0ab".as_slice(), Content::Other),
-        (0x18, b"\x82\0ab".as_slice(), Content::Other),
-        (0x16, b"\x0b\x07".as_slice(), Content::Constant(7)),
-        (0x16, b"\x88\0ab\0".as_slice(), Content::Text(b"ab")),
-    ] {
+    for (form, bytes, want) in READ_FORMS {
         assert!(rt; bytes.len() < 50);
         let (value, place) = read(bytes, form, -5, &narrow);
         assert!(rt; value == Ok(want), "{form}");
@@ -220,6 +223,27 @@ fn forms_of_a_size_that_is_read(rt: HostRuntime) {
     }
 }
 
+/// Forms, the bytes of a value, and its fault.
+const UNREAD_FORMS: [(u64, &[u8], Fault); 9] = [
+    (0x00, b"\x01", Fault::UnknownForm),
+    (0x02, b"\x01", Fault::UnknownForm),
+    (0x2d, b"\x01", Fault::UnknownForm),
+    (0x1f03, b"\x01", Fault::UnknownForm),
+    (0x16, b"\x16\x0b\x07", Fault::UnknownForm),
+    (0x16, b"\x21\x07", Fault::UnknownForm),
+    (0x16, b"\x02\x07", Fault::UnknownForm),
+    (
+        0x0f,
+        b"\x80\x80\x80\x80\x80\x80\x80\x80\x80\x02",
+        Fault::BadLeb,
+    ),
+    (
+        0x09,
+        b"\x80\x80\x80\x80\x80\x80\x80\x80\x80\x02",
+        Fault::BadLeb,
+    ),
+];
+
 #[test]
 fn forms_that_are_not_read(rt: HostRuntime) {
     let wide = UnitShape {
@@ -228,25 +252,7 @@ fn forms_that_are_not_read(rt: HostRuntime) {
         address: 8,
         order: Order::Big,
     };
-    for (form, bytes, want) in [
-        (0x00, b"\x01".as_slice(), Fault::UnknownForm),
-        (0x02, b"\x01".as_slice(), Fault::UnknownForm),
-        (0x2d, b"\x01".as_slice(), Fault::UnknownForm),
-        (0x1f03, b"\x01".as_slice(), Fault::UnknownForm),
-        (0x16, b"\x16\x0b\x07".as_slice(), Fault::UnknownForm),
-        (0x16, b"\x21\x07".as_slice(), Fault::UnknownForm),
-        (0x16, b"\x02\x07".as_slice(), Fault::UnknownForm),
-        (
-            0x0f,
-            b"\x80\x80\x80\x80\x80\x80\x80\x80\x80\x02".as_slice(),
-            Fault::BadLeb,
-        ),
-        (
-            0x09,
-            b"\x80\x80\x80\x80\x80\x80\x80\x80\x80\x02".as_slice(),
-            Fault::BadLeb,
-        ),
-    ] {
+    for (form, bytes, want) in UNREAD_FORMS {
         assert!(rt; bytes.len() < 50);
         let (value, place) = read(bytes, form, 0, &wide);
         assert!(rt; value == Err(want), "{form}");
@@ -254,25 +260,24 @@ fn forms_that_are_not_read(rt: HostRuntime) {
     }
 }
 
+/// Bytes, the length with whether it is wide, and the offset after it.
+const LENGTHS: [(&[u8], Result<(u64, bool), Fault>, u64); 7] = [
+    (b"\x02\0\0\0ab", Ok((2, false)), 1004),
+    (b"\xff\xff\xff\xff\x01\0\0\0\0\0\0\0ab", Ok((1, true)), 1012),
+    (b"\x03\0\0\0ab", Err(Fault::BadUnit), 1000),
+    (b"\xf0\xff\xff\xff", Err(Fault::BadUnit), 1000),
+    (b"\xfe\xff\xff\xff", Err(Fault::BadUnit), 1000),
+    (b"\x00\0\0", Err(Fault::Truncated), 1000),
+    (
+        b"\xff\xff\xff\xff\x01\0\0\0\0\0\0",
+        Err(Fault::Truncated),
+        1000,
+    ),
+];
+
 #[test]
 fn initial_lengths(rt: HostRuntime) {
-    for (bytes, want, place) in [
-        (b"\x02\0\0\0ab".as_slice(), Ok((2, false)), 1004),
-        (
-            b"\xff\xff\xff\xff\x01\0\0\0\0\0\0\0ab".as_slice(),
-            Ok((1, true)),
-            1012,
-        ),
-        (b"\x03\0\0\0ab".as_slice(), Err(Fault::BadUnit), 1000),
-        (b"\xf0\xff\xff\xff".as_slice(), Err(Fault::BadUnit), 1000),
-        (b"\xfe\xff\xff\xff".as_slice(), Err(Fault::BadUnit), 1000),
-        (b"\x00\0\0".as_slice(), Err(Fault::Truncated), 1000),
-        (
-            b"\xff\xff\xff\xff\x01\0\0\0\0\0\0".as_slice(),
-            Err(Fault::Truncated),
-            1000,
-        ),
-    ] {
+    for (bytes, want, place) in LENGTHS {
         assert!(rt; bytes.len() < 50);
         let mut cursor = Cursor::new(1000, bytes);
         let want = match want {
@@ -294,14 +299,10 @@ const TABLE: &[u8] = b"\xff\x05\x11\x01\x03\x08\x3a\x21\x7e\x00\x00\x05\x2e\x00\
 #[test]
 fn declarations_of_a_table(rt: HostRuntime) {
     let section = Cursor::new(1000, TABLE);
-    let Ok(table) = Abbrevs::at(&section, 1, 7) else {
-        panic!(rt; "the table has no fault");
-    };
+    let table = Abbrevs::at(&section, 1, 7).expect(&rt, "the table has no fault");
     assert_eq!(rt; (table.table_place(), table.table_len()), (1001, 16));
     assert!(rt; table.entry(6).is_none());
-    let Some(mut entry) = table.entry(5) else {
-        panic!(rt; "the code is declared");
-    };
+    let mut entry = table.entry(5).expect(&rt, "the code is declared");
     assert_eq!(rt; entry.tag(), 0x11);
     assert_eq!(rt;
         entry.next(),
@@ -323,21 +324,24 @@ fn declarations_of_a_table(rt: HostRuntime) {
     assert_eq!(rt; entry.next(), None);
 }
 
+/// How many bytes of the table there are, if it is read, and its offset and length.
+const ENDS: [(usize, u64, Result<(u64, u64), (Fault, u64)>); 10] = [
+    (17, 1, Ok((1001, 16))),
+    // The section ends where a code would begin, or within a declaration.
+    (16, 1, Ok((1001, 15))),
+    (15, 1, Err((Fault::Truncated, 1015))),
+    (11, 1, Ok((1001, 10))),
+    (9, 1, Err((Fault::Truncated, 1009))),
+    (8, 1, Err((Fault::Truncated, 1008))),
+    (3, 1, Err((Fault::Truncated, 1003))),
+    (1, 1, Err((Fault::OffsetOutside, 7))),
+    (18, 18, Err((Fault::OffsetOutside, 7))),
+    (18, 16, Ok((1016, 1))),
+];
+
 #[test]
 fn tables_that_end_early(rt: HostRuntime) {
-    for (len, offset, want) in [
-        (17, 1, Ok((1001, 16))),
-        // The section ends where a code would begin, or within a declaration.
-        (16, 1, Ok((1001, 15))),
-        (15, 1, Err((Fault::Truncated, 1015))),
-        (11, 1, Ok((1001, 10))),
-        (9, 1, Err((Fault::Truncated, 1009))),
-        (8, 1, Err((Fault::Truncated, 1008))),
-        (3, 1, Err((Fault::Truncated, 1003))),
-        (1, 1, Err((Fault::OffsetOutside, 7))),
-        (18, 18, Err((Fault::OffsetOutside, 7))),
-        (18, 16, Ok((1016, 1))),
-    ] {
+    for (len, offset, want) in ENDS {
         assert!(rt; len <= TABLE.len());
         let section = Cursor::new(1000, &TABLE[..len]);
         let found = match Abbrevs::at(&section, offset, 7) {

@@ -9,7 +9,6 @@ use dwarf_units::{Root, Sections};
 use size_core::{BadFile, Fault};
 use std::alloc::Global;
 use std::process::Abort;
-use std::test::Fail;
 
 /// Sections with these range lists at the file offset 1,000, these sets at 2,000, and the addresses 0x401000,
 /// 0x401010 and 0x402000 of 8 bytes after a header.
@@ -78,9 +77,9 @@ fn expect(
     root: &Root,
     sections: &Sections,
     want: Result<&[(u64, u64)], (Fault, u64)>,
-) -> Result<(), Fail> {
+) {
     let mut out = Vec::new(alloc);
-    out.push((1, 1))?;
+    out.push((1, 1)).expect(rt, "memory");
     let answer = unit_ranges(alloc, root, sections, &mut out);
     let ranges = match want {
         Ok(ranges) => {
@@ -95,102 +94,105 @@ fn expect(
     assert!(rt; !out.is_empty());
     assert_eq!(rt; out[0], (1, 1));
     assert_eq!(rt; &out.as_slice()[1..], ranges);
-    Ok(())
 }
 
 /// The pairs (greatest, 0x401000), (0x10, 0x20), (0x20, 0x20), (0, 0).
 const PAIRS: &[u8] =
     b"\xff\xff\xff\xff\xff\xff\xff\xff\0\x10\x40\0\0\0\0\0\x10\0\0\0\0\0\0\0\x20\0\0\0\0\0\0\0\x20\0\0\0\0\0\0\0\x20\0\0\0\0\0\0\0\0\0\0\0\0\0\0\0\0\0\0\0\0\0\0\0";
 
+/// A version, the size of an address, the low address and the ranges of a root, the lists, and the ranges in them.
+type PairList<'a> = (
+    u16,
+    u8,
+    Option<Content<'a>>,
+    Content<'a>,
+    &'a [u8],
+    Result<&'a [(u64, u64)], (Fault, u64)>,
+);
+
+const PAIR_LISTS: [PairList<'static>; 9] = [
+    (
+        4,
+        8,
+        Some(Content::Address(0x7000)),
+        Content::SecOffset(0),
+        PAIRS,
+        Ok(&[(0x401010, 16)]),
+    ),
+    // Over the unit's first address, and over none.
+    (
+        3,
+        8,
+        Some(Content::Address(0x7000)),
+        Content::Constant(16),
+        PAIRS,
+        Ok(&[(0x7010, 16)]),
+    ),
+    (2, 8, None, Content::Constant(16), PAIRS, Ok(&[(0x10, 16)])),
+    // Other sizes of an address: a base, an end before its start, and sums past the greatest address.
+    (
+        4,
+        4,
+        None,
+        Content::SecOffset(0),
+        b"\xff\xff\xff\xff\0\0\0\xf0\x30\0\0\0\x20\0\0\0\0\x01\0\x10\0\x02\0\x10\0\0\0\0\0\0\0\0",
+        Ok(&[(0x100, 0x100)]),
+    ),
+    (
+        4,
+        2,
+        None,
+        Content::SecOffset(0),
+        b"\xff\xff\0\xf0\x01\x10\x03\x10\0\0\0\0",
+        Ok(&[(1, 2)]),
+    ),
+    // Starts at 0 and at the two greatest addresses, the third greatest, and the one after 0.
+    (
+        4,
+        2,
+        None,
+        Content::SecOffset(0),
+        b"\0\0\x09\0\xfe\xff\x01\0\xfd\xff\xfe\xff\x01\0\x02\0\0\0\0\0",
+        Ok(&[(0xfffd, 1), (1, 1)]),
+    ),
+    (
+        4,
+        2,
+        Some(Content::Address(0xffff)),
+        Content::SecOffset(0),
+        b"\0\0\x01\0\x01\0\x02\0\0\0\0\0",
+        Ok(&[]),
+    ),
+    // A list may begin at the section's end, if its first pair isn't whole, and not after it.
+    (
+        4,
+        8,
+        None,
+        Content::SecOffset(64),
+        PAIRS,
+        Err((Fault::BadRangeList, 1064)),
+    ),
+    (
+        4,
+        8,
+        None,
+        Content::SecOffset(65),
+        PAIRS,
+        Err((Fault::OffsetOutside, 13)),
+    ),
+];
+
 #[test]
-fn lists_of_pairs(rt: HostRuntime) -> Result<(), Fail> {
-    for (version, address, low, ranges, lists, want) in [
-        (
-            4,
-            8,
-            Some(Content::Address(0x7000)),
-            Content::SecOffset(0),
-            PAIRS,
-            Ok([(0x401010, 16)].as_slice()),
-        ),
-        // Over the unit's first address, and over none.
-        (
-            3,
-            8,
-            Some(Content::Address(0x7000)),
-            Content::Constant(16),
-            PAIRS,
-            Ok([(0x7010, 16)].as_slice()),
-        ),
-        (
-            2,
-            8,
-            None,
-            Content::Constant(16),
-            PAIRS,
-            Ok([(0x10, 16)].as_slice()),
-        ),
-        // Other sizes of an address: a base, an end before its start, and sums past the greatest address.
-        (
-            4,
-            4,
-            None,
-            Content::SecOffset(0),
-            b"\xff\xff\xff\xff\0\0\0\xf0\x30\0\0\0\x20\0\0\0\0\x01\0\x10\0\x02\0\x10\0\0\0\0\0\0\0\0",
-            Ok([(0x100, 0x100)].as_slice()),
-        ),
-        (
-            4,
-            2,
-            None,
-            Content::SecOffset(0),
-            b"\xff\xff\0\xf0\x01\x10\x03\x10\0\0\0\0",
-            Ok([(1, 2)].as_slice()),
-        ),
-        // Starts at 0 and at the two greatest addresses, the third greatest, and the one after 0.
-        (
-            4,
-            2,
-            None,
-            Content::SecOffset(0),
-            b"\0\0\x09\0\xfe\xff\x01\0\xfd\xff\xfe\xff\x01\0\x02\0\0\0\0\0",
-            Ok([(0xfffd, 1), (1, 1)].as_slice()),
-        ),
-        (
-            4,
-            2,
-            Some(Content::Address(0xffff)),
-            Content::SecOffset(0),
-            b"\0\0\x01\0\x01\0\x02\0\0\0\0\0",
-            Ok([].as_slice()),
-        ),
-        // A list may begin at the section's end, where its first pair isn't whole, and not after it.
-        (
-            4,
-            8,
-            None,
-            Content::SecOffset(64),
-            PAIRS,
-            Err((Fault::BadRangeList, 1064)),
-        ),
-        (
-            4,
-            8,
-            None,
-            Content::SecOffset(65),
-            PAIRS,
-            Err((Fault::OffsetOutside, 13)),
-        ),
-    ] {
+fn lists_of_pairs(rt: HostRuntime) {
+    for (version, address, low, ranges, lists, want) in PAIR_LISTS {
         assert!(rt; lists.len() < 100);
         let root = root(version, address, low, None, Some(ranges));
-        expect(&rt, rt.alloc(), &root, &sections(version, lists, b""), want)?;
+        expect(&rt, rt.alloc(), &root, &sections(version, lists, b""), want);
     }
-    Ok(())
 }
 
 #[test]
-fn cut_lists_of_pairs(rt: HostRuntime) -> Result<(), Fail> {
+fn cut_lists_of_pairs(rt: HostRuntime) {
     let root = root(4, 8, None, None, Some(Content::SecOffset(0)));
     for len in 1..64 {
         assert!(rt; len <= PAIRS.len());
@@ -202,81 +204,84 @@ fn cut_lists_of_pairs(rt: HostRuntime) -> Result<(), Fail> {
             &root,
             &sections(4, lists, b""),
             Err((Fault::BadRangeList, place)),
-        )?;
+        );
     }
-    Ok(())
 }
 
+/// The ranges of a root, the lists, and the ranges in them.
+type EntryList<'a> = (
+    Content<'a>,
+    &'a [u8],
+    Result<&'a [(u64, u64)], (Fault, u64)>,
+);
+
+const ENTRY_LISTS: [EntryList<'static>; 11] = [
+    // A base, offsets from it, a start with a length, and the end.
+    (
+        Content::SecOffset(12),
+        b"hhhhhhhhhhhh\x05\0\x10\x40\0\0\0\0\0\x04\x10\x20\x07\0\x20\x40\0\0\0\0\0\x08\0",
+        Ok(&[(0x401010, 16), (0x402000, 8)]),
+    ),
+    // The same after the table of offsets.
+    (
+        Content::ListIndex(0),
+        b"hhhhhhhhhhhh\x04\0\0\0\x05\0\x10\x40\0\0\0\0\0\x04\x10\x20\x07\0\x20\x40\0\0\0\0\0\x08\0",
+        Ok(&[(0x401010, 16), (0x402000, 8)]),
+    ),
+    // An unknown kind.
+    (
+        Content::SecOffset(12),
+        b"hhhhhhhhhhhh\x05\0\x10\x40\0\0\0\0\0\x04\x10\x20\x08\0\x20\x40\0\0\0\0\0\x08\0",
+        Err((Fault::BadRangeList, 1024)),
+    ),
+    // By index: a base with offsets from it, a start and an end, a start with a length; and a start and an end.
+    (
+        Content::SecOffset(0),
+        b"\x01\x02\x04\x04\x08\x02\x00\x01\x03\x01\x05\x06\x02\0\0\0\0\0\0\0\x09\0\0\0\0\0\0\0\0",
+        Ok(&[(0x402004, 4), (0x401000, 16), (0x401010, 5), (2, 7)]),
+    ),
+    // Offsets from the unit's first address.
+    (Content::SecOffset(0), b"\x04\x01\x03\0", Ok(&[(0x7001, 2)])),
+    // An index outside, an operand that isn't whole, no end, and no list.
+    (
+        Content::SecOffset(1),
+        b"h\x04\x01\x01\x03\x03\x05\0",
+        Err((Fault::OffsetOutside, 1004)),
+    ),
+    (
+        Content::SecOffset(1),
+        b"h\x04\x01\x01\x07\x01\0\0\0\0\0\0",
+        Err((Fault::BadRangeList, 1004)),
+    ),
+    (
+        Content::SecOffset(1),
+        b"h\x04\x01\x01",
+        Err((Fault::BadRangeList, 1004)),
+    ),
+    (
+        Content::SecOffset(2),
+        b"h\0",
+        Err((Fault::OffsetOutside, 13)),
+    ),
+    (
+        Content::ListIndex(1),
+        b"hhhhhhhhhhhh\x04\0\0\0\0\0\0",
+        Err((Fault::OffsetOutside, 13)),
+    ),
+    (
+        Content::ListIndex(0),
+        b"hhhhhhhhhhhh\x04\0\0\0",
+        Err((Fault::OffsetOutside, 13)),
+    ),
+];
+
 #[test]
-fn lists_of_entries(rt: HostRuntime) -> Result<(), Fail> {
-    for (ranges, lists, want) in [
-        // A base, offsets from it, a start with a length, and the end.
-        (
-            Content::SecOffset(12),
-            b"hhhhhhhhhhhh\x05\0\x10\x40\0\0\0\0\0\x04\x10\x20\x07\0\x20\x40\0\0\0\0\0\x08\0".as_slice(),
-            Ok([(0x401010, 16), (0x402000, 8)].as_slice()),
-        ),
-        // The same after the table of offsets.
-        (
-            Content::ListIndex(0),
-            b"hhhhhhhhhhhh\x04\0\0\0\x05\0\x10\x40\0\0\0\0\0\x04\x10\x20\x07\0\x20\x40\0\0\0\0\0\x08\0",
-            Ok([(0x401010, 16), (0x402000, 8)].as_slice()),
-        ),
-        // An unknown kind.
-        (
-            Content::SecOffset(12),
-            b"hhhhhhhhhhhh\x05\0\x10\x40\0\0\0\0\0\x04\x10\x20\x08\0\x20\x40\0\0\0\0\0\x08\0",
-            Err((Fault::BadRangeList, 1024)),
-        ),
-        // By index: a base with offsets from it, a start and an end, a start with a length; and a start and an end.
-        (
-            Content::SecOffset(0),
-            b"\x01\x02\x04\x04\x08\x02\x00\x01\x03\x01\x05\x06\x02\0\0\0\0\0\0\0\x09\0\0\0\0\0\0\0\0",
-            Ok([(0x402004, 4), (0x401000, 16), (0x401010, 5), (2, 7)].as_slice()),
-        ),
-        // Offsets from the unit's first address.
-        (
-            Content::SecOffset(0),
-            b"\x04\x01\x03\0",
-            Ok([(0x7001, 2)].as_slice()),
-        ),
-        // An index outside, an operand that isn't whole, no end, and no list.
-        (
-            Content::SecOffset(1),
-            b"h\x04\x01\x01\x03\x03\x05\0",
-            Err((Fault::OffsetOutside, 1004)),
-        ),
-        (
-            Content::SecOffset(1),
-            b"h\x04\x01\x01\x07\x01\0\0\0\0\0\0",
-            Err((Fault::BadRangeList, 1004)),
-        ),
-        (
-            Content::SecOffset(1),
-            b"h\x04\x01\x01",
-            Err((Fault::BadRangeList, 1004)),
-        ),
-        (
-            Content::SecOffset(2),
-            b"h\0",
-            Err((Fault::OffsetOutside, 13)),
-        ),
-        (
-            Content::ListIndex(1),
-            b"hhhhhhhhhhhh\x04\0\0\0\0\0\0",
-            Err((Fault::OffsetOutside, 13)),
-        ),
-        (
-            Content::ListIndex(0),
-            b"hhhhhhhhhhhh\x04\0\0\0",
-            Err((Fault::OffsetOutside, 13)),
-        ),
-    ] {
+fn lists_of_entries(rt: HostRuntime) {
+    for (ranges, lists, want) in ENTRY_LISTS {
         assert!(rt; lists.len() < 100);
         let root = root(5, 8, Some(Content::Address(0x7000)), None, Some(ranges));
-        expect(&rt, rt.alloc(), &root, &sections(5, lists, b""), want)?;
+        expect(&rt, rt.alloc(), &root, &sections(5, lists, b""), want);
     }
-    Ok(())
 }
 
 /// Sections of this order, with these range lists at the file offset 1,000 and the addresses of `sections`.
@@ -294,119 +299,131 @@ fn ordered<'a>(order: Order, version: u16, lists: &'a [u8]) -> Sections<'a>
     sections
 }
 
-#[test]
-fn lists_of_wide_units_and_of_each_order(rt: HostRuntime) -> Result<(), Fail> {
-    let (little, big) = (Order::Little, Order::Big);
-    for (order, wide, version, address, ranges, lists, want) in [
-        // By the index of an offset of 8 bytes, after a header of 20 bytes: a start and an end, and in the other
-        // order a start and a length.
-        (
-            little,
-            true,
-            5,
-            8,
-            Content::ListIndex(0),
-            b"hhhhhhhhhhhhhhhhhhhh\x08\0\0\0\0\0\0\0\
-\x06\0\x10\x40\0\0\0\0\0\x10\x10\x40\0\0\0\0\0\0"
-                .as_slice(),
-            Ok([(0x401000, 16)].as_slice()),
-        ),
-        (
-            big,
-            true,
-            5,
-            8,
-            Content::ListIndex(1),
-            b"hhhhhhhhhhhhhhhhhhhhoooooooo\0\0\0\0\0\0\0\x10\
+/// An order, whether a unit is wide, its version and the size of an address, the ranges of its root, the lists, and the
+/// ranges in them.
+type WideList<'a> = (
+    Order,
+    bool,
+    u16,
+    u8,
+    Content<'a>,
+    &'a [u8],
+    Result<&'a [(u64, u64)], (Fault, u64)>,
+);
+
+const WIDE_LISTS: [WideList<'static>; 11] = [
+    // By the index of an offset of 8 bytes, after a header of 20 bytes: a start and an end, and in the other
+    // order a start and a length.
+    (
+        Order::Little,
+        true,
+        5,
+        8,
+        Content::ListIndex(0),
+        b"hhhhhhhhhhhhhhhhhhhh\x08\0\0\0\0\0\0\0\
+\x06\0\x10\x40\0\0\0\0\0\x10\x10\x40\0\0\0\0\0\0",
+        Ok(&[(0x401000, 16)]),
+    ),
+    (
+        Order::Big,
+        true,
+        5,
+        8,
+        Content::ListIndex(1),
+        b"hhhhhhhhhhhhhhhhhhhhoooooooo\0\0\0\0\0\0\0\x10\
 \x07\0\0\0\0\0\x40\x20\0\x88\x01\0",
-            Ok([(0x402000, 136)].as_slice()),
-        ),
-        // An offset that isn't whole, and one past the section.
-        (
-            big,
-            true,
-            5,
-            8,
-            Content::ListIndex(0),
-            b"hhhhhhhhhhhhhhhhhhhh\0\0\0\0\0\0\0",
-            Err((Fault::OffsetOutside, 13)),
-        ),
-        (
-            little,
-            true,
-            5,
-            8,
-            Content::ListIndex(0),
-            b"hhhhhhhhhhhhhhhhhhhh\xec\xff\xff\xff\xff\xff\xff\xff\0",
-            Err((Fault::OffsetOutside, 13)),
-        ),
-        // Addresses by their indexes in a table of two, after a header of 16 bytes.
-        (
-            little,
-            true,
-            5,
-            8,
-            Content::SecOffset(1),
-            b"h\x03\0\x05\x01\x01\x04\x01\x03\0",
-            Ok([(0x401010, 5), (0x402001, 2)].as_slice()),
-        ),
-        (
-            little,
-            true,
-            5,
-            8,
-            Content::SecOffset(1),
-            b"h\x03\0\x05\x03\x02\x05\0",
-            Err((Fault::OffsetOutside, 1004)),
-        ),
-        (
-            big,
-            false,
-            5,
-            8,
-            Content::SecOffset(0),
-            b"\x02\0\x01\0",
-            Ok([(0x401000, 16)].as_slice()),
-        ),
-        // Greatest bytes first: an offset of 4 bytes, and addresses of 4 bytes.
-        (
-            big,
-            false,
-            5,
-            4,
-            Content::ListIndex(0),
-            b"hhhhhhhhhhhh\0\0\0\x04\x05\0\x40\x10\0\x04\x10\x20\x06\0\x40\x20\0\0\x40\x20\x08\0",
-            Ok([(0x401010, 16), (0x402000, 8)].as_slice()),
-        ),
-        // Pairs, which are the same in wide units.
-        (
-            little,
-            true,
-            4,
-            8,
-            Content::SecOffset(0),
-            PAIRS,
-            Ok([(0x401010, 16)].as_slice()),
-        ),
-        (
-            big,
-            true,
-            4,
-            4,
-            Content::SecOffset(0),
-            b"\xff\xff\xff\xff\0\x40\x10\0\0\0\0\x10\0\0\0\x20\0\0\0\0\0\0\0\0",
-            Ok([(0x401010, 16)].as_slice()),
-        ),
-        (
-            big,
-            false,
-            3,
-            2,
-            Content::Constant(4),
-            b"hhhh\x10\0\x10\x20\xff\xff\x20\0\0\x01\0\x03\0\0\0\0",
-            Ok([(0x1000, 32), (0x2001, 2)].as_slice()),
-        ),
-    ] {
+        Ok(&[(0x402000, 136)]),
+    ),
+    // An offset that isn't whole, and one past the section.
+    (
+        Order::Big,
+        true,
+        5,
+        8,
+        Content::ListIndex(0),
+        b"hhhhhhhhhhhhhhhhhhhh\0\0\0\0\0\0\0",
+        Err((Fault::OffsetOutside, 13)),
+    ),
+    (
+        Order::Little,
+        true,
+        5,
+        8,
+        Content::ListIndex(0),
+        b"hhhhhhhhhhhhhhhhhhhh\xec\xff\xff\xff\xff\xff\xff\xff\0",
+        Err((Fault::OffsetOutside, 13)),
+    ),
+    // Addresses by their indexes in a table of two, after a header of 16 bytes.
+    (
+        Order::Little,
+        true,
+        5,
+        8,
+        Content::SecOffset(1),
+        b"h\x03\0\x05\x01\x01\x04\x01\x03\0",
+        Ok(&[(0x401010, 5), (0x402001, 2)]),
+    ),
+    (
+        Order::Little,
+        true,
+        5,
+        8,
+        Content::SecOffset(1),
+        b"h\x03\0\x05\x03\x02\x05\0",
+        Err((Fault::OffsetOutside, 1004)),
+    ),
+    (
+        Order::Big,
+        false,
+        5,
+        8,
+        Content::SecOffset(0),
+        b"\x02\0\x01\0",
+        Ok(&[(0x401000, 16)]),
+    ),
+    // Greatest bytes first: an offset of 4 bytes, and addresses of 4 bytes.
+    (
+        Order::Big,
+        false,
+        5,
+        4,
+        Content::ListIndex(0),
+        b"hhhhhhhhhhhh\0\0\0\x04\x05\0\x40\x10\0\x04\x10\x20\x06\0\x40\x20\0\0\x40\x20\x08\0",
+        Ok(&[(0x401010, 16), (0x402000, 8)]),
+    ),
+    // Pairs, which are the same in wide units.
+    (
+        Order::Little,
+        true,
+        4,
+        8,
+        Content::SecOffset(0),
+        PAIRS,
+        Ok(&[(0x401010, 16)]),
+    ),
+    (
+        Order::Big,
+        true,
+        4,
+        4,
+        Content::SecOffset(0),
+        b"\xff\xff\xff\xff\0\x40\x10\0\0\0\0\x10\0\0\0\x20\0\0\0\0\0\0\0\0",
+        Ok(&[(0x401010, 16)]),
+    ),
+    (
+        Order::Big,
+        false,
+        3,
+        2,
+        Content::Constant(4),
+        b"hhhh\x10\0\x10\x20\xff\xff\x20\0\0\x01\0\x03\0\0\0\0",
+        Ok(&[(0x1000, 32), (0x2001, 2)]),
+    ),
+];
+
+#[test]
+fn lists_of_wide_units_and_of_each_order(rt: HostRuntime) {
+    for (order, wide, version, address, ranges, lists, want) in WIDE_LISTS {
         assert!(rt; lists.len() < 100);
         let mut root = root(version, address, None, None, Some(ranges));
         root.shape = UnitShape {
@@ -421,107 +438,119 @@ fn lists_of_wide_units_and_of_each_order(rt: HostRuntime) -> Result<(), Fail> {
             &root,
             &ordered(order, version, lists),
             want,
-        )?;
+        );
     }
-    Ok(())
 }
 
+/// A version, the low and the high address and the ranges of a root, and its ranges.
+type NoList<'a> = (
+    u16,
+    Option<Content<'a>>,
+    Option<Content<'a>>,
+    Option<Content<'a>>,
+    Result<&'a [(u64, u64)], (Fault, u64)>,
+);
+
+const NO_LISTS: [NoList<'static>; 10] = [
+    (
+        4,
+        Some(Content::Address(0x10)),
+        Some(Content::Address(0x18)),
+        None,
+        Ok(&[(0x10, 8)]),
+    ),
+    (
+        4,
+        Some(Content::Address(0x10)),
+        Some(Content::Constant(0x18)),
+        // No list in DWARF 4.
+        Some(Content::Constant(0)),
+        Ok(&[(0x10, 0x18)]),
+    ),
+    (
+        5,
+        Some(Content::AddrIndex(0)),
+        Some(Content::AddrIndex(2)),
+        None,
+        Ok(&[(0x401000, 0x1000)]),
+    ),
+    (
+        5,
+        Some(Content::Address(0x10)),
+        Some(Content::Signed(5)),
+        None,
+        Ok(&[(0x10, 5)]),
+    ),
+    (
+        5,
+        Some(Content::Address(0x10)),
+        Some(Content::Signed(-5)),
+        None,
+        Ok(&[]),
+    ),
+    (
+        4,
+        Some(Content::Address(0x10)),
+        Some(Content::Address(0x10)),
+        None,
+        Ok(&[]),
+    ),
+    (
+        4,
+        None,
+        Some(Content::Address(0x18)),
+        // No list before DWARF 5.
+        Some(Content::ListIndex(0)),
+        Ok(&[]),
+    ),
+    (
+        5,
+        Some(Content::AddrIndex(3)),
+        Some(Content::AddrIndex(3)),
+        None,
+        Err((Fault::OffsetOutside, 11)),
+    ),
+    (
+        5,
+        None,
+        Some(Content::AddrIndex(3)),
+        None,
+        Err((Fault::OffsetOutside, 12)),
+    ),
+    // The end isn't read if there is a list.
+    (
+        5,
+        None,
+        Some(Content::AddrIndex(3)),
+        Some(Content::SecOffset(0)),
+        Ok(&[]),
+    ),
+];
+
 #[test]
-fn units_without_a_list(rt: HostRuntime) -> Result<(), Fail> {
-    for (version, low, high, ranges, want) in [
-        (
-            4,
-            Some(Content::Address(0x10)),
-            Some(Content::Address(0x18)),
-            None,
-            Ok([(0x10, 8)].as_slice()),
-        ),
-        (
-            4,
-            Some(Content::Address(0x10)),
-            Some(Content::Constant(0x18)),
-            // No list in DWARF 4.
-            Some(Content::Constant(0)),
-            Ok([(0x10, 0x18)].as_slice()),
-        ),
-        (
-            5,
-            Some(Content::AddrIndex(0)),
-            Some(Content::AddrIndex(2)),
-            None,
-            Ok([(0x401000, 0x1000)].as_slice()),
-        ),
-        (
-            5,
-            Some(Content::Address(0x10)),
-            Some(Content::Signed(5)),
-            None,
-            Ok([(0x10, 5)].as_slice()),
-        ),
-        (
-            5,
-            Some(Content::Address(0x10)),
-            Some(Content::Signed(-5)),
-            None,
-            Ok([].as_slice()),
-        ),
-        (
-            4,
-            Some(Content::Address(0x10)),
-            Some(Content::Address(0x10)),
-            None,
-            Ok([].as_slice()),
-        ),
-        (
-            4,
-            None,
-            Some(Content::Address(0x18)),
-            // No list before DWARF 5.
-            Some(Content::ListIndex(0)),
-            Ok([].as_slice()),
-        ),
-        (
-            5,
-            Some(Content::AddrIndex(3)),
-            Some(Content::AddrIndex(3)),
-            None,
-            Err((Fault::OffsetOutside, 11)),
-        ),
-        (
-            5,
-            None,
-            Some(Content::AddrIndex(3)),
-            None,
-            Err((Fault::OffsetOutside, 12)),
-        ),
-        // The end isn't read where there is a list.
-        (
-            5,
-            None,
-            Some(Content::AddrIndex(3)),
-            Some(Content::SecOffset(0)),
-            Ok([].as_slice()),
-        ),
-    ] {
+fn units_without_a_list(rt: HostRuntime) {
+    for (version, low, high, ranges, want) in NO_LISTS {
         let root = root(version, 8, low, high, ranges);
-        expect(&rt, rt.alloc(), &root, &sections(version, b"\0", b""), want)?;
+        expect(&rt, rt.alloc(), &root, &sections(version, b"\0", b""), want);
     }
-    Ok(())
 }
+
+/// The size of an address, a start and a length, and whether they claim nothing.
+const NOTHING: [(u8, u64, u64, bool); 9] = [
+    (8, 1, 0, true),
+    (8, 0, 1, true),
+    (8, u64::MAX, 1, true),
+    (8, u64::MAX - 1, 1, true),
+    (8, u64::MAX - 2, 1, false),
+    (4, 0xffff_fffe, 1, true),
+    (4, 0xffff_fffd, 9, false),
+    (2, 0xffff, 1, true),
+    (2, 0x1_0000, 1, false),
+];
 
 #[test]
 fn ranges_that_claim_nothing(rt: HostRuntime) {
-    for (size, start, len, want) in [
-        (8, 1, 0, true),
-        (8, 0, 1, true),
-        (8, u64::MAX, 1, true),
-        (8, u64::MAX - 1, 1, true),
-        (8, u64::MAX - 2, 1, false),
-        (4, 0xffff_fffe, 1, true),
-        (4, 0xffff_fffd, 9, false),
-        (2, 0xffff, 1, true),
-        (2, 0x1_0000, 1, false),
-    ] {
+    for (size, start, len, want) in NOTHING {
         assert_eq!(rt;
             claims_nothing(size, start, len),
             want,
@@ -552,52 +581,55 @@ fn told(set: Option<Result<AddressSet<'_>, BadFile>>) -> Option<Result<Told, (Fa
     }
 }
 
+/// Bytes, and what their first set has.
+const SETS: [(&[u8], Option<Result<Told, (Fault, u64)>>); 13] = [
+    // Tuples at the next multiple of a tuple's size: 12, 16 and 16 bytes after the set's start, and 24 or 32
+    // in a wide one.
+    (
+        b"\x10\0\0\0\x02\0\x30\0\0\0\x02\0\x11\0\x22\0\x33\0\x44\0",
+        Some(Ok(((2000, 20), (48, 2), (Some((0x11, 0x22)), 1)))),
+    ),
+    (
+        b"\x1c\0\0\0\x02\0\x30\0\0\0\x04\0pppp\x11\0\0\0\x22\0\0\0\0\0\0\0\0\0\0\0",
+        Some(Ok(((2000, 32), (48, 4), (Some((0x11, 0x22)), 0)))),
+    ),
+    (
+        b"\x1c\0\0\0\x02\0\x30\0\0\0\x08\0pppp\x11\0\0\0\0\0\0\0\x22\0\0\0\0\0\0\0",
+        Some(Ok(((2000, 32), (48, 8), (Some((0x11, 0x22)), 0)))),
+    ),
+    (
+        b"\xff\xff\xff\xff\x25\0\0\0\0\0\0\0\x02\0\x30\0\0\0\0\0\0\0\x08\0pppppppp\x11\0\0\0\0\0\0\0\x22\0\0\0\0\0\0\0",
+        Some(Err((Fault::BadUnit, 2000))),
+    ),
+    (
+        b"\xff\xff\xff\xff\x24\0\0\0\0\0\0\0\x02\0\x30\0\0\0\0\0\0\0\x08\0pppppppp\x11\0\0\0\0\0\0\0\x22\0\0\0\0\0\0\0",
+        Some(Ok(((2000, 48), (48, 8), (Some((0x11, 0x22)), 0)))),
+    ),
+    // Tuples end before a rest, and there may be none, or no space for one. A start of 0 is a tuple.
+    (
+        b"\x13\0\0\0\x02\0\x30\0\0\0\x02\0\0\0\x22\0\x33\0\0\0\x44\0\x55",
+        Some(Ok(((2000, 23), (48, 2), (Some((0, 0x22)), 1)))),
+    ),
+    (
+        b"\x08\0\0\0\x02\0\x30\0\0\0\x04\0",
+        Some(Ok(((2000, 12), (48, 4), (None, 0)))),
+    ),
+    // Skipped: too short, another version, another size of an address, and segments.
+    (b"\x07\0\0\0\x02\0\x30\0\0\0\x04", None),
+    (b"\x08\0\0\0\x03\0\x30\0\0\0\x04\0", None),
+    (b"\x08\0\0\0\x02\0\x30\0\0\0\x03\0", None),
+    (b"\x08\0\0\0\x02\0\x30\0\0\0\x04\x01", None),
+    // A fault after a set that is skipped.
+    (b"\0\0\0\0\x04\0", Some(Err((Fault::Truncated, 2004)))),
+    (
+        b"\xf0\xff\xff\xff\0\0\0\0",
+        Some(Err((Fault::BadUnit, 2000))),
+    ),
+];
+
 #[test]
 fn sets_of_addresses(rt: HostRuntime) {
-    for (bytes, want) in [
-        // Tuples at the next multiple of a tuple's size: 12, 16 and 16 bytes after the set's start, and 24 or 32
-        // in a wide one.
-        (
-            b"\x10\0\0\0\x02\0\x30\0\0\0\x02\0\x11\0\x22\0\x33\0\x44\0".as_slice(),
-            Some(Ok(((2000, 20), (48, 2), (Some((0x11, 0x22)), 1)))),
-        ),
-        (
-            b"\x1c\0\0\0\x02\0\x30\0\0\0\x04\0pppp\x11\0\0\0\x22\0\0\0\0\0\0\0\0\0\0\0",
-            Some(Ok(((2000, 32), (48, 4), (Some((0x11, 0x22)), 0)))),
-        ),
-        (
-            b"\x1c\0\0\0\x02\0\x30\0\0\0\x08\0pppp\x11\0\0\0\0\0\0\0\x22\0\0\0\0\0\0\0",
-            Some(Ok(((2000, 32), (48, 8), (Some((0x11, 0x22)), 0)))),
-        ),
-        (
-            b"\xff\xff\xff\xff\x25\0\0\0\0\0\0\0\x02\0\x30\0\0\0\0\0\0\0\x08\0pppppppp\x11\0\0\0\0\0\0\0\x22\0\0\0\0\0\0\0".as_slice(),
-            Some(Err((Fault::BadUnit, 2000))),
-        ),
-        (
-            b"\xff\xff\xff\xff\x24\0\0\0\0\0\0\0\x02\0\x30\0\0\0\0\0\0\0\x08\0pppppppp\x11\0\0\0\0\0\0\0\x22\0\0\0\0\0\0\0".as_slice(),
-            Some(Ok(((2000, 48), (48, 8), (Some((0x11, 0x22)), 0)))),
-        ),
-        // Tuples end before a rest, and there may be none, or no space for one. A start of 0 is a tuple.
-        (
-            b"\x13\0\0\0\x02\0\x30\0\0\0\x02\0\0\0\x22\0\x33\0\0\0\x44\0\x55",
-            Some(Ok(((2000, 23), (48, 2), (Some((0, 0x22)), 1)))),
-        ),
-        (
-            b"\x08\0\0\0\x02\0\x30\0\0\0\x04\0",
-            Some(Ok(((2000, 12), (48, 4), (None, 0)))),
-        ),
-        // Skipped: too short, another version, another size of an address, and segments.
-        (b"\x07\0\0\0\x02\0\x30\0\0\0\x04", None),
-        (b"\x08\0\0\0\x03\0\x30\0\0\0\x04\0", None),
-        (b"\x08\0\0\0\x02\0\x30\0\0\0\x03\0", None),
-        (b"\x08\0\0\0\x02\0\x30\0\0\0\x04\x01", None),
-        // A fault after a set that is skipped.
-        (b"\0\0\0\0\x04\0", Some(Err((Fault::Truncated, 2004)))),
-        (
-            b"\xf0\xff\xff\xff\0\0\0\0",
-            Some(Err((Fault::BadUnit, 2000))),
-        ),
-    ] {
+    for (bytes, want) in SETS {
         assert!(rt; bytes.len() < 100);
         let sections = sections(4, b"", bytes);
         let mut sets = arange_sets(&sections);

@@ -46,78 +46,75 @@ fn told(unit: Option<Result<DwarfUnit<'_>, BadFile>>) -> Option<Result<Told, (Fa
     }
 }
 
+/// Bytes, and what their first unit has.
+const HEADERS: [(&[u8], Option<Result<Told, (Fault, u64)>>); 20] = [
+    (
+        b"\x08\0\0\0\x02\0\x10\0\0\0\x04b",
+        Some(Ok(((0, 12), (2, 1), (4, false), (16, 1)))),
+    ),
+    (
+        b"\xff\xff\xff\xff\x0b\0\0\0\0\0\0\0\x03\0\x10\0\0\0\0\0\0\0\x02",
+        Some(Ok(((0, 23), (3, 1), (2, true), (16, 0)))),
+    ),
+    (
+        b"\x09\0\0\0\x05\0\x01\x08\x10\0\0\0b",
+        Some(Ok(((0, 13), (5, 1), (8, false), (16, 1)))),
+    ),
+    (
+        b"\x09\0\0\0\x05\0\x03\x08\x10\0\0\0b",
+        Some(Ok(((0, 13), (5, 3), (8, false), (16, 1)))),
+    ),
+    (
+        b"\x11\0\0\0\x05\0\x04\x08\x10\0\0\0iiiiiiiib",
+        Some(Ok(((0, 21), (5, 4), (8, false), (16, 1)))),
+    ),
+    (
+        b"\x11\0\0\0\x05\0\x05\x08\x10\0\0\0iiiiiiiib",
+        Some(Ok(((0, 21), (5, 5), (8, false), (16, 1)))),
+    ),
+    (
+        b"\x15\0\0\0\x05\0\x02\x04\x10\0\0\0ssssssssoooob",
+        Some(Ok(((0, 25), (5, 2), (4, false), (16, 1)))),
+    ),
+    (
+        b"\xff\xff\xff\xff\x1d\0\0\0\0\0\0\0\x05\0\x06\x04\x10\0\0\0\0\0\0\0ssssssssoooooooob",
+        Some(Ok(((0, 41), (5, 6), (4, true), (16, 1)))),
+    ),
+    // Skipped: without a version, of versions 1 and 6, of a type 7, and before another unit.
+    (b"\0\0\0\0", None),
+    (b"\x01\0\0\0\x05", None),
+    (b"\x08\0\0\0\x01\0\x10\0\0\0\x04b", None),
+    (b"\x08\0\0\0\x06\0\x10\0\0\0\x04b", None),
+    (b"\x03\0\0\0\x05\0\x07", None),
+    (
+        b"\x01\0\0\0\x05\x07\0\0\0\x04\0\x10\0\0\0\x08",
+        Some(Ok(((5, 11), (4, 1), (8, false), (16, 0)))),
+    ),
+    // Headers that don't fit, or have another size of an address.
+    (b"\x02\0\0\0\x05\0", Some(Err((Fault::BadUnit, 1000)))),
+    (
+        b"\x06\0\0\0\x04\0\x10\0\0\0",
+        Some(Err((Fault::BadUnit, 1000))),
+    ),
+    (
+        b"\x07\0\0\0\x04\0\x10\0\0\0\x03",
+        Some(Err((Fault::BadUnit, 1000))),
+    ),
+    (
+        b"\x13\0\0\0\x05\0\x02\x04\x10\0\0\0ssssssssooo",
+        Some(Err((Fault::BadUnit, 1000))),
+    ),
+    // Lengths that pass the section's end, and that aren't whole.
+    (
+        b"\x08\0\0\0\x02\0\x10\0\0\0\x04",
+        Some(Err((Fault::BadUnit, 1000))),
+    ),
+    (b"\0\0\0\0\x08\0\0", Some(Err((Fault::Truncated, 1004)))),
+];
+
 #[test]
 fn headers_of_units(rt: HostRuntime) {
-    for (info, want) in [
-        (
-            b"\x08\0\0\0\x02\0\x10\0\0\0\x04b".as_slice(),
-            Some(Ok(((0, 12), (2, 1), (4, false), (16, 1)))),
-        ),
-        (
-            b"\xff\xff\xff\xff\x0b\0\0\0\0\0\0\0\x03\0\x10\0\0\0\0\0\0\0\x02".as_slice(),
-            Some(Ok(((0, 23), (3, 1), (2, true), (16, 0)))),
-        ),
-        (
-            b"\x09\0\0\0\x05\0\x01\x08\x10\0\0\0b".as_slice(),
-            Some(Ok(((0, 13), (5, 1), (8, false), (16, 1)))),
-        ),
-        (
-            b"\x09\0\0\0\x05\0\x03\x08\x10\0\0\0b".as_slice(),
-            Some(Ok(((0, 13), (5, 3), (8, false), (16, 1)))),
-        ),
-        (
-            b"\x11\0\0\0\x05\0\x04\x08\x10\0\0\0iiiiiiiib".as_slice(),
-            Some(Ok(((0, 21), (5, 4), (8, false), (16, 1)))),
-        ),
-        (
-            b"\x11\0\0\0\x05\0\x05\x08\x10\0\0\0iiiiiiiib".as_slice(),
-            Some(Ok(((0, 21), (5, 5), (8, false), (16, 1)))),
-        ),
-        (
-            b"\x15\0\0\0\x05\0\x02\x04\x10\0\0\0ssssssssoooob".as_slice(),
-            Some(Ok(((0, 25), (5, 2), (4, false), (16, 1)))),
-        ),
-        (
-            b"\xff\xff\xff\xff\x1d\0\0\0\0\0\0\0\x05\0\x06\x04\x10\0\0\0\0\0\0\0ssssssssoooooooob".as_slice(),
-            Some(Ok(((0, 41), (5, 6), (4, true), (16, 1)))),
-        ),
-        // Skipped: without a version, of versions 1 and 6, of a type 7, and before another unit.
-        (b"\0\0\0\0".as_slice(), None),
-        (b"\x01\0\0\0\x05".as_slice(), None),
-        (b"\x08\0\0\0\x01\0\x10\0\0\0\x04b".as_slice(), None),
-        (b"\x08\0\0\0\x06\0\x10\0\0\0\x04b".as_slice(), None),
-        (b"\x03\0\0\0\x05\0\x07".as_slice(), None),
-        (
-            b"\x01\0\0\0\x05\x07\0\0\0\x04\0\x10\0\0\0\x08".as_slice(),
-            Some(Ok(((5, 11), (4, 1), (8, false), (16, 0)))),
-        ),
-        // Headers that don't fit, or have another size of an address.
-        (
-            b"\x02\0\0\0\x05\0".as_slice(),
-            Some(Err((Fault::BadUnit, 1000))),
-        ),
-        (
-            b"\x06\0\0\0\x04\0\x10\0\0\0".as_slice(),
-            Some(Err((Fault::BadUnit, 1000))),
-        ),
-        (
-            b"\x07\0\0\0\x04\0\x10\0\0\0\x03".as_slice(),
-            Some(Err((Fault::BadUnit, 1000))),
-        ),
-        (
-            b"\x13\0\0\0\x05\0\x02\x04\x10\0\0\0ssssssssooo".as_slice(),
-            Some(Err((Fault::BadUnit, 1000))),
-        ),
-        // Lengths that pass the section's end, and that aren't whole.
-        (
-            b"\x08\0\0\0\x02\0\x10\0\0\0\x04".as_slice(),
-            Some(Err((Fault::BadUnit, 1000))),
-        ),
-        (
-            b"\0\0\0\0\x08\0\0".as_slice(),
-            Some(Err((Fault::Truncated, 1004))),
-        ),
-    ] {
+    for (info, want) in HEADERS {
         assert!(rt; info.len() < 100);
         let sections = sections(info, b"");
         let mut units = Units::new(&sections);
@@ -157,30 +154,22 @@ fn values_of_a_root(rt: HostRuntime) {
         b"\x01ab\0cd\0\x01\x02\x03\x04\x05\x06\0\0\0\x07\0\0\0\x08\0\0\0",
         0,
     );
-    let Ok(mut table) = Abbrevs::at(&sections.abbrev, 0, 1000) else {
-        panic!(rt; "the table has no fault");
-    };
-    let Ok(root) = unit.root_in(&mut table) else {
-        panic!(rt; "the values have no fault");
-    };
+    let mut table = Abbrevs::at(&sections.abbrev, 0, 1000).expect(&rt, "the table has no fault");
+    let root = unit
+        .root_in(&mut table)
+        .expect(&rt, "the values have no fault");
     assert_eq!(rt;
         (root.place, root.table_place, root.table_len),
         (1000, 2000, 27)
     );
     assert!(rt; root.name_text(&sections) == Ok(Some(b"ab".as_slice())));
-    let Some(low) = root.low else {
-        panic!(rt; "the root has a low address");
-    };
+    let low = root.low.expect(&rt, "the root has a low address");
     assert_eq!(rt; root.address(&low, &sections), Ok(Some(0x4030201)));
-    let Some(high) = root.high else {
-        panic!(rt; "the root has a high address");
-    };
+    let high = root.high.expect(&rt, "the root has a high address");
     assert_eq!(rt; root.address(&high, &sections), Ok(None));
     assert_eq!(rt; (low.place, high.place), (1018, 1022));
     for (base, offset) in [(root.str_base, 6), (root.addr_base, 7), (root.list_base, 8)] {
-        let Some(base) = base else {
-            panic!(rt; "the root has three bases");
-        };
+        let base = base.expect(&rt, "the root has three bases");
         assert!(rt; base.content == Content::SecOffset(offset));
     }
     assert!(rt; root.ranges.is_none() && root.lines.is_none());
@@ -190,44 +179,41 @@ fn values_of_a_root(rt: HostRuntime) {
 fn roots_by_one_table(rt: HostRuntime) {
     let named = b"\x01ab\0cd\0\x01\x02\x03\x04\x05\x06\0\0\0\x07\0\0\0\x08\0\0\0".as_slice();
     let sections = sections(b"", ABBREV);
-    let Ok(mut table) = Abbrevs::at(&sections.abbrev, 0, 1000) else {
-        panic!(rt; "the table has no fault");
-    };
+    let mut table = Abbrevs::at(&sections.abbrev, 0, 1000).expect(&rt, "the table has no fault");
     for (body, has_low) in [
         (named, true),
         (b"\x02\x0b\x07".as_slice(), false),
         (named, true),
         (named, true),
     ] {
-        let Ok(root) = unit(body, 0).root_in(&mut table) else {
-            panic!(rt; "the values have no fault");
-        };
+        let root = unit(body, 0)
+            .root_in(&mut table)
+            .expect(&rt, "the values have no fault");
         assert_eq!(rt; root.low.is_some(), has_low);
     }
 }
 
+/// The body of a unit, the offset of its abbreviations, and the fault.
+const ROOTS: [(&[u8], u64, Option<(Fault, u64)>); 10] = [
+    (b"", 0, None),
+    (b"\0", 0, None),
+    (b"\x02\x0b\x07", 0, None),
+    (b"\0", 27, Some((Fault::OffsetOutside, 1000))),
+    (b"\0", 23, Some((Fault::Truncated, 2027))),
+    (b"\x80", 0, Some((Fault::Truncated, 1011))),
+    (b"\x03", 0, Some((Fault::BadAbbrev, 1000))),
+    (b"\x02", 0, Some((Fault::Truncated, 1012))),
+    (b"\x02\x16\x0b\x07", 0, Some((Fault::UnknownForm, 1012))),
+    (
+        b"\x01ab\0cd\0\x01\x02\x03\x04\x05\x06\0\0",
+        0,
+        Some((Fault::Truncated, 1023)),
+    ),
+];
+
 #[test]
 fn roots_with_a_fault(rt: HostRuntime) {
-    for (body, abbrev_offset, want) in [
-        (b"".as_slice(), 0, None),
-        (b"\0".as_slice(), 0, None),
-        (b"\x02\x0b\x07".as_slice(), 0, None),
-        (b"\0".as_slice(), 27, Some((Fault::OffsetOutside, 1000))),
-        (b"\0".as_slice(), 23, Some((Fault::Truncated, 2027))),
-        (b"\x80".as_slice(), 0, Some((Fault::Truncated, 1011))),
-        (b"\x03".as_slice(), 0, Some((Fault::BadAbbrev, 1000))),
-        (b"\x02".as_slice(), 0, Some((Fault::Truncated, 1012))),
-        (
-            b"\x02\x16\x0b\x07".as_slice(),
-            0,
-            Some((Fault::UnknownForm, 1012)),
-        ),
-        (
-            b"\x01ab\0cd\0\x01\x02\x03\x04\x05\x06\0\0".as_slice(),
-            0,
-            Some((Fault::Truncated, 1023)),
-        ),
-    ] {
+    for (body, abbrev_offset, want) in ROOTS {
         assert!(rt; body.len() < 100);
         let sections = sections(b"", ABBREV);
         let found = match unit(body, abbrev_offset).root(&sections) {
@@ -268,98 +254,90 @@ fn root<'a>(name: Content<'a>, base: Content<'a>) -> Root<'a> {
     }
 }
 
+// A value that is no base.
+const ABSENT: Content<'static> = Content::Other;
+
+/// A value and a base, the name that the value has, and the address.
+type Named<'a> = (
+    Content<'a>,
+    Content<'a>,
+    Result<Option<&'a [u8]>, Fault>,
+    Result<Option<u64>, Fault>,
+);
+
+const NAMED: [Named<'static>; 16] = [
+    (Content::Text(b"zz"), ABSENT, Ok(Some(b"zz")), Ok(None)),
+    (Content::StrOffset(2), ABSENT, Ok(Some(b"ab")), Ok(None)),
+    (Content::LineStrOffset(2), ABSENT, Ok(Some(b"lm")), Ok(None)),
+    (Content::StrIndex(0), ABSENT, Ok(Some(b"ab")), Ok(None)),
+    (
+        Content::StrIndex(1),
+        ABSENT,
+        Err(Fault::BadString),
+        Ok(None),
+    ),
+    (
+        Content::StrIndex(2),
+        ABSENT,
+        Err(Fault::OffsetOutside),
+        Ok(None),
+    ),
+    (
+        Content::StrIndex(u64::MAX),
+        ABSENT,
+        Err(Fault::OffsetOutside),
+        Ok(None),
+    ),
+    (
+        Content::StrIndex(0),
+        Content::SecOffset(12),
+        Err(Fault::BadString),
+        Ok(None),
+    ),
+    (
+        Content::StrIndex(0),
+        Content::Constant(12),
+        Ok(Some(b"ab")),
+        Ok(None),
+    ),
+    (
+        Content::StrOffset(7),
+        ABSENT,
+        Err(Fault::OffsetOutside),
+        Ok(None),
+    ),
+    (
+        Content::LineStrOffset(5),
+        ABSENT,
+        Err(Fault::OffsetOutside),
+        Ok(None),
+    ),
+    (Content::Constant(2), ABSENT, Ok(None), Ok(None)),
+    (Content::Address(9), ABSENT, Ok(None), Ok(Some(9))),
+    (
+        Content::AddrIndex(0),
+        ABSENT,
+        Ok(None),
+        Ok(Some(0x8877_6655_4433_2211)),
+    ),
+    (
+        Content::AddrIndex(1),
+        ABSENT,
+        Ok(None),
+        Err(Fault::OffsetOutside),
+    ),
+    (
+        Content::AddrIndex(1),
+        Content::SecOffset(1),
+        Ok(None),
+        Ok(Some(0x9988_7766_5544_3322)),
+    ),
+];
+
 #[test]
 fn names_and_addresses(rt: HostRuntime) {
     let sections = sections(b"", b"");
-    let absent = Content::Other;
-    for (content, base, name, address) in [
-        (
-            Content::Text(b"zz"),
-            absent,
-            Ok(Some(b"zz".as_slice())),
-            Ok(None),
-        ),
-        (
-            Content::StrOffset(2),
-            absent,
-            Ok(Some(b"ab".as_slice())),
-            Ok(None),
-        ),
-        (
-            Content::LineStrOffset(2),
-            absent,
-            Ok(Some(b"lm".as_slice())),
-            Ok(None),
-        ),
-        (
-            Content::StrIndex(0),
-            absent,
-            Ok(Some(b"ab".as_slice())),
-            Ok(None),
-        ),
-        (
-            Content::StrIndex(1),
-            absent,
-            Err(Fault::BadString),
-            Ok(None),
-        ),
-        (
-            Content::StrIndex(2),
-            absent,
-            Err(Fault::OffsetOutside),
-            Ok(None),
-        ),
-        (
-            Content::StrIndex(u64::MAX),
-            absent,
-            Err(Fault::OffsetOutside),
-            Ok(None),
-        ),
-        (
-            Content::StrIndex(0),
-            Content::SecOffset(12),
-            Err(Fault::BadString),
-            Ok(None),
-        ),
-        (
-            Content::StrIndex(0),
-            Content::Constant(12),
-            Ok(Some(b"ab".as_slice())),
-            Ok(None),
-        ),
-        (
-            Content::StrOffset(7),
-            absent,
-            Err(Fault::OffsetOutside),
-            Ok(None),
-        ),
-        (
-            Content::LineStrOffset(5),
-            absent,
-            Err(Fault::OffsetOutside),
-            Ok(None),
-        ),
-        (Content::Constant(2), absent, Ok(None), Ok(None)),
-        (Content::Address(9), absent, Ok(None), Ok(Some(9))),
-        (
-            Content::AddrIndex(0),
-            absent,
-            Ok(None),
-            Ok(Some(0x8877_6655_4433_2211)),
-        ),
-        (
-            Content::AddrIndex(1),
-            absent,
-            Ok(None),
-            Err(Fault::OffsetOutside),
-        ),
-        (
-            Content::AddrIndex(1),
-            Content::SecOffset(1),
-            Ok(None),
-            Ok(Some(0x9988_7766_5544_3322)),
-        ),
-    ] {
+    for (content, base, name, address) in NAMED {
         let root = root(content, base);
         let name = name.map_err(|fault| BadFile { fault, offset: 7 });
         assert!(rt; root.name_text(&sections) == name, "{content:?}");

@@ -209,7 +209,7 @@ fn patterns_that_are_refused_for_their_size(rt: HostRuntime) -> Result<(), Fail>
     let ran = run(alloc, &words, &file, devices)?;
     let line = "bloaty: pattern 0: too big";
     assert!(rt; is_end(&ran, Outcome::PatternTooBig(0), 2, line), "{line}");
-    // The second call is that of the first rewrite, where there is a filter, and else of the second rewrite.
+    // The second call is that of the first rewrite, if there is a filter, and else of the second rewrite.
     for (filter, number, line) in [
         ("--source-filter=zzz", 1, "bloaty: pattern 1: too big"),
         ("-w", 2, "bloaty: pattern 2: too big"),

@@ -188,7 +188,7 @@ const LINES: [Case<'static>; 4] = [
     },
 ];
 
-// A row of others is placed by its own growth, also where that is 0.
+// A row of others is placed by its own growth, also if that is 0.
 const LIMITED: [Case<'static>; 3] = [
     Case {
         words: &["-n", "1", "--domain=file", "big.elf", "--", "a.elf"],

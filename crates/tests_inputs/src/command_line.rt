@@ -1,89 +1,103 @@
 //! Command lines and what they ask for. A line has one space between two arguments; two spaces have an empty
 //! argument between them, and an empty line has no arguments.
 
-use size_core::{Format, Names, NoMemory, Place, Text};
+use size_core::{Format, Names, Place, Text};
 use size_options::{OptionAnswer, Options, UsageKind, options};
 use std::alloc::Global;
 use std::process::Abort;
-use std::test::Fail;
 
-fn words_of(alloc: Global, line: &str) -> Result<Vec<String>, NoMemory> {
+fn words_of(rt: &impl Abort, alloc: Global, line: &str) -> Vec<String> {
     let mut words = Vec::new(alloc);
     if line.is_empty() {
-        return Ok(words);
+        return words;
     }
     for word in line.split(' ') {
-        words.push(String::from_str(alloc, word)?)?;
+        let word = String::from_str(alloc, word).expect(rt, "memory");
+        words.push(word).expect(rt, "memory");
     }
-    Ok(words)
+    words
 }
 
-fn read(alloc: Global, line: &str) -> Result<Options, OptionAnswer> {
-    let words = words_of(alloc, line)?;
-    options(alloc, words.as_slice())
+fn read(rt: &impl Abort, alloc: Global, line: &str) -> Result<Options, OptionAnswer> {
+    options(alloc, &words_of(rt, alloc, line))
 }
 
-fn push_names(line: &mut String, names: &Names, between: &str) -> Result<(), NoMemory> {
-    for i in 0..names.len() {
-        if i > 0 {
-            line.push_str(between)?;
+// A line that grows.
+#[derive(Drop)]
+struct Line {
+    text: String,
+}
+
+impl Line {
+    fn push(&mut self, rt: &impl Abort, text: &str) {
+        self.text.push_str(text).expect(rt, "memory");
+    }
+
+    fn push_names(&mut self, rt: &impl Abort, names: &Names, between: &str) {
+        for i in 0..names.len() {
+            if i > 0 {
+                self.push(rt, between);
+            }
+            self.push(rt, names.get(i).as_str());
         }
-        line.push_str(names.get(i).as_str())?;
     }
-    Ok(())
+
+    fn push_option(&mut self, rt: &impl Abort, option: &str, value: &Option<Text>) {
+        if let Some(text) = value {
+            self.push(rt, option);
+            self.push(rt, text.as_str());
+        }
+    }
+
+    // The options that always have a value.
+    fn push_values(&mut self, rt: &impl Abort, alloc: Global, options: &Options) {
+        let (limit, sort, domain) = (options.limit, options.sort, options.domain);
+        let values = format!(in alloc; " -n {limit} -s {sort:?} --domain {domain:?}");
+        self.push(rt, values.expect(rt, "memory").as_str());
+        self.push(rt, if options.wide { " -w" } else { "" });
+        self.push(rt, format_option(options.format));
+    }
+
+    // The options that can be absent.
+    fn push_given(&mut self, rt: &impl Abort, alloc: Global, options: &Options) {
+        self.push_option(rt, " -c ", &options.config);
+        self.push_option(rt, " --source-filter ", &options.filter);
+        self.push_option(rt, " --debug-file ", &options.debug);
+        if let Some(synth) = options.synth {
+            let number = format!(in alloc; " --synth {synth}").expect(rt, "memory");
+            self.push(rt, number.as_str());
+        }
+    }
+
+    // The files, and those that they are compared with.
+    fn push_files(&mut self, rt: &impl Abort, options: &Options) {
+        self.push(rt, " FILE ");
+        self.push_names(rt, &options.files, " ");
+        if options.bases.len() > 0 {
+            self.push(rt, " BASE ");
+            self.push_names(rt, &options.bases, " ");
+        }
+    }
 }
 
-fn push_option(line: &mut String, option: &str, value: &Option<Text>) -> Result<(), NoMemory> {
-    if let Some(text) = value {
-        line.push_str(option)?;
-        line.push_str(text.as_str())?;
-    }
-    Ok(())
-}
-
-// The options that always have a value.
-fn push_values(alloc: Global, line: &mut String, options: &Options) -> Result<(), Fail> {
-    let (limit, sort, domain) = (options.limit, options.sort, options.domain);
-    line.push_str(format!(in alloc; " -n {limit} -s {sort:?} --domain {domain:?}")?.as_str())?;
-    line.push_str(if options.wide { " -w" } else { "" })?;
-    line.push_str(match options.format {
+fn format_option(format: Format) -> &'static str {
+    match format {
         Format::Text => "",
         Format::Csv => " --csv",
         Format::Tsv => " --tsv",
-    })?;
-    Ok(())
-}
-
-// The options that can be absent.
-fn push_given(alloc: Global, line: &mut String, options: &Options) -> Result<(), Fail> {
-    push_option(line, " -c ", &options.config)?;
-    push_option(line, " --source-filter ", &options.filter)?;
-    push_option(line, " --debug-file ", &options.debug)?;
-    if let Some(synth) = options.synth {
-        line.push_str(format!(in alloc; " --synth {synth}")?.as_str())?;
     }
-    Ok(())
-}
-
-// The files, and those that they are compared with.
-fn push_files(line: &mut String, options: &Options) -> Result<(), NoMemory> {
-    line.push_str(" FILE ")?;
-    push_names(line, &options.files, " ")?;
-    if options.bases.len() > 0 {
-        line.push_str(" BASE ")?;
-        push_names(line, &options.bases, " ")?;
-    }
-    Ok(())
 }
 
 // The options as a line that asks for them, in a fixed order.
-fn line_of(alloc: Global, options: &Options) -> Result<String, Fail> {
-    let mut line = String::from_str(alloc, "-d ")?;
-    push_names(&mut line, &options.sources, ",")?;
-    push_values(alloc, &mut line, options)?;
-    push_given(alloc, &mut line, options)?;
-    push_files(&mut line, options)?;
-    Ok(line)
+fn line_of(rt: &impl Abort, alloc: Global, options: &Options) -> String {
+    let mut line = Line {
+        text: String::from_str(alloc, "-d ").expect(rt, "memory"),
+    };
+    line.push_names(rt, &options.sources, ",");
+    line.push_values(rt, alloc, options);
+    line.push_given(rt, alloc, options);
+    line.push_files(rt, options);
+    line.text
 }
 
 /// Words, and the options that they ask for.
@@ -219,20 +233,18 @@ const ASKED: [(&str, &str); 32] = [
 ];
 
 // The line asks for the options that the other line shows.
-fn asks_for(rt: &impl Abort, alloc: Global, line: &str, wanted: &str) -> Result<(), Fail> {
-    match read(alloc, line) {
-        Ok(options) => assert_eq!(rt; line_of(alloc, &options)?.as_str(), wanted, "{line}"),
+fn asks_for(rt: &impl Abort, alloc: Global, line: &str, wanted: &str) {
+    match read(rt, alloc, line) {
+        Ok(options) => assert_eq!(rt; line_of(rt, alloc, &options).as_str(), wanted, "{line}"),
         Err(answer) => assert!(rt; false, "{line}: {answer:?}"),
     }
-    Ok(())
 }
 
 #[test]
-fn reads_the_options(rt: HostRuntime) -> Result<(), Fail> {
+fn reads_the_options(rt: HostRuntime) {
     for &(line, wanted) in &ASKED {
-        asks_for(&rt, rt.alloc(), line, wanted)?;
+        asks_for(&rt, rt.alloc(), line, wanted);
     }
-    Ok(())
 }
 
 /// Words that are misused, and how.
@@ -280,17 +292,16 @@ const MISUSED: [(&str, UsageKind); 41] = [
     ("-d -- a.elf", UsageKind::Words),
 ];
 
-fn refuse(rt: &impl Abort, alloc: Global, table: &[(&str, UsageKind)]) -> Result<(), Fail> {
+fn refuse(rt: &impl Abort, alloc: Global, table: &[(&str, UsageKind)]) {
     for &(line, kind) in table {
-        let answer = read(alloc, line).err();
+        let answer = read(rt, alloc, line).err();
         assert_eq!(rt; answer, Some(OptionAnswer::Usage(kind)), "{line}");
     }
-    Ok(())
 }
 
 #[test]
-fn refuses_misused_words(rt: HostRuntime) -> Result<(), Fail> {
-    refuse(&rt, rt.alloc(), &MISUSED)
+fn refuses_misused_words(rt: HostRuntime) {
+    refuse(&rt, rt.alloc(), &MISUSED);
 }
 
 /// Command lines that ask for a location, and the location.
@@ -334,9 +345,9 @@ const PLACES: [(&str, Place); 14] = [
 
 #[test]
 fn reads_a_place(rt: HostRuntime) {
-    let alloc = rt.alloc();
     for &(line, place) in &PLACES {
-        let found = read(alloc, line).ok().and_then(|options| options.place);
+        let found = read(&rt, rt.alloc(), line).ok();
+        let found = found.and_then(|options| options.place);
         assert_eq!(rt; found, Some(place), "{line}");
     }
 }
@@ -424,7 +435,7 @@ const MISUSED_DEBUG: [(&str, UsageKind); 19] = [
 ];
 
 #[test]
-fn refuses_misused_debug_files_and_places(rt: HostRuntime) -> Result<(), Fail> {
-    refuse(&rt, rt.alloc(), &BAD_PLACES)?;
-    refuse(&rt, rt.alloc(), &MISUSED_DEBUG)
+fn refuses_misused_debug_files_and_places(rt: HostRuntime) {
+    refuse(&rt, rt.alloc(), &BAD_PLACES);
+    refuse(&rt, rt.alloc(), &MISUSED_DEBUG);
 }

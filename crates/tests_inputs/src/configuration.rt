@@ -1,9 +1,9 @@
 //! Configurations: the custom data sources that they declare, and their faults.
 
-use config_text::{ConfigAnswer, ConfigKind, parse};
+use config_text::{ConfigAnswer, ConfigKind, CustomSource, parse};
 use size_core::Source;
-use std::alloc::{AllocError, Global};
-use std::test::Fail;
+use std::alloc::Global;
+use std::process::Abort;
 
 // A configuration, and the kind and the offset of its first fault. After `custom_data_source { ` the offset is 21.
 type Faulty<'a> = (&'a [u8], ConfigKind, u64);
@@ -183,75 +183,84 @@ fn faults_of_values(rt: HostRuntime) {
     }
 }
 
-#[test]
-fn reads_sources(rt: HostRuntime) -> Result<(), Fail> {
-    let alloc = rt.alloc();
-    assert_eq!(rt; parse(alloc, b"# nothing")?.len(), 0);
-    let text =
-        b"custom_data_source: {\n  name: 'm' # of two\n \"\\\"i\\\\n'e\"\n  base_data_source: \"sections\",
+const TWO_SOURCES: &[u8] =
+    b"custom_data_source: {\n  name: 'm' # of two\n \"\\\"i\\\\n'e\"\n  base_data_source: \"sections\",
   rewrite { pattern: '^(x)?\\\\.text$'; replacement: '\\\\1' };
   rewrite: { replacement: \"\\\\\\\\\" \"\\\\2\\n\" pattern: \"^(\\\\.\\\\./)?(third_party/\\\\w+)\" }\n},
 custom_data_source{base_data_source:'symbols'name:'other'}";
-    let sources = parse(alloc, text)?;
-    assert_eq!(rt; sources.len(), 2);
-    assert_eq!(rt; sources[0].name.as_str(), "m\"i\\n'e");
-    assert_eq!(rt; sources[0].base, Source::Sections);
-    assert_eq!(rt; sources[0].rewrites.len(), 2);
-    assert_eq!(rt;
-        sources[0].rewrites.get(0).pattern.as_str(),
-        "^(x)?\\.text$"
-    );
-    assert!(rt; sources[0].rewrites.get(0).replacement.as_slice() == b"\\1".as_slice());
-    assert_eq!(rt;
-        sources[0].rewrites.get(1).pattern.as_str(),
-        "^(\\.\\./)?(third_party/\\w+)"
-    );
-    assert!(rt; sources[0].rewrites.get(1).replacement.as_slice() == b"\\\\\\2\n".as_slice());
-    assert_eq!(rt; sources[1].name.as_str(), "other");
-    assert_eq!(rt; sources[1].base, Source::Symbols);
-    assert_eq!(rt; sources[1].rewrites.len(), 0);
-    Ok(())
+
+// A source has this name, this base and so many rewrites.
+fn is_source(rt: &impl Abort, source: &CustomSource, name: &str, base: Source, rewrites: usize) {
+    assert_eq!(rt; source.name.as_str(), name);
+    assert_eq!(rt; source.base, base);
+    assert_eq!(rt; source.rewrites.len(), rewrites);
 }
 
-/// So many sources, of 55 bytes each.
-fn sources(alloc: Global, count: u8) -> Result<Vec<u8>, AllocError> {
-    let mut text = Vec::new(alloc);
-    for k in 0..count {
-        text.extend_from_slice(b"custom_data_source{name:\"")?;
-        text.push(b'0' + k / 10 % 10)?;
-        text.push(b'0' + k % 10)?;
-        text.extend_from_slice(b"\"base_data_source:\"symbols\"}")?;
-    }
-    Ok(text)
-}
-
-/// A source with so many rewrites, of 34 bytes each, from offset 19 on.
-fn rewrites(alloc: Global, count: u8) -> Result<Vec<u8>, AllocError> {
-    let mut text = Vec::new(alloc);
-    text.extend_from_slice(b"custom_data_source{")?;
-    for _ in 0..count {
-        text.extend_from_slice(b"rewrite{pattern:\"a\"replacement:\"\"}")?;
-    }
-    text.push(b'}')?;
-    Ok(text)
+// A source's rewrite of a number has this pattern and this replacement.
+fn rewrites_so(
+    rt: &impl Abort,
+    source: &CustomSource,
+    i: usize,
+    pattern: &str,
+    replacement: &[u8],
+) {
+    assert!(rt; i < source.rewrites.len());
+    let rewrite = source.rewrites.get(i);
+    assert_eq!(rt; rewrite.pattern.as_str(), pattern);
+    assert!(rt; rewrite.replacement.as_slice() == replacement);
 }
 
 #[test]
-fn counts_sources_and_rewrites(rt: HostRuntime) -> Result<(), Fail> {
+fn reads_sources(rt: HostRuntime) {
     let alloc = rt.alloc();
-    let text = sources(alloc, 64)?;
-    assert_eq!(rt; parse(alloc, text.as_slice())?.len(), 64);
-    let text = sources(alloc, 65)?;
-    let answer = parse(alloc, text.as_slice()).err();
+    let none = parse(alloc, b"# nothing").expect(&rt, "a configuration");
+    assert_eq!(rt; none.len(), 0);
+    let sources = parse(alloc, TWO_SOURCES).expect(&rt, "a configuration");
+    assert_eq!(rt; sources.len(), 2);
+    is_source(&rt, &sources[0], "m\"i\\n'e", Source::Sections, 2);
+    rewrites_so(&rt, &sources[0], 0, "^(x)?\\.text$", b"\\1");
+    let pattern = "^(\\.\\./)?(third_party/\\w+)";
+    rewrites_so(&rt, &sources[0], 1, pattern, b"\\\\\\2\n");
+    is_source(&rt, &sources[1], "other", Source::Symbols, 0);
+}
+
+/// So many sources, of 55 bytes each.
+fn sources(rt: &impl Abort, alloc: Global, count: u8) -> Vec<u8> {
+    let mut text = Vec::new(alloc);
+    for k in 0..count {
+        text.extend_from_slice(b"custom_data_source{name:\"")
+            .expect(rt, "memory");
+        text.extend_from_slice(&[b'0' + k / 10 % 10, b'0' + k % 10])
+            .expect(rt, "memory");
+        text.extend_from_slice(b"\"base_data_source:\"symbols\"}")
+            .expect(rt, "memory");
+    }
+    text
+}
+
+/// A source with so many rewrites, of 34 bytes each, from offset 19 on.
+fn rewrites(rt: &impl Abort, alloc: Global, count: u8) -> Vec<u8> {
+    let mut text = Vec::from_slice(alloc, b"custom_data_source{").expect(rt, "memory");
+    for _ in 0..count {
+        let rewrite = b"rewrite{pattern:\"a\"replacement:\"\"}";
+        text.extend_from_slice(rewrite).expect(rt, "memory");
+    }
+    text.push(b'}').expect(rt, "memory");
+    text
+}
+
+#[test]
+fn counts_sources_and_rewrites(rt: HostRuntime) {
+    let alloc = rt.alloc();
+    let found = parse(alloc, &sources(&rt, alloc, 64)).expect(&rt, "a configuration");
+    assert_eq!(rt; found.len(), 64);
+    let answer = parse(alloc, &sources(&rt, alloc, 65)).err();
     assert_eq!(rt; answer, Some(ConfigAnswer::Bad(ConfigKind::TooMany, 3520)));
-    let text = rewrites(alloc, 64)?;
-    let answer = parse(alloc, text.as_slice()).err();
+    let answer = parse(alloc, &rewrites(&rt, alloc, 64)).err();
     assert_eq!(rt;
         answer,
         Some(ConfigAnswer::Bad(ConfigKind::MissingField, 2195))
     );
-    let text = rewrites(alloc, 65)?;
-    let answer = parse(alloc, text.as_slice()).err();
+    let answer = parse(alloc, &rewrites(&rt, alloc, 65)).err();
     assert_eq!(rt; answer, Some(ConfigAnswer::Bad(ConfigKind::TooMany, 2195)));
-    Ok(())
 }

@@ -8,6 +8,8 @@ mod configuration;
 #[cfg(test)]
 mod devices;
 #[cfg(test)]
+mod host_sinks;
+#[cfg(test)]
 mod rewrites;
 #[cfg(test)]
 mod synthetic;

@@ -3,13 +3,12 @@
 use config_text::{CustomSource, parse};
 use custom_rewrites::{PatternAnswer, Patterns, RegexPatterns, RewriteAnswer, Rewrites};
 use std::alloc::Global;
-use std::test::Fail;
+use std::process::Abort;
 
-/// The first source of a configuration.
-fn first_source(alloc: Global, text: &[u8]) -> Result<CustomSource, Fail> {
-    let mut sources = parse(alloc, text)?;
-    let source = sources.pop().ok_or("a source")?;
-    Ok(source)
+/// The first source of a configuration of one.
+fn first_source(rt: &impl Abort, alloc: Global, text: &[u8]) -> CustomSource {
+    let mut sources = parse(alloc, text).expect(rt, "a configuration");
+    sources.pop().expect(rt, "a source")
 }
 
 // Labels, and what they are rewritten to.
@@ -24,70 +23,77 @@ const REWRITTEN: [(&[u8], &[u8]); 8] = [
     (b"a\xffbc", b"<\xffb\\b>"),
 ];
 
-#[test]
-fn rewrites_labels(rt: HostRuntime) -> Result<(), Fail> {
-    let alloc = rt.alloc();
-    let source = first_source(
-        alloc,
-        b"custom_data_source { name: 'mine' base_data_source: 'sections'
+const MINE: &[u8] = b"custom_data_source { name: 'mine' base_data_source: 'sections'
   rewrite { pattern: '^(x)?\\\\.text$' replacement: '\\\\1' }
   rewrite { pattern: '^(\\\\.\\\\./)?(third_party/\\\\w+)' replacement: '\\\\2' }
   rewrite { pattern: '(?-u:\\\\xff)(.)' replacement: '<\\\\0\\\\9\\\\\\\\\\\\1>' }
-  rewrite { pattern: 'party' replacement: 'last' } }",
-    )?;
+  rewrite { pattern: 'party' replacement: 'last' } }";
+
+// The rewrites of a configuration's one source.
+fn rewrites_of(rt: &impl Abort, alloc: Global, text: &[u8]) -> Rewrites {
+    let source = first_source(rt, alloc, text);
     let mut patterns = RegexPatterns::new(Vec::new(alloc));
-    let rewrites = Rewrites::build(alloc, &source, &mut patterns)?;
-    let mut rewriter = rewrites.rewriter()?;
+    Rewrites::build(alloc, &source, &mut patterns).expect(rt, "rewrites")
+}
+
+#[test]
+fn rewrites_labels(rt: HostRuntime) {
+    let alloc = rt.alloc();
+    let rewrites = rewrites_of(&rt, alloc, MINE);
+    let mut rewriter = rewrites.rewriter().expect(&rt, "memory");
     for &(label, want) in &REWRITTEN {
         let mut out = Vec::new(alloc);
-        rewriter.rewrite(label, &mut out)?;
+        rewriter.rewrite(label, &mut out).expect(&rt, "memory");
         assert!(rt; out.as_slice() == want);
     }
-    let mut out = Vec::new(alloc);
-    rewrites.rewrite(b"x.text", &mut out)?;
-    assert!(rt; out.as_slice() == b"x".as_slice());
-    Ok(())
 }
 
 #[test]
-fn refuses_by_number(rt: HostRuntime) -> Result<(), Fail> {
+fn rewrites_one_label(rt: HostRuntime) {
     let alloc = rt.alloc();
-    let mut refusing = Vec::new(alloc);
-    refusing.push(1)?;
-    refusing.push(4)?;
+    let rewrites = rewrites_of(&rt, alloc, MINE);
+    let mut out = Vec::new(alloc);
+    rewrites.rewrite(b"x.text", &mut out).expect(&rt, "memory");
+    assert!(rt; out.as_slice() == b"x".as_slice());
+}
+
+const TWO: &[u8] = b"custom_data_source { name: 'm' base_data_source: 'symbols'
+  rewrite { pattern: 'a' replacement: '' } rewrite { pattern: 'b' replacement: '' } }";
+
+// A pattern isn't made, for this reason.
+fn is_refused(
+    rt: &impl Abort,
+    alloc: Global,
+    patterns: &mut RegexPatterns,
+    pattern: &str,
+    answer: PatternAnswer,
+) {
+    assert_eq!(rt; patterns.build(alloc, pattern).err(), Some(answer));
+}
+
+#[test]
+fn refuses_by_number(rt: HostRuntime) {
+    let alloc = rt.alloc();
+    let refusing = vec![in alloc; 1, 4].expect(&rt, "memory");
     let mut patterns = RegexPatterns::new(refusing);
-    assert_eq!(rt;
-        patterns.build(alloc, "zzz").err(),
-        Some(PatternAnswer::TooBig)
-    );
-    assert_eq!(rt;
-        patterns.build(alloc, "(").err(),
-        Some(PatternAnswer::Syntax)
-    );
-    let source = first_source(
-        alloc,
-        b"custom_data_source { name: 'm' base_data_source: 'symbols'
-  rewrite { pattern: 'a' replacement: '' } rewrite { pattern: 'b' replacement: '' } }",
-    )?;
+    is_refused(&rt, alloc, &mut patterns, "zzz", PatternAnswer::TooBig);
+    is_refused(&rt, alloc, &mut patterns, "(", PatternAnswer::Syntax);
+    let source = first_source(&rt, alloc, TWO);
     let answer = Rewrites::build(alloc, &source, &mut patterns).err();
     assert_eq!(rt; answer, Some(RewriteAnswer::PatternTooBig(1)));
-    assert_eq!(rt;
-        patterns.build(alloc, "(a{1000}){1000}").err(),
-        Some(PatternAnswer::TooBig)
-    );
-    Ok(())
+    let large = "(a{1000}){1000}";
+    is_refused(&rt, alloc, &mut patterns, large, PatternAnswer::TooBig);
 }
 
 #[test]
-fn finds_in_bytes(rt: HostRuntime) -> Result<(), Fail> {
+fn finds_in_bytes(rt: HostRuntime) {
     let alloc = rt.alloc();
     let mut patterns = RegexPatterns::new(Vec::new(alloc));
-    let pattern = patterns.build(alloc, "zzz")?;
-    assert!(rt; !pattern.finds(alloc, b".text")?);
-    let pattern = patterns.build(alloc, "^a[0-9]+$")?;
-    let mut finder = pattern.finder(alloc)?;
+    let pattern = patterns.build(alloc, "zzz").expect(&rt, "a pattern");
+    assert!(rt; !pattern.finds(alloc, b".text").expect(&rt, "memory"));
+    let pattern = patterns.build(alloc, "^a[0-9]+$").expect(&rt, "a pattern");
+    let mut finder = pattern.finder(alloc).expect(&rt, "memory");
     assert!(rt; finder.finds(b"a12"));
     assert!(rt; !finder.finds(b"a\xff12"));
     assert!(rt; finder.finds(b"a3"));
-    Ok(())
 }

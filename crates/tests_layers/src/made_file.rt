@@ -4,7 +4,6 @@ use elf_file::{ElfFile, Section, Segment};
 use elf_symbols::{SHT_SYMTAB, SymbolTable};
 use elf_synth::synth;
 use std::process::Abort;
-use std::test::Fail;
 
 // A section by its name, and by its type, flags, address, offset, size, link and info.
 type SectionRow<'a> = (&'a [u8], &'a [u64]);
@@ -87,9 +86,9 @@ fn numbers(s: &Section<'_>) -> [u64; 7] {
 }
 
 // A file has the header, the one load from its beginning on, and the sections of a made file.
-fn assert_sections(rt: &impl Abort, file: &[u8], made: &MadeFile<'_>) -> Result<(), Fail> {
+fn assert_sections(rt: &impl Abort, file: &[u8], made: &MadeFile<'_>) {
     assert!(rt; file.len() < 1 << 32);
-    let elf = ElfFile::parse(file)?;
+    let elf = ElfFile::parse(file).expect(rt, "a sound file");
     let header = elf.header();
     assert_eq!(rt; (header.kind, header.machine), (2, 62));
     assert_eq!(rt; (header.phoff, header.shoff), (64, made.section_headers));
@@ -112,37 +111,34 @@ fn assert_sections(rt: &impl Abort, file: &[u8], made: &MadeFile<'_>) -> Result<
         memsz: made.load,
     };
     assert_eq!(rt; elf.segment(0), want);
-    Ok(())
 }
 
 // A file has as many symbols as a made file, those of its rows among them.
-fn assert_symbols(rt: &impl Abort, file: &[u8], made: &MadeFile<'_>) -> Result<(), Fail> {
+fn assert_symbols(rt: &impl Abort, file: &[u8], made: &MadeFile<'_>) {
     assert!(rt; file.len() < 1 << 32);
-    let elf = ElfFile::parse(file)?;
+    let elf = ElfFile::parse(file).expect(rt, "a sound file");
     assert!(rt; elf.header().sections > 2 && elf.section(2).kind == SHT_SYMTAB);
-    let table = SymbolTable::at(&elf, 2)?;
+    let table = SymbolTable::at(&elf, 2).expect(rt, "a table");
     assert_eq!(rt; table.len(), made.symbols);
     for k in 0..table.len() {
-        table.symbol(k)?;
+        table.symbol(k).expect(rt, "a symbol");
     }
     for (k, name, value, size) in made.rows {
         assert!(rt; *k < table.len());
-        let symbol = table.symbol(*k)?;
+        let symbol = table.symbol(*k).expect(rt, "a symbol");
         assert!(rt; symbol.name == *name, "the name of symbol {k}");
         assert_eq!(rt; (symbol.value, symbol.size), (*value, *size), "symbol {k}");
         assert_eq!(rt; (symbol.kind, symbol.section), (2, 1), "symbol {k}");
     }
-    Ok(())
 }
 
 #[test]
-fn made_files(rt: HostRuntime) -> Result<(), Fail> {
+fn made_files(rt: HostRuntime) {
     for made in &MADE_FILES {
         assert!(rt; made.functions <= 1000);
-        let file = synth(rt.alloc(), made.functions)?;
+        let file = synth(rt.alloc(), made.functions).expect(&rt, "memory");
         assert_eq!(rt; file.len(), made.len);
-        assert_sections(&rt, &file, made)?;
-        assert_symbols(&rt, &file, made)?;
+        assert_sections(&rt, &file, made);
+        assert_symbols(&rt, &file, made);
     }
-    Ok(())
 }

@@ -10,7 +10,6 @@ use sample_files::{
 use size_core::{BadFile, Claim, Fault, LabelPool, Side, Source, Span};
 use std::alloc::Global;
 use std::process::Abort;
-use std::test::Fail;
 
 // A label with its file size and its VM size.
 type Row<'a> = (&'a [u8], u64, u64);
@@ -98,40 +97,28 @@ const OBJECT_SEGMENTS: [Row<'static>; 5] = [
 ];
 
 // The sizes that a data source gives a sound file.
-fn rows_of(rt: &impl Abort, alloc: Global, file: &[u8], source: Source) -> Result<Sizes, Fail> {
+fn rows_of(rt: &impl Abort, alloc: Global, file: &[u8], source: Source) -> Sizes {
     assert!(rt; file.len() < 1 << 32);
-    let binary = open_binary(file)?;
-    Ok(sizes_of(alloc, &binary, source, b"a.elf")?)
+    let binary = open_binary(file).expect(rt, "a sound file");
+    sizes_of(alloc, &binary, source, b"a.elf").expect(rt, "claims")
 }
 
 // The file is sound, and the data source gives it these labels and no other.
-fn assert_rows(
-    rt: &impl Abort,
-    alloc: Global,
-    file: &[u8],
-    source: Source,
-    rows: &[Row<'_>],
-) -> Result<(), Fail> {
-    let sizes = rows_of(rt, alloc, file, source)?;
+fn assert_rows(rt: &impl Abort, alloc: Global, file: &[u8], source: Source, rows: &[Row<'_>]) {
+    let sizes = rows_of(rt, alloc, file, source);
     for (label, file, vm) in rows {
         assert_eq!(rt; sizes.of(label), (*file, *vm));
     }
     assert_eq!(rt; sizes.shown(), rows.len());
-    Ok(())
 }
 
 // The first claim of a data source on a sound file.
-fn first_claim(
-    rt: &impl Abort,
-    alloc: Global,
-    file: &[u8],
-    source: Source,
-) -> Result<Option<Claim>, Fail> {
+fn first_claim(rt: &impl Abort, alloc: Global, file: &[u8], source: Source) -> Option<Claim> {
     assert!(rt; file.len() < 1 << 32);
-    let binary = open_binary(file)?;
+    let binary = open_binary(file).expect(rt, "a sound file");
     let mut labels = LabelPool::new(alloc);
-    let claims = claims(alloc, &binary, source, b"a.elf", &mut labels, 1 << 24)?;
-    Ok(claims.first().copied())
+    let claims = claims(alloc, &binary, source, b"a.elf", &mut labels, 1 << 24);
+    claims.expect(rt, "claims").first().copied()
 }
 
 // The file is sound, and the data source has this fault.
@@ -142,53 +129,52 @@ fn assert_bad(
     source: Source,
     fault: Fault,
     offset: u64,
-) -> Result<(), Fail> {
+) {
     assert!(rt; file.len() < 1 << 32);
-    let binary = open_binary(file)?;
+    let binary = open_binary(file).expect(rt, "a sound file");
     let mut labels = LabelPool::new(alloc);
     let answer = claims(alloc, &binary, source, b"a.elf", &mut labels, 1 << 24);
     assert_eq!(rt;
         answer.err(),
         Some(ClaimAnswer::Bad(BadFile { fault, offset }))
     );
-    Ok(())
 }
 
 #[test]
-fn sections_of_a_large_bss(rt: HostRuntime) -> Result<(), Fail> {
+fn sections_of_a_large_bss(rt: HostRuntime) {
     let alloc = rt.alloc();
-    let file = large_bss(alloc)?;
+    let file = large_bss(alloc).expect(&rt, "memory");
     assert_eq!(rt; file.len(), 416);
-    assert_rows(&rt, alloc, &file, Source::Sections, &LARGE_BSS)
+    assert_rows(&rt, alloc, &file, Source::Sections, &LARGE_BSS);
 }
 
 #[test]
-fn thread_local_storage_takes_no_address(rt: HostRuntime) -> Result<(), Fail> {
+fn thread_local_storage_takes_no_address(rt: HostRuntime) {
     let alloc = rt.alloc();
     assert_rows(
         &rt,
         alloc,
-        &thread_local(alloc)?,
+        &thread_local(alloc).expect(&rt, "memory"),
         Source::Sections,
         &THREAD_LOCAL,
-    )
+    );
 }
 
 #[test]
-fn bytes_loaded_twice_count_once(rt: HostRuntime) -> Result<(), Fail> {
+fn bytes_loaded_twice_count_once(rt: HostRuntime) {
     let alloc = rt.alloc();
-    let file = loaded_twice(alloc)?;
+    let file = loaded_twice(alloc).expect(&rt, "memory");
     assert_eq!(rt; file.len(), 408);
-    assert_rows(&rt, alloc, &file, Source::Segments, &TWICE_SEGMENTS)?;
-    assert_rows(&rt, alloc, &file, Source::Sections, &TWICE_SECTIONS)
+    assert_rows(&rt, alloc, &file, Source::Segments, &TWICE_SEGMENTS);
+    assert_rows(&rt, alloc, &file, Source::Sections, &TWICE_SECTIONS);
 }
 
 #[test]
-fn the_first_symbol_takes_a_byte(rt: HostRuntime) -> Result<(), Fail> {
+fn the_first_symbol_takes_a_byte(rt: HostRuntime) {
     let alloc = rt.alloc();
-    let file = two_functions(alloc)?;
+    let file = two_functions(alloc).expect(&rt, "memory");
     for source in [Source::Symbols, Source::RawSymbols] {
-        let sizes = rows_of(&rt, alloc, &file, source)?;
+        let sizes = rows_of(&rt, alloc, &file, source);
         assert_eq!(rt; sizes.of(b"a"), (8, 8));
         assert_eq!(rt; sizes.of(b"b"), (4, 4));
         assert_eq!(rt; sizes.of(b"[section .text]"), (4, 4));
@@ -200,16 +186,15 @@ fn the_first_symbol_takes_a_byte(rt: HostRuntime) -> Result<(), Fail> {
         &file,
         Source::InputFiles,
         &[(b"a.elf", file.len() as u64, 136)],
-    )?;
+    );
     // Without debug sections there are no units and no lines.
     for source in [Source::CompileUnits, Source::Inlines] {
-        assert_rows(&rt, alloc, &file, source, &NO_DEBUG_SECTIONS)?;
+        assert_rows(&rt, alloc, &file, source, &NO_DEBUG_SECTIONS);
     }
-    Ok(())
 }
 
 #[test]
-fn bit_0_of_an_arm_function_is_no_address(rt: HostRuntime) -> Result<(), Fail> {
+fn bit_0_of_an_arm_function_is_no_address(rt: HostRuntime) {
     let alloc = rt.alloc();
     for (machine, start) in [(40, 0x8000), (3, 0x8001)] {
         let head = Head {
@@ -234,15 +219,16 @@ fn bit_0_of_an_arm_function_is_no_address(rt: HostRuntime) -> Result<(), Fail> {
             size: 4,
             ..FUNCTION
         };
-        let symbols = symbols(alloc, head, &[function])?;
+        let symbols = symbols(alloc, head, &[function]).expect(&rt, "memory");
         let table = symbol_table(&symbols, 3);
         let file = file(
             alloc,
             head,
             &[load],
             &[NULL, text, table, SYMBOL_NAMES, NAMES],
-        )?;
-        let first = first_claim(&rt, alloc, &file, Source::Symbols)?;
+        )
+        .expect(&rt, "memory");
+        let first = first_claim(&rt, alloc, &file, Source::Symbols);
         assert_eq!(rt;
             first.map(|c| (c.side, c.vm)),
             Some((
@@ -255,11 +241,10 @@ fn bit_0_of_an_arm_function_is_no_address(rt: HostRuntime) -> Result<(), Fail> {
             ))
         );
     }
-    Ok(())
 }
 
 #[test]
-fn a_symbol_without_its_section_is_a_fault_of_symbols_alone(rt: HostRuntime) -> Result<(), Fail> {
+fn a_symbol_without_its_section_is_a_fault_of_symbols_alone(rt: HostRuntime) {
     let alloc = rt.alloc();
     let function = Symbol {
         name: 1,
@@ -268,14 +253,15 @@ fn a_symbol_without_its_section_is_a_fault_of_symbols_alone(rt: HostRuntime) -> 
         section: 0xffff,
         ..FUNCTION
     };
-    let symbols = symbols(alloc, EXECUTABLE, &[function])?;
+    let symbols = symbols(alloc, EXECUTABLE, &[function]).expect(&rt, "memory");
     let table = symbol_table(&symbols, 3);
     let file = file(
         alloc,
         EXECUTABLE,
         &[LOAD],
         &[NULL, TEXT, table, SYMBOL_NAMES, NAMES],
-    )?;
+    )
+    .expect(&rt, "memory");
     // The second symbol of the table, which begins after the 136 bytes up to the end of `.text`.
     assert_bad(
         &rt,
@@ -284,34 +270,33 @@ fn a_symbol_without_its_section_is_a_fault_of_symbols_alone(rt: HostRuntime) -> 
         Source::Symbols,
         Fault::BadIndex,
         136 + 24,
-    )?;
-    let sizes = rows_of(&rt, alloc, &file, Source::Sections)?;
+    );
+    let sizes = rows_of(&rt, alloc, &file, Source::Sections);
     assert_eq!(rt; sizes.of(b".text"), (16, 16));
-    Ok(())
 }
 
 #[test]
-fn a_table_may_name_itself(rt: HostRuntime) -> Result<(), Fail> {
+fn a_table_may_name_itself(rt: HostRuntime) {
     let alloc = rt.alloc();
     let table = symbol_table(&[0; 48], 2);
-    let file = file(alloc, EXECUTABLE, &[LOAD], &[NULL, TEXT, table, NAMES])?;
-    assert_rows(&rt, alloc, &file, Source::Symbols, &NO_SYMBOLS)
+    let file = file(alloc, EXECUTABLE, &[LOAD], &[NULL, TEXT, table, NAMES]).expect(&rt, "memory");
+    assert_rows(&rt, alloc, &file, Source::Symbols, &NO_SYMBOLS);
 }
 
 #[test]
-fn each_section_of_an_object_is_a_space(rt: HostRuntime) -> Result<(), Fail> {
+fn each_section_of_an_object_is_a_space(rt: HostRuntime) {
     let alloc = rt.alloc();
-    let file = object(alloc)?;
+    let file = object(alloc).expect(&rt, "memory");
     assert_eq!(rt; file.len(), 440);
-    assert_rows(&rt, alloc, &file, Source::Sections, &OBJECT_SECTIONS)?;
-    assert_rows(&rt, alloc, &file, Source::Segments, &OBJECT_SEGMENTS)
+    assert_rows(&rt, alloc, &file, Source::Sections, &OBJECT_SECTIONS);
+    assert_rows(&rt, alloc, &file, Source::Segments, &OBJECT_SEGMENTS);
 }
 
 #[test]
-fn symbols_of_an_object_stand_in_their_sections(rt: HostRuntime) -> Result<(), Fail> {
+fn symbols_of_an_object_stand_in_their_sections(rt: HostRuntime) {
     let alloc = rt.alloc();
-    let file = object_functions(alloc)?;
-    let sizes = rows_of(&rt, alloc, &file, Source::Symbols)?;
+    let file = object_functions(alloc).expect(&rt, "memory");
+    let sizes = rows_of(&rt, alloc, &file, Source::Symbols);
     assert_eq!(rt; sizes.of(b"a"), (16, 16));
     assert_eq!(rt; sizes.of(b"b"), (8, 8));
     assert_bad(
@@ -321,21 +306,20 @@ fn symbols_of_an_object_stand_in_their_sections(rt: HostRuntime) -> Result<(), F
         Source::CompileUnits,
         Fault::SourceNotForFile,
         0,
-    )
+    );
 }
 
 #[test]
-fn the_limit_is_the_most_that_is_claimed(rt: HostRuntime) -> Result<(), Fail> {
+fn the_limit_is_the_most_that_is_claimed(rt: HostRuntime) {
     let alloc = rt.alloc();
-    let file = plain_file(alloc)?;
+    let file = plain_file(alloc).expect(&rt, "memory");
     assert!(rt; file.len() < 1 << 32);
-    let binary = open_binary(&file)?;
+    let binary = open_binary(&file).expect(&rt, "a sound file");
     let mut labels = LabelPool::new(alloc);
-    labels.intern(b"[Unmapped]")?;
+    labels.intern(b"[Unmapped]").expect(&rt, "memory");
     let answer = claims(alloc, &binary, Source::Sections, b"a.elf", &mut labels, 5);
     assert_eq!(rt; answer.err(), Some(ClaimAnswer::TooManyClaims));
-    let all = claims(alloc, &binary, Source::Sections, b"a.elf", &mut labels, 6)?;
-    assert_eq!(rt; all.len(), 6);
+    let all = claims(alloc, &binary, Source::Sections, b"a.elf", &mut labels, 6);
+    assert_eq!(rt; all.expect(&rt, "claims").len(), 6);
     assert!(rt; labels.get(0) == b"[Unmapped]".as_slice());
-    Ok(())
 }

@@ -9,7 +9,6 @@ use dwarf_units::Sections;
 use size_core::{BadFile, Claim, Fault, LabelPool, Side, Span};
 use std::alloc::Global;
 use std::process::Abort;
-use std::test::Fail;
 
 /// A unit of DWARF 4, of 28 bytes: `a.c`, from 0x1000 on, 0x20 bytes, and the line program at 0.
 const UNIT_4: &[u8] = b"\x18\0\0\0\x04\0\0\0\0\0\x04\x01a.c\0\0\x10\0\0\x20\0\0\0\0\0\0\0";
@@ -141,35 +140,36 @@ fn units_and_sets_claim(
     sections: &Sections<'_>,
     label: &[u8],
     want: &[(Side, u64, u64)],
-) -> Result<(), Fail> {
+) {
     let mut pool = LabelPool::new(alloc);
     let mut sheet = ClaimSheet::begin(alloc, &mut pool, 100);
-    add_units(alloc, sections, &mut sheet)?;
-    let Ok(claims) = sheet.finish(&mut pool) else {
-        panic!(rt; "six claims are within the limit");
-    };
+    add_units(alloc, sections, &mut sheet).expect(rt, "units");
+    let claims = sheet
+        .finish(&mut pool)
+        .expect(rt, "six claims are within the limit");
     assert!(rt; pool.len() == 1 && pool.get(0) == label);
     are_told(rt, &claims, want);
-    Ok(())
 }
 
 #[test]
-fn claims_of_units_and_sets(rt: HostRuntime) -> Result<(), Fail> {
+fn claims_of_units_and_sets(rt: HostRuntime) {
     for (info, declared, sets, label, want) in CLAIMED {
         assert!(rt; info.len() < 100 && declared.len() < 100 && sets.len() < 100);
         let sections = sections(info, declared, sets, NO_ROWS);
-        units_and_sets_claim(&rt, rt.alloc(), &sections, label, want)?;
+        units_and_sets_claim(&rt, rt.alloc(), &sections, label, want);
     }
-    Ok(())
 }
+
+/// A unit, and the first fault with its offset.
+const UNIT_FAULTS: [(&[u8], Fault, u64); 2] = [
+    (UNIT_OF_NO_CODE, Fault::BadAbbrev, 1000),
+    (UNIT_OF_NO_NAME, Fault::Truncated, 4000),
+];
 
 #[test]
 fn a_fault_of_a_unit_is_told_before_that_of_a_set(rt: HostRuntime) {
     let alloc = rt.alloc();
-    for (info, fault, offset) in [
-        (UNIT_OF_NO_CODE, Fault::BadAbbrev, 1000),
-        (UNIT_OF_NO_NAME, Fault::Truncated, 4000),
-    ] {
+    for (info, fault, offset) in UNIT_FAULTS {
         assert!(rt; info.len() < 100);
         let sections = sections(info, b"\0", b"\x0c\0", NO_ROWS);
         let mut pool = LabelPool::new(alloc);
@@ -202,19 +202,15 @@ const LINES: [(&[u8], &[u8], &[(Side, u64, u64)]); 3] = [
 ];
 
 /// The labels of the claims, with `, ` after each.
-fn labels_of(
-    rt: &impl Abort,
-    alloc: Global,
-    pool: &LabelPool,
-    claims: &[Claim],
-) -> Result<Vec<u8>, Fail> {
+fn labels_of(rt: &impl Abort, alloc: Global, pool: &LabelPool, claims: &[Claim]) -> Vec<u8> {
     let mut text = Vec::new(alloc);
     for claim in claims {
         assert!(rt; claim.label < pool.len());
-        text.extend_from_slice(pool.get(claim.label))?;
-        text.extend_from_slice(b", ")?;
+        text.extend_from_slice(pool.get(claim.label))
+            .expect(rt, "memory");
+        text.extend_from_slice(b", ").expect(rt, "memory");
     }
-    Ok(text)
+    text
 }
 
 /// The lines of these sections make claims with these labels.
@@ -224,25 +220,23 @@ fn lines_claim(
     sections: &Sections<'_>,
     labels: &[u8],
     want: &[(Side, u64, u64)],
-) -> Result<(), Fail> {
+) {
     let mut pool = LabelPool::new(alloc);
     let mut sheet = ClaimSheet::begin(alloc, &mut pool, 100);
-    add_lines(alloc, sections, &mut sheet)?;
-    let Ok(claims) = sheet.finish(&mut pool) else {
-        panic!(rt; "three claims are within the limit");
-    };
+    add_lines(alloc, sections, &mut sheet).expect(rt, "lines");
+    let claims = sheet
+        .finish(&mut pool)
+        .expect(rt, "three claims are within the limit");
     are_told(rt, &claims, want);
-    let text = labels_of(rt, alloc, &pool, &claims)?;
+    let text = labels_of(rt, alloc, &pool, &claims);
     assert!(rt; text.as_slice() == labels);
-    Ok(())
 }
 
 #[test]
-fn claims_of_lines(rt: HostRuntime) -> Result<(), Fail> {
+fn claims_of_lines(rt: HostRuntime) {
     for (program, labels, want) in LINES {
         assert!(rt; program.len() < 100);
         let sections = sections(UNIT_OF_LINES, DECLARED_OF_LINES, b"", program);
-        lines_claim(&rt, rt.alloc(), &sections, labels, want)?;
+        lines_claim(&rt, rt.alloc(), &sections, labels, want);
     }
-    Ok(())
 }

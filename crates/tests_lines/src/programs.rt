@@ -9,7 +9,6 @@ use dwarf_units::Sections;
 use size_core::{BadFile, Fault, NoMemory};
 use std::alloc::{AllocError, Global};
 use std::process::Abort;
-use std::test::Fail;
 
 /// The sections of a file that has line programs from offset 1,000 on, and strings.
 fn sections<'a>(lines: &'a [u8], strings: &'a [u8], line_strings: &'a [u8]) -> Sections<'a>
@@ -133,7 +132,7 @@ const PROGRAMS: [Worked<'static>; 10] = [
             (0, 1, 1, false),
         ],
     ),
-    // Opcodes with the standard's numbers, where the header gives each two operands: set_column, set_isa,
+    // Opcodes with the standard's numbers, to each of which the header gives two operands: set_column, set_isa,
     // negate_stmt, set_basic_block, set_prologue_end and set_epilogue_begin, each with a copy after it.
     (
         4,
@@ -206,18 +205,15 @@ fn has_rows(rt: &impl Abort, program: &LineProgram<'_>, rows: &[(u64, u64, u32, 
 }
 
 #[test]
-fn rows_of_programs(rt: HostRuntime) -> Result<(), Fail> {
+fn rows_of_programs(rt: HostRuntime) {
     for (version, numbers, address, instructions, rows) in PROGRAMS {
         assert!(rt; numbers.len() < 100 && instructions.len() < 100 && rows.len() < 100);
-        let bytes = program(rt.alloc(), version, numbers, A_C, instructions)?;
+        let bytes = program(rt.alloc(), version, numbers, A_C, instructions).expect(&rt, "memory");
         assert!(rt; bytes.len() < 1000);
         let sections = sections(&bytes, &[], &[]);
-        let Ok(program) = LineProgram::at(&sections, 0, 7, &shape(address)) else {
-            panic!(rt; "the program has a header");
-        };
+        let program = LineProgram::at(&sections, 0, 7, &shape(address)).expect(&rt, "a header");
         has_rows(&rt, &program, rows);
     }
-    Ok(())
 }
 
 /// Instructions with a fault after a row: one byte for the two of fixed_advance_pc; an extended instruction without a
@@ -234,7 +230,7 @@ const FAULTY: [&[u8]; 7] = [
 ];
 
 /// The program has one row, and its next one is a fault.
-fn has_fault_behind_a_row(rt: &impl Abort, program: &LineProgram<'_>, instructions: &[u8]) {
+fn has_fault_after_a_row(rt: &impl Abort, program: &LineProgram<'_>, instructions: &[u8]) {
     let mut found = program.rows();
     assert_eq!(rt; found.next(), row(0, 1, 1, false));
     let fault = BadFile {
@@ -246,18 +242,15 @@ fn has_fault_behind_a_row(rt: &impl Abort, program: &LineProgram<'_>, instructio
 }
 
 #[test]
-fn fault_behind_a_row(rt: HostRuntime) -> Result<(), Fail> {
+fn fault_behind_a_row(rt: HostRuntime) {
     for instructions in FAULTY {
         assert!(rt; instructions.len() < 100);
-        let bytes = program(rt.alloc(), 4, PLAIN, A_C, instructions)?;
+        let bytes = program(rt.alloc(), 4, PLAIN, A_C, instructions).expect(&rt, "memory");
         assert!(rt; bytes.len() < 1000);
         let sections = sections(&bytes, &[], &[]);
-        let Ok(program) = LineProgram::at(&sections, 0, 7, &shape(8)) else {
-            panic!(rt; "the program has a header");
-        };
-        has_fault_behind_a_row(&rt, &program, instructions);
+        let program = LineProgram::at(&sections, 0, 7, &shape(8)).expect(&rt, "a header");
+        has_fault_after_a_row(&rt, &program, instructions);
     }
-    Ok(())
 }
 
 /// The paths of files 0 to 6, a space after each.
@@ -311,34 +304,34 @@ const PATHS: [(u8, &[u8], &[u8], &[u8]); 5] = [
 ];
 
 /// The program and a copy of a copy of it have these paths of files.
-fn has_paths(
-    rt: &impl Abort,
-    alloc: Global,
-    program: &LineProgram<'_>,
-    paths: &[u8],
-) -> Result<(), Fail> {
-    let kept = program.kept(alloc)?;
-    assert_eq!(rt; paths_of(alloc, program)?.as_slice(), paths);
-    assert_eq!(rt; paths_of(alloc, &kept)?.as_slice(), paths);
-    let again = kept.kept(alloc)?;
-    assert_eq!(rt; paths_of(alloc, &again)?.as_slice(), paths);
-    Ok(())
+fn has_paths(rt: &impl Abort, alloc: Global, program: &LineProgram<'_>, paths: &[u8]) {
+    let kept = program.kept(alloc).expect(rt, "memory");
+    assert_eq!(rt;
+        paths_of(alloc, program).expect(rt, "memory").as_slice(),
+        paths
+    );
+    assert_eq!(rt;
+        paths_of(alloc, &kept).expect(rt, "memory").as_slice(),
+        paths
+    );
+    let again = kept.kept(alloc).expect(rt, "memory");
+    assert_eq!(rt;
+        paths_of(alloc, &again).expect(rt, "memory").as_slice(),
+        paths
+    );
 }
 
 #[test]
-fn paths_of_files(rt: HostRuntime) -> Result<(), Fail> {
+fn paths_of_files(rt: HostRuntime) {
     for (version, tables, line_strings, paths) in PATHS {
         assert!(rt; tables.len() < 200 && line_strings.len() < 100);
-        let bytes = program(rt.alloc(), version, PLAIN, tables, b"")?;
+        let bytes = program(rt.alloc(), version, PLAIN, tables, b"").expect(&rt, "memory");
         assert!(rt; bytes.len() < 1000);
         let sections = sections(&bytes, &[], line_strings);
-        let Ok(program) = LineProgram::at(&sections, 0, 7, &shape(8)) else {
-            panic!(rt; "the program has a header");
-        };
+        let program = LineProgram::at(&sections, 0, 7, &shape(8)).expect(&rt, "a header");
         assert_eq!(rt; program.rows().next(), None);
-        has_paths(&rt, rt.alloc(), &program, paths)?;
+        has_paths(&rt, rt.alloc(), &program, paths);
     }
-    Ok(())
 }
 
 /// The fault of the program at an offset.
@@ -366,32 +359,34 @@ const BAD_HEADERS: [(u8, &[u8], &[u8]); 9] = [
 ];
 
 #[test]
-fn faults_of_headers(rt: HostRuntime) -> Result<(), Fail> {
+fn faults_of_headers(rt: HostRuntime) {
     let bad_line = BadFile {
         fault: Fault::BadLine,
         offset: 1000,
     };
     for (version, numbers, tables) in BAD_HEADERS {
         assert!(rt; numbers.len() < 100 && tables.len() < 100);
-        let bytes = program(rt.alloc(), version, numbers, tables, b"")?;
+        let bytes = program(rt.alloc(), version, numbers, tables, b"").expect(&rt, "memory");
         assert!(rt; bytes.len() < 1000);
         assert_eq!(rt; fault_of(&bytes, 0), Some(bad_line), "{tables:?}");
     }
-    Ok(())
 }
 
+/// A version, and the tables of a program.
+const CUT: [(u8, &[u8]); 3] = [
+    (2, b"inc\0\0a.c\0\x01\0\0\0"),
+    (4, b"inc\0\0a.c\0\x01\0\0\0"),
+    (
+        5,
+        b"\x01\x01\x08\x02/w\0inc\0\x02\x01\x08\x02\x0f\x01a.c\0\x01",
+    ),
+];
+
 #[test]
-fn programs_that_are_cut(rt: HostRuntime) -> Result<(), Fail> {
-    for (version, tables) in [
-        (2, b"inc\0\0a.c\0\x01\0\0\0".as_slice()),
-        (4, b"inc\0\0a.c\0\x01\0\0\0"),
-        (
-            5,
-            b"\x01\x01\x08\x02/w\0inc\0\x02\x01\x08\x02\x0f\x01a.c\0\x01",
-        ),
-    ] {
+fn programs_that_are_cut(rt: HostRuntime) {
+    for (version, tables) in CUT {
         assert!(rt; tables.len() < 100);
-        let mut bytes = program(rt.alloc(), version, PLAIN, tables, b"")?;
+        let mut bytes = program(rt.alloc(), version, PLAIN, tables, b"").expect(&rt, "memory");
         assert!(rt; 20 < bytes.len() && bytes.len() < 200);
         assert_eq!(rt; fault_of(&bytes, 0), None);
         // The instructions begin before the tables.
@@ -405,27 +400,28 @@ fn programs_that_are_cut(rt: HostRuntime) -> Result<(), Fail> {
             assert_eq!(rt; fault_of(&bytes, 0), Some(fault), "{len}");
         }
     }
-    Ok(())
 }
+
+/// A program with offsets of 8 bytes, one without a whole version, and one that the section cuts.
+const SECTION: &[u8] =
+    b"\xff\xff\xff\xff\x1a\0\0\0\0\0\0\0\x04\0\x0f\0\0\0\0\0\0\0\x02\0\x01\xfb\x0e\x01\0a.c\0\0\0\0\0\x01\x01\0\0\0\x04\x03\0\0\0\x04\0";
+
+/// The offset of a program, and its fault.
+const IN_SECTION: [(u64, Option<(Fault, u64)>); 5] = [
+    (0, None),
+    (38, None),
+    (43, Some((Fault::BadUnit, 1043))),
+    (46, Some((Fault::Truncated, 1046))),
+    (49, Some((Fault::OffsetOutside, 7))),
+];
 
 #[test]
 fn programs_in_their_section(rt: HostRuntime) {
-    // A program with offsets of 8 bytes, one without a whole version, and one that the section cuts.
-    let bytes =
-        b"\xff\xff\xff\xff\x1a\0\0\0\0\0\0\0\x04\0\x0f\0\0\0\0\0\0\0\x02\0\x01\xfb\x0e\x01\0a.c\0\0\0\0\0\x01\x01\0\0\0\x04\x03\0\0\0\x04\0";
-    for (offset, want) in [
-        (0, None),
-        (38, None),
-        (43, Some((Fault::BadUnit, 1043))),
-        (46, Some((Fault::Truncated, 1046))),
-        (49, Some((Fault::OffsetOutside, 7))),
-    ] {
+    for (offset, want) in IN_SECTION {
         let want = want.map(|(fault, offset)| BadFile { fault, offset });
-        assert_eq!(rt; fault_of(bytes, offset), want, "{offset}");
+        assert_eq!(rt; fault_of(SECTION, offset), want, "{offset}");
     }
-    let sections = sections(bytes, b"", b"");
-    let Ok(program) = LineProgram::at(&sections, 0, 7, &shape(8)) else {
-        panic!(rt; "the program has a header");
-    };
+    let sections = sections(SECTION, b"", b"");
+    let program = LineProgram::at(&sections, 0, 7, &shape(8)).expect(&rt, "a header");
     assert_eq!(rt; program.rows().next(), row(0, 1, 4294967292, false));
 }

@@ -12,7 +12,6 @@ use sample_files::{put, put_all};
 use size_core::{BadFile, Fault, LabelPool, Side, Span};
 use std::alloc::Global;
 use std::process::Abort;
-use std::test::Fail;
 
 /// A claim: its side, its addresses, its bytes of the file, and its label.
 type Row<'a> = (Side, (u64, u64), (u64, u64), &'a str);
@@ -72,13 +71,12 @@ fn program() -> [u8; 4152] {
 }
 
 #[test]
-fn loads_of_a_program(rt: HostRuntime) -> Result<(), Fail> {
+fn loads_of_a_program(rt: HostRuntime) {
     let file = program();
-    let macho = MachoFile::parse(&file)?;
-    let loads = loads_of(rt.alloc(), &macho)?;
+    let macho = MachoFile::parse(&file).expect(&rt, "a sound file");
+    let loads = loads_of(rt.alloc(), &macho).expect(&rt, "memory");
     assert_eq!(rt; (load_slots(&macho), loads.len()), (3, 2));
     assert_eq!(rt; load_at(&macho, 1), Some(loads[0]));
-    Ok(())
 }
 
 const PROGRAM: [Row<'static>; 9] = [
@@ -114,15 +112,14 @@ fn add_all(alloc: Global, macho: &MachoFile<'_>, sheet: &mut ClaimSheet) -> Resu
 }
 
 #[test]
-fn claims_of_a_program(rt: HostRuntime) -> Result<(), Fail> {
+fn claims_of_a_program(rt: HostRuntime) {
     let alloc = rt.alloc();
     let file = program();
-    let macho = MachoFile::parse(&file)?;
+    let macho = MachoFile::parse(&file).expect(&rt, "a sound file");
     let mut pool = LabelPool::new(alloc);
     let mut sheet = ClaimSheet::begin(alloc, &mut pool, 100);
-    add_all(alloc, &macho, &mut sheet)?;
+    add_all(alloc, &macho, &mut sheet).expect(&rt, "claims");
     assert_made(&rt, pool, sheet, &PROGRAM);
-    Ok(())
 }
 
 /// The first fault of a file or its symbols.
@@ -212,13 +209,12 @@ fn debug_file() -> [u8; 280] {
 }
 
 /// Adds the claims of a file's loads and sections.
-fn add_sections_of(alloc: Global, file: &[u8], sheet: &mut ClaimSheet) -> Result<(), Fail>
+fn add_sections_of(rt: &impl Abort, alloc: Global, file: &[u8], sheet: &mut ClaimSheet)
     requires { length file.now < 2 ^ 32 }
 {
-    let macho = MachoFile::parse(file)?;
-    add_loads(&macho, Wrap::Plain, sheet)?;
-    add_sections(alloc, &macho, Wrap::Plain, sheet)?;
-    Ok(())
+    let macho = MachoFile::parse(file).expect(rt, "a sound file");
+    add_loads(&macho, Wrap::Plain, sheet).expect(rt, "loads");
+    add_sections(alloc, &macho, Wrap::Plain, sheet).expect(rt, "sections");
 }
 
 const SECTIONS: [Row<'static>; 7] = [
@@ -232,14 +228,13 @@ const SECTIONS: [Row<'static>; 7] = [
 ];
 
 #[test]
-fn sections_in_the_file_and_not(rt: HostRuntime) -> Result<(), Fail> {
+fn sections_in_the_file_and_not(rt: HostRuntime) {
     let alloc = rt.alloc();
     let mut pool = LabelPool::new(alloc);
     let mut sheet = ClaimSheet::begin(alloc, &mut pool, 100);
-    add_sections_of(alloc, &object(), &mut sheet)?;
-    add_sections_of(alloc, &debug_file(), &mut sheet)?;
+    add_sections_of(&rt, alloc, &object(), &mut sheet);
+    add_sections_of(&rt, alloc, &debug_file(), &mut sheet);
     assert_made(&rt, pool, sheet, &SECTIONS);
-    Ok(())
 }
 
 const LIBRARY_BYTES: [(usize, &[u8]); 7] = [
@@ -272,16 +267,15 @@ const LIBRARY: [Row<'static>; 6] = [
 ];
 
 #[test]
-fn parts_of_a_library(rt: HostRuntime) -> Result<(), Fail> {
+fn parts_of_a_library(rt: HostRuntime) {
     let alloc = rt.alloc();
     let file = library();
-    let macho = MachoFile::parse(&file)?;
+    let macho = MachoFile::parse(&file).expect(&rt, "a sound file");
     let mut pool = LabelPool::new(alloc);
     let mut sheet = ClaimSheet::begin(alloc, &mut pool, 100);
-    add_link_edit(&macho, &mut sheet)?;
-    add_symbols(alloc, &macho, &mut sheet)?;
+    add_link_edit(&macho, &mut sheet).expect(&rt, "parts");
+    add_symbols(alloc, &macho, &mut sheet).expect(&rt, "symbols");
     assert_made(&rt, pool, sheet, &LIBRARY);
-    Ok(())
 }
 
 const UNMAPPED_BYTES: [(usize, &[u8]); 4] = [
@@ -304,18 +298,17 @@ const UNMAPPED: [Row<'static>; 2] = [
 ];
 
 #[test]
-fn a_segment_that_is_never_mapped(rt: HostRuntime) -> Result<(), Fail> {
+fn a_segment_that_is_never_mapped(rt: HostRuntime) {
     let alloc = rt.alloc();
     let file = unmapped();
-    let macho = MachoFile::parse(&file)?;
+    let macho = MachoFile::parse(&file).expect(&rt, "a sound file");
     assert_eq!(rt; load_slots(&macho), 1);
     assert_eq!(rt; load_at(&macho, 0), None);
     let mut pool = LabelPool::new(alloc);
     let mut sheet = ClaimSheet::begin(alloc, &mut pool, 100);
-    add_loads(&macho, Wrap::Plain, &mut sheet)?;
-    add_headers(&macho, &mut sheet)?;
+    add_loads(&macho, Wrap::Plain, &mut sheet).expect(&rt, "loads");
+    add_headers(&macho, &mut sheet).expect(&rt, "headers");
     assert_made(&rt, pool, sheet, &UNMAPPED);
-    Ok(())
 }
 
 const UNIT_FILE_BYTES: [(usize, &[u8]); 9] = [
@@ -339,14 +332,13 @@ fn unit_file() -> [u8; 233] {
 }
 
 #[test]
-fn debug_sections_by_their_names(rt: HostRuntime) -> Result<(), Fail> {
+fn debug_sections_by_their_names(rt: HostRuntime) {
     let file = unit_file();
-    let macho = MachoFile::parse(&file)?;
-    let sections = debug_sections(&macho)?;
+    let macho = MachoFile::parse(&file).expect(&rt, "a sound file");
+    let sections = debug_sections(&macho).expect(&rt, "debug sections");
     assert_eq!(rt; (sections.info.place(), sections.info.left()), (220, 12));
     assert_eq!(rt; (sections.abbrev.place(), sections.abbrev.left()), (232, 1));
     assert_eq!(rt; (sections.lines.place(), sections.lines.left()), (0, 0));
-    Ok(())
 }
 
 const UNITS: [Row<'static>; 2] = [
@@ -355,24 +347,23 @@ const UNITS: [Row<'static>; 2] = [
 ];
 
 #[test]
-fn units_of_a_debug_file(rt: HostRuntime) -> Result<(), Fail> {
+fn units_of_a_debug_file(rt: HostRuntime) {
     let alloc = rt.alloc();
     let file = unit_file();
-    let macho = MachoFile::parse(&file)?;
+    let macho = MachoFile::parse(&file).expect(&rt, "a sound file");
     let mut pool = LabelPool::new(alloc);
     let mut sheet = ClaimSheet::begin(alloc, &mut pool, 100);
-    add_units(alloc, &macho, &mut sheet)?;
-    add_lines(alloc, &macho, &mut sheet)?;
+    add_units(alloc, &macho, &mut sheet).expect(&rt, "units");
+    add_lines(alloc, &macho, &mut sheet).expect(&rt, "lines");
     assert_made(&rt, pool, sheet, &UNITS);
-    Ok(())
 }
 
 #[test]
-fn debug_sections_of_an_object_are_not_read(rt: HostRuntime) -> Result<(), Fail> {
+fn debug_sections_of_an_object_are_not_read(rt: HostRuntime) {
     let alloc = rt.alloc();
     let mut file = unit_file();
     put(&mut file, 12, b"\x01");
-    let macho = MachoFile::parse(&file)?;
+    let macho = MachoFile::parse(&file).expect(&rt, "a sound file");
     let mut pool = LabelPool::new(alloc);
     let mut sheet = ClaimSheet::begin(alloc, &mut pool, 100);
     let bad = BadFile {
@@ -381,5 +372,4 @@ fn debug_sections_of_an_object_are_not_read(rt: HostRuntime) -> Result<(), Fail>
     };
     assert_eq!(rt; add_units(alloc, &macho, &mut sheet), Err(Stop::Bad(bad)));
     assert_eq!(rt; add_lines(alloc, &macho, &mut sheet), Err(Stop::Bad(bad)));
-    Ok(())
 }

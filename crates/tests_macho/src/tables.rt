@@ -1,14 +1,13 @@
 //! Headers, commands, segments, sections and symbols of Mach-O files.
 
-ghost use Rattle.std.specs.Prelude.{◌≡◌, ◌+◌, ◌≤◌, IfOk, length};
+ghost use Rattle.std.specs.Prelude.{◌≡◌, ◌+◌, ◌≤◌, length};
 
 use byte_cursor::Order;
 use macho_file::{Encoding, LinkEdit, MachoFile, MachoSection, MachoSegment, SpanAnswer};
 use sample_files::{put, put_all};
 use size_core::{BadFile, Fault};
-use std::alloc::{AllocError, Global};
+use std::alloc::Global;
 use std::process::Abort;
-use std::test::Fail;
 
 const PROGRAM_BYTES: [(usize, &[u8]); 16] = [
     (
@@ -37,12 +36,10 @@ const PROGRAM_BYTES: [(usize, &[u8]); 16] = [
 
 /// A program of 64 bits: no access to the first 4 GiB, code of 16 bytes at 2048, and three symbols at 4096, of
 /// which the first is for a debugger.
-fn program(alloc: Global) -> Result<Vec<u8>, AllocError>
-    ensures { IfOk result (λ v. length v.items ≡ 4152) }
-{
-    let mut file = vec![in alloc; 0u8; 4152]?;
+fn program() -> [u8; 4152] {
+    let mut file = [0; 4152];
     put_all(&mut file, &PROGRAM_BYTES);
-    Ok(file)
+    file
 }
 
 const ALL_ONES: &[u8] = b"\xff\xff\xff\xff\xff\xff\xff\xff";
@@ -76,27 +73,20 @@ const FIRST_FAULTS: [(usize, &[u8], usize, Option<(Fault, u64)>); 23] = [
 ];
 
 /// The fault of the program with these bytes written over it, of which so many are kept.
-fn fault_with(
-    rt: &impl Abort,
-    alloc: Global,
-    at: usize,
-    bytes: &[u8],
-    len: usize,
-) -> Result<Option<BadFile>, Fail> {
-    let mut file = program(alloc)?;
+fn fault_with(rt: &impl Abort, at: usize, bytes: &[u8], len: usize) -> Option<BadFile> {
+    let mut file = program();
     assert!(rt; at < 400 && bytes.len() < 50 && len <= file.len());
     put(&mut file, at, bytes);
-    Ok(MachoFile::parse(&file[..len]).err())
+    MachoFile::parse(&file[..len]).err()
 }
 
 #[test]
-fn first_faults(rt: HostRuntime) -> Result<(), Fail> {
+fn first_faults(rt: HostRuntime) {
     for &(at, bytes, len, want) in &FIRST_FAULTS {
-        let found = fault_with(&rt, rt.alloc(), at, bytes, len)?;
+        let found = fault_with(&rt, at, bytes, len);
         let want = want.map(|(fault, offset)| BadFile { fault, offset });
         assert_eq!(rt; found, want, "{bytes:?} at {at}, {len} bytes");
     }
-    Ok(())
 }
 
 /// The program has its header and its commands, of which the last places the symbols.
@@ -129,71 +119,74 @@ fn has_code(rt: &impl Abort, code: MachoSection<'_>) {
 }
 
 #[test]
-fn tables_of_a_program(rt: HostRuntime) -> Result<(), Fail> {
-    let file = program(rt.alloc())?;
-    let Ok(macho) = MachoFile::parse(&file) else {
-        panic!(rt; "the file is well formed");
-    };
+fn tables_of_a_program(rt: HostRuntime) {
+    let file = program();
+    let macho = MachoFile::parse(&file).expect(&rt, "a sound file");
     has_commands(&rt, &macho);
     assert_eq!(rt; (macho.segment_count(), macho.section_count()), (3, 1));
     has_text(&rt, macho.segment(1));
     has_code(&rt, macho.section(0));
     assert_eq!(rt; macho.section_bytes(0).len(), 16);
     assert_eq!(rt; macho.bytes().len(), 4152);
-    Ok(())
 }
 
+const COMMANDS: [(u64, u32); 4] = [(32, 25), (104, 25), (256, 25), (328, 2)];
+
 /// The program's commands, in order.
-fn commands_follow(rt: &impl Abort, macho: &MachoFile<'_>) -> Result<(), Fail> {
+fn commands_follow(rt: &impl Abort, macho: &MachoFile<'_>) {
     let mut commands = macho.commands();
-    for (place, kind) in [(32, 25), (104, 25), (256, 25), (328, 2)] {
-        let command = commands.next().ok_or("a command")?;
+    for (place, kind) in COMMANDS {
+        let command = commands.next().expect(rt, "a command");
         assert_eq!(rt; (command.place, command.kind), (place, kind));
     }
     assert!(rt; commands.next().is_none());
-    Ok(())
 }
 
-/// The program's segments and its one section, in order.
-fn segments_follow(rt: &impl Abort, macho: &MachoFile<'_>) -> Result<(), Fail> {
+const SEGMENTS: [(u64, u32, u32); 3] = [(32, 0, 0), (104, 5, 0), (256, 1, 1)];
+
+/// The program's segments, in order.
+fn segments_follow(rt: &impl Abort, macho: &MachoFile<'_>) {
     let mut segments = macho.segments();
-    for (place, maxprot, first) in [(32, 0, 0), (104, 5, 0), (256, 1, 1)] {
-        let segment = segments.next().ok_or("a segment")?;
+    for (place, maxprot, first) in SEGMENTS {
+        let segment = segments.next().expect(rt, "a segment");
         assert_eq!(rt;
             (segment.place, segment.maxprot, segment.first),
             (place, maxprot, first)
         );
     }
     assert!(rt; segments.next().is_none());
-    let mut sections = macho.sections();
-    assert_eq!(rt; sections.next().ok_or("a section")?.place, 176);
-    assert!(rt; sections.next().is_none());
-    Ok(())
 }
 
+/// The program's one section.
+fn sections_follow(rt: &impl Abort, macho: &MachoFile<'_>) {
+    let mut sections = macho.sections();
+    assert_eq!(rt; sections.next().expect(rt, "a section").place, 176);
+    assert!(rt; sections.next().is_none());
+}
+
+const PARTS: [(LinkEdit, u64, u64); 2] = [
+    (LinkEdit::SymbolTable, 4096, 48),
+    (LinkEdit::StringTable, 4144, 8),
+];
+
 /// The parts that the program's last command places, in order.
-fn parts_follow(rt: &impl Abort, macho: &MachoFile<'_>) -> Result<(), Fail> {
+fn parts_follow(rt: &impl Abort, macho: &MachoFile<'_>) {
     let mut parts = macho.link_edit_parts();
-    for (kind, offset, len) in [
-        (LinkEdit::SymbolTable, 4096, 48),
-        (LinkEdit::StringTable, 4144, 8),
-    ] {
-        let part = parts.next().ok_or("a part")?;
+    for (kind, offset, len) in PARTS {
+        let part = parts.next().expect(rt, "a part");
         assert_eq!(rt; (part.kind, part.offset, part.len), (kind, offset, len));
     }
     assert!(rt; parts.next().is_none());
-    Ok(())
 }
 
 #[test]
-fn rows_of_a_program(rt: HostRuntime) -> Result<(), Fail> {
-    let file = program(rt.alloc())?;
-    let Ok(macho) = MachoFile::parse(&file) else {
-        panic!(rt; "the file is well formed");
-    };
-    commands_follow(&rt, &macho)?;
-    segments_follow(&rt, &macho)?;
-    parts_follow(&rt, &macho)
+fn rows_of_a_program(rt: HostRuntime) {
+    let file = program();
+    let macho = MachoFile::parse(&file).expect(&rt, "a sound file");
+    commands_follow(&rt, &macho);
+    segments_follow(&rt, &macho);
+    sections_follow(&rt, &macho);
+    parts_follow(&rt, &macho);
 }
 
 /// How many symbols have spans, and the length of the first one's.
@@ -239,39 +232,33 @@ fn spans_with(
     at: usize,
     bytes: &[u8],
     len: usize,
-) -> Result<Result<(usize, u64), SpanAnswer>, Fail> {
-    let mut file = program(alloc)?;
+) -> Result<(usize, u64), SpanAnswer> {
+    let mut file = program();
     assert!(rt; at < 4140 && bytes.len() < 5 && len <= file.len());
     put(&mut file, at, bytes);
-    Ok(spans_in(alloc, &file[..len]))
+    spans_in(alloc, &file[..len])
 }
 
 #[test]
-fn spans_of_symbols(rt: HostRuntime) -> Result<(), Fail> {
+fn spans_of_symbols(rt: HostRuntime) {
     for &(at, bytes, len, want) in &SPANS {
-        let found = spans_with(&rt, rt.alloc(), at, bytes, len)?;
+        let found = spans_with(&rt, rt.alloc(), at, bytes, len);
         let want = want.map_err(|(fault, offset)| SpanAnswer::Bad(BadFile { fault, offset }));
         assert_eq!(rt; found, want, "{bytes:?} at {at}, {len} bytes");
     }
-    Ok(())
 }
 
 #[test]
-fn symbols_of_a_program(rt: HostRuntime) -> Result<(), Fail> {
-    let file = program(rt.alloc())?;
-    let Ok(macho) = MachoFile::parse(&file) else {
-        panic!(rt; "the file is well formed");
-    };
+fn symbols_of_a_program(rt: HostRuntime) {
+    let file = program();
+    let macho = MachoFile::parse(&file).expect(&rt, "a sound file");
     let Ok(3) = macho.symbol_count() else {
         panic!(rt; "there are three symbols");
     };
-    let Ok(symbol) = macho.symbol(2) else {
-        panic!(rt; "the symbol has a name");
-    };
+    let symbol = macho.symbol(2).expect(&rt, "a symbol with a name");
     assert!(rt; symbol.name == b"_b".as_slice());
     assert_eq!(rt; (symbol.place, symbol.kind, symbol.sect), (4128, 15, 1));
     assert_eq!(rt; symbol.value, 0x1_0000_080c);
-    Ok(())
 }
 
 /// Writes a number of four bytes.
@@ -312,19 +299,18 @@ const FIRST_PARTS: [(u32, LinkEdit); 10] = [
 ];
 
 #[test]
-fn first_part_of_each_command(rt: HostRuntime) -> Result<(), Fail> {
+fn first_part_of_each_command(rt: HostRuntime) {
     for (command, kind) in FIRST_PARTS {
         let mut file = [0; 80];
         put_command(&mut file, command);
-        let macho = MachoFile::parse(&file)?;
-        let part = macho.link_edit_parts().next().ok_or("a part")?;
+        let macho = MachoFile::parse(&file).expect(&rt, "a sound file");
+        let part = macho.link_edit_parts().next().expect(&rt, "a part");
         assert_eq!(rt;
             (part.kind, part.offset, part.len),
             (kind, 64, 3),
             "{command}"
         );
     }
-    Ok(())
 }
 
 /// Writes a file of 256 bytes: one segment of 4096 bytes at 65536, with no access, whose one section has the 16
@@ -392,9 +378,7 @@ fn files_of_each_class_and_order(rt: HostRuntime) {
         let mut file = [0; 256];
         assert!(rt; name.len() <= 16);
         put_file(&mut file, Encoding { wide, order }, kind, name, flags);
-        let Ok(macho) = MachoFile::parse(&file) else {
-            panic!(rt; "the file is well formed");
-        };
+        let macho = MachoFile::parse(&file).expect(&rt, "a sound file");
         assert_eq!(rt;
             (macho.wide(), macho.order(), macho.kind()),
             (wide, order, kind)
@@ -414,9 +398,7 @@ const SEGMENT_WITHOUT_ACCESS_OR_SECTIONS_BYTES: [(usize, &[u8]); 4] = [
 fn segment_without_access_or_sections(rt: HostRuntime) {
     let mut file = [0; 84];
     put_all(&mut file, &SEGMENT_WITHOUT_ACCESS_OR_SECTIONS_BYTES);
-    let Ok(macho) = MachoFile::parse(&file) else {
-        panic!(rt; "the file is well formed");
-    };
+    let macho = MachoFile::parse(&file).expect(&rt, "a sound file");
     assert!(rt; macho.segment_count() == 1 && macho.section_count() == 0);
     let segment = macho.segment(0);
     assert_eq!(rt;

@@ -11,7 +11,6 @@ use std::alloc::Global;
 use std::marker::Brand;
 use std::process::Abort;
 use std::sync::ledger::{Blank, Ledger};
-use std::test::Fail;
 
 // The label of a byte that no claim covers.
 const UNMAPPED: usize = 9;
@@ -199,14 +198,17 @@ fn bytes_follow(rt: &impl Abort, base: &Base, maps: &DualMap, plain: &Plain<'_>)
 }
 
 // Compares what is built with the pieces of the example and with the plain program.
-fn follows(rt: &impl Abort, alloc: Global, example: &Example<'_>) -> Result<(), Fail> {
+fn follows(rt: &impl Abort, alloc: Global, example: &Example<'_>) {
     assert!(rt; example.len < 1 << 63);
-    let loads = loads_of(rt, alloc, example.loads)?;
-    let claims = claims_of(alloc, example.claims)?;
-    let base = Base::from_loads(alloc, example.len, loads.as_slice())?;
-    assert_eq!(rt; base.mapped_size(), example.mapped);
-    assert_eq!(rt; base.pieces(), example.pieces);
-    let maps = DualMap::build(alloc, &base, example.len, claims.as_slice(), UNMAPPED)?;
+    let loads = loads_of(rt, alloc, example.loads);
+    let claims = claims_of(rt, alloc, example.claims);
+    let base = Base::from_loads(alloc, example.len, loads.as_slice()).expect(rt, "memory");
+    assert_eq!(rt;
+        (base.mapped_size(), base.pieces()),
+        (example.mapped, example.pieces)
+    );
+    let maps = DualMap::build(alloc, &base, example.len, claims.as_slice(), UNMAPPED);
+    let maps = maps.expect(rt, "memory");
     has_pieces(rt, &maps, example);
     let plain = Plain {
         len: example.len,
@@ -214,7 +216,6 @@ fn follows(rt: &impl Abort, alloc: Global, example: &Example<'_>) -> Result<(), 
         claims: claims.as_slice(),
     };
     bytes_follow(rt, &base, &maps, &plain);
-    Ok(())
 }
 
 const SPACE: u128 = 1 << 64;
@@ -257,8 +258,8 @@ const EXECUTABLE: Example<'static> = Example {
 };
 
 #[test]
-fn an_executable_is_labelled(rt: HostRuntime) -> Result<(), Fail> {
-    follows(&rt, rt.alloc(), &EXECUTABLE)
+fn an_executable_is_labelled(rt: HostRuntime) {
+    follows(&rt, rt.alloc(), &EXECUTABLE);
 }
 
 // Sections, the header, its tables, then the load. The last section, 5, has addresses and no file bytes.
@@ -303,8 +304,8 @@ const LARGE_BSS: Example<'static> = Example {
 };
 
 #[test]
-fn a_large_section_without_file_bytes(rt: HostRuntime) -> Result<(), Fail> {
-    follows(&rt, rt.alloc(), &LARGE_BSS)
+fn a_large_section_without_file_bytes(rt: HostRuntime) {
+    follows(&rt, rt.alloc(), &LARGE_BSS);
 }
 
 // The thread-local section before it claims nothing of the addresses of section 0.
@@ -346,8 +347,8 @@ const THREAD_LOCAL: Example<'static> = Example {
 };
 
 #[test]
-fn addresses_of_a_thread_local_section(rt: HostRuntime) -> Result<(), Fail> {
-    follows(&rt, rt.alloc(), &THREAD_LOCAL)
+fn addresses_of_a_thread_local_section(rt: HostRuntime) {
+    follows(&rt, rt.alloc(), &THREAD_LOCAL);
 }
 
 // Two symbols begin at one address, and the section ends after both.
@@ -382,8 +383,8 @@ const TWO_SYMBOLS: Example<'static> = Example {
 };
 
 #[test]
-fn symbols_at_one_address(rt: HostRuntime) -> Result<(), Fail> {
-    follows(&rt, rt.alloc(), &TWO_SYMBOLS)
+fn symbols_at_one_address(rt: HostRuntime) {
+    follows(&rt, rt.alloc(), &TWO_SYMBOLS);
 }
 
 // Two loads share addresses and offsets, one has more file bytes than addresses, one ends a space and is cut by
@@ -437,9 +438,9 @@ const EMPTY: Example<'static> = Example {
 };
 
 #[test]
-fn claims_are_carried(rt: HostRuntime) -> Result<(), Fail> {
-    follows(&rt, rt.alloc(), &CARRIED)?;
-    follows(&rt, rt.alloc(), &EMPTY)
+fn claims_are_carried(rt: HostRuntime) {
+    follows(&rt, rt.alloc(), &CARRIED);
+    follows(&rt, rt.alloc(), &EMPTY);
 }
 
 // Two loads have the same bytes: by loads, and by sections.
@@ -501,7 +502,7 @@ const TWICE_BY_SECTIONS: Example<'static> = Example {
 };
 
 #[test]
-fn bytes_that_are_loaded_twice(rt: HostRuntime) -> Result<(), Fail> {
-    follows(&rt, rt.alloc(), &TWICE_BY_LOADS)?;
-    follows(&rt, rt.alloc(), &TWICE_BY_SECTIONS)
+fn bytes_that_are_loaded_twice(rt: HostRuntime) {
+    follows(&rt, rt.alloc(), &TWICE_BY_LOADS);
+    follows(&rt, rt.alloc(), &TWICE_BY_SECTIONS);
 }

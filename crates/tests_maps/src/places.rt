@@ -5,11 +5,10 @@ ghost use Rattle.size_core.specs.declared.claim.Claim.{Claim as ClaimSpec};
 
 use crate::rows::{ClaimRow, LoadRow, NOWHERE, claims_of, loads_of};
 use dual_map::Base;
-use place_explain::{Explained, covers, explain, explain_source, is_inside};
+use place_explain::{Explained, Numbers, covers, explain, explain_source, is_inside};
 use size_core::{Claim, LabelPool, Place, Side};
 use std::alloc::Global;
 use std::process::Abort;
-use std::test::Fail;
 
 // A file with its claims.
 #[derive(Clone, Copy)]
@@ -20,12 +19,12 @@ struct Example<'a> {
 }
 
 // The base of an example, whose loads end in their spaces.
-fn base_of(rt: &impl Abort, alloc: Global, example: &Example<'_>) -> Result<Base, Fail>
-    ensures { IfOk result (λ base. base.len ≡ example.now.len) }
+fn base_of(rt: &impl Abort, alloc: Global, example: &Example<'_>) -> Base
+    ensures { result.len ≡ example.now.len }
 {
-    let loads = loads_of(rt, alloc, example.loads)?;
+    let loads = loads_of(rt, alloc, example.loads);
     assert!(rt; example.len < 1 << 63);
-    Ok(Base::from_loads(alloc, example.len, loads.as_slice())?)
+    Base::from_loads(alloc, example.len, loads.as_slice()).expect(rt, "memory")
 }
 
 // How many claims cover an offset or an address.
@@ -44,25 +43,23 @@ fn count_covering(base: &Base, len: u64, claims: &[Claim], place: &Place) -> usi
 // An offset or an address, and the numbers of the claims that cover it.
 type Covered<'a> = (Place, &'a [u64]);
 
-// The claims that cover an offset or an address have these numbers.
-fn is_covered(
-    rt: &impl Abort,
-    alloc: Global,
-    example: &Example<'_>,
-    &(place, want): &Covered<'_>,
-) -> Result<(), Fail> {
-    let base = base_of(rt, alloc, example)?;
-    let claims = claims_of(alloc, example.claims)?;
-    assert!(rt; is_inside(&base, example.len, &place));
-    let numbers = explain(alloc, &base, example.len, claims.as_slice(), &place)?;
+fn are(rt: &impl Abort, numbers: &Numbers, want: &[u64]) {
     assert_eq!(rt; numbers.len(), want.len());
     for (k, number) in want.iter().enumerate() {
         assert!(rt; k < numbers.len());
         assert_eq!(rt; *numbers.get(k), *number);
     }
+}
+
+// The claims that cover an offset or an address have these numbers.
+fn is_covered(rt: &impl Abort, alloc: Global, example: &Example<'_>, &(place, want): &Covered<'_>) {
+    let base = base_of(rt, alloc, example);
+    let claims = claims_of(rt, alloc, example.claims);
+    assert!(rt; is_inside(&base, example.len, &place));
+    let numbers = explain(alloc, &base, example.len, claims.as_slice(), &place);
+    are(rt, &numbers.expect(rt, "memory"), want);
     let count = count_covering(&base, example.len, claims.as_slice(), &place);
     assert_eq!(rt; count, want.len());
-    Ok(())
 }
 
 const SECTIONS: Example<'static> = Example {
@@ -93,15 +90,14 @@ const OUTSIDE: [Place; 3] = [
 ];
 
 #[test]
-fn claims_of_sections_cover(rt: HostRuntime) -> Result<(), Fail> {
+fn claims_of_sections_cover(rt: HostRuntime) {
     for case in &IN_SECTIONS {
-        is_covered(&rt, rt.alloc(), &SECTIONS, case)?;
+        is_covered(&rt, rt.alloc(), &SECTIONS, case);
     }
-    let base = base_of(&rt, rt.alloc(), &SECTIONS)?;
+    let base = base_of(&rt, rt.alloc(), &SECTIONS);
     for place in &OUTSIDE {
         assert!(rt; !is_inside(&base, 352, place));
     }
-    Ok(())
 }
 
 // Two loads share addresses and offsets, one has more file bytes than addresses, and one is cut by the file's end.
@@ -136,11 +132,25 @@ const IN_LOADED: [Covered<'static>; 12] = [
 ];
 
 #[test]
-fn claims_cover_what_is_loaded(rt: HostRuntime) -> Result<(), Fail> {
+fn claims_cover_what_is_loaded(rt: HostRuntime) {
     for case in &IN_LOADED {
-        is_covered(&rt, rt.alloc(), &LOADED, case)?;
+        is_covered(&rt, rt.alloc(), &LOADED, case);
     }
-    Ok(())
+}
+
+fn pool_of(rt: &impl Abort, alloc: Global, labels: &[&[u8]]) -> LabelPool {
+    let mut pool = LabelPool::new(alloc);
+    for label in labels {
+        pool.intern(label).expect(rt, "memory");
+    }
+    pool
+}
+
+// Whether the labels of claims are numbers below another one.
+fn are_below(claims: &[Claim], count: usize) -> bool
+    ensures { IsTrue result → All (λ (c : ClaimSpec). c.label < count) claims.now }
+{
+    claims.iter().all(|claim| claim.label < count)
 }
 
 // The explanation of an offset or an address of an example. Claim k has the k-th of these labels, and the last label is
@@ -152,33 +162,16 @@ fn said(
     labels: &[&[u8]],
     place: Place,
     limit: u32,
-) -> Result<Explained, Fail> {
-    let mut pool = LabelPool::new(alloc);
-    for label in labels {
-        pool.intern(label)?;
-    }
-    let base = base_of(rt, alloc, example)?;
-    let claims = claims_of(alloc, example.claims)?;
+) -> Explained {
+    let pool = pool_of(rt, alloc, labels);
+    let base = base_of(rt, alloc, example);
+    let claims = claims_of(rt, alloc, example.claims);
+    let claims = claims.as_slice();
     assert!(rt; is_inside(&base, example.len, &place));
-    assert!(rt; are_below(claims.as_slice(), pool.len()));
+    assert!(rt; are_below(claims, pool.len()));
     assert!(rt; pool.len() > 0);
-    Ok(explain_source(
-        alloc,
-        &base,
-        example.len,
-        claims.as_slice(),
-        pool.len() - 1,
-        &pool,
-        &place,
-        limit,
-    )?)
-}
-
-// Whether the labels of claims are numbers below another one.
-fn are_below(claims: &[Claim], count: usize) -> bool
-    ensures { IsTrue result → All (λ (c : ClaimSpec). c.label < count) claims.now }
-{
-    claims.iter().all(|claim| claim.label < count)
+    let (len, unmapped) = (example.len, pool.len() - 1);
+    explain_source(alloc, &base, len, claims, unmapped, &pool, &place, limit).expect(rt, "memory")
 }
 
 const MANY: Example<'static> = Example {
@@ -207,9 +200,9 @@ const LIMITED: [Limited<'static>; 5] = [
 ];
 
 // The first claims that cover an offset, up to a limit.
-fn is_limited(rt: &impl Abort, alloc: Global, case: &Limited<'_>) -> Result<(), Fail> {
+fn is_limited(rt: &impl Abort, alloc: Global, case: &Limited<'_>) {
     let &(offset, limit, label, want, more) = case;
-    let said = said(rt, alloc, &MANY, &LABELS, Place::Offset(offset), limit)?;
+    let said = said(rt, alloc, &MANY, &LABELS, Place::Offset(offset), limit);
     assert!(rt; said.label.as_slice() == label);
     assert_eq!(rt; said.more, more);
     assert_eq!(rt; said.claims.len(), want.len());
@@ -219,15 +212,13 @@ fn is_limited(rt: &impl Abort, alloc: Global, case: &Limited<'_>) -> Result<(), 
         assert_eq!(rt; claim.number, number);
         assert!(rt; claim.label.as_slice() == label);
     }
-    Ok(())
 }
 
 #[test]
-fn a_limit_gives_the_first_and_so_many_more(rt: HostRuntime) -> Result<(), Fail> {
+fn a_limit_gives_the_first_and_so_many_more(rt: HostRuntime) {
     for case in &LIMITED {
-        is_limited(&rt, rt.alloc(), case)?;
+        is_limited(&rt, rt.alloc(), case);
     }
-    Ok(())
 }
 
 const FEW: Example<'static> = Example {
@@ -236,11 +227,11 @@ const FEW: Example<'static> = Example {
     claims: &[(Side::File, NOWHERE, (6, 3), 0)],
 };
 
+const FEW_LABELS: [&[u8]; 2] = [b"a", b"none"];
+
 #[test]
-fn nothing_covers(rt: HostRuntime) -> Result<(), Fail> {
-    let labels = [b"a".as_slice(), b"none"];
-    let said = said(&rt, rt.alloc(), &FEW, &labels, Place::Offset(5), 1)?;
+fn nothing_covers(rt: HostRuntime) {
+    let said = said(&rt, rt.alloc(), &FEW, &FEW_LABELS, Place::Offset(5), 1);
     assert!(rt; said.label.as_slice() == b"none".as_slice());
     assert_eq!(rt; (said.claims.len(), said.more), (0, 0));
-    Ok(())
 }

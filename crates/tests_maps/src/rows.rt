@@ -1,12 +1,11 @@
 //! Loads and claims as rows of numbers, so that files can be tables of constants.
 
-ghost use Rattle.std.specs.Prelude.{◌+◌, ◌^◌, ◌≤◌, IsTrue, IfOk, All};
+ghost use Rattle.std.specs.Prelude.{◌+◌, ◌^◌, ◌≤◌, IsTrue, All};
 ghost use Rattle.size_model.specs.Loads.{IsLoad};
 
 use size_core::{Claim, Load, Side, Span};
-use std::alloc::{AllocError, Global};
+use std::alloc::Global;
 use std::process::Abort;
-use std::test::Fail;
 
 /// A load: its space, its address and size there, its offset, and its size in the file.
 pub type LoadRow = (u32, u64, u64, u64, u64);
@@ -30,8 +29,8 @@ fn ends_in_space(load: Load) -> bool
 }
 
 /// The loads of an example, which end in their spaces.
-pub fn loads_of(rt: &impl Abort, alloc: Global, rows: &[LoadRow]) -> Result<Vec<Load>, Fail>
-    ensures { IfOk result (λ v. All IsLoad v.items) }
+pub fn loads_of(rt: &impl Abort, alloc: Global, rows: &[LoadRow]) -> Vec<Load>
+    ensures { All IsLoad result.items }
 {
     let mut out = Vec::new(alloc);
     for &(space, vaddr, memsz, offset, filesz) in rows {
@@ -43,21 +42,22 @@ pub fn loads_of(rt: &impl Abort, alloc: Global, rows: &[LoadRow]) -> Result<Vec<
             filesz,
         };
         assert!(rt; ends_in_space(load));
-        out.push(load)?;
+        out.push(load).expect(rt, "memory");
     }
-    Ok(out)
+    out
 }
 
 /// The claims of an example.
-pub fn claims_of(alloc: Global, rows: &[ClaimRow]) -> Result<Vec<Claim>, AllocError> {
+pub fn claims_of(rt: &impl Abort, alloc: Global, rows: &[ClaimRow]) -> Vec<Claim> {
     let mut out = Vec::new(alloc);
     for &(side, vm, file, label) in rows {
-        out.push(Claim {
+        let claim = Claim {
             side,
             vm: span(vm.0, vm.1, vm.2),
             file: span(0, file.0, file.1),
             label,
-        })?;
+        };
+        out.push(claim).expect(rt, "memory");
     }
-    Ok(out)
+    out
 }

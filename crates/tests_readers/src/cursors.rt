@@ -89,9 +89,9 @@ fn places_are_offsets_of_the_file(rt: HostRuntime) {
     assert!(rt; c.cstr() == missing);
     assert_eq!(rt; c.skip(1), Ok(()));
     assert_eq!(rt; c.left(), 0);
-    let Ok(mut window) = c.sub(15, 2) else {
-        panic!(rt; "these two bytes lie in the window");
-    };
+    let mut window = c
+        .sub(15, 2)
+        .expect(&rt, "these two bytes lie in the window");
     assert_eq!(rt; window.place(), 1015);
     assert_eq!(rt; window.u8(), Ok(b'a'));
 }

@@ -6,7 +6,6 @@ use byte_cursor::Order;
 use elf_file::ElfFile;
 use sample_files::{put, put_all};
 use size_core::{BadFile, Fault};
-use std::test::Fail;
 
 const PLAIN_FILE_BYTES: [(usize, &[u8]); 12] = [
     (0, b"\x7fELF\x02\x01\x01"),
@@ -88,9 +87,7 @@ fn first_faults(rt: HostRuntime) {
 #[test]
 fn tables_of_a_plain_file(rt: HostRuntime) {
     let file = plain_file();
-    let Ok(elf) = ElfFile::parse(&file) else {
-        panic!(rt; "the file is well formed");
-    };
+    let elf = ElfFile::parse(&file).expect(&rt, "the file is well formed");
     let header = elf.header();
     assert_eq!(rt; (header.kind, header.machine), (2, 0x3e));
     assert_eq!(rt; (header.phoff, header.shoff), (64, 160));
@@ -126,9 +123,7 @@ const BIG_ENDIAN_FILE_OF_32_BITS_BYTES: [(usize, &[u8]); 6] = [
 fn big_endian_file_of_32_bits(rt: HostRuntime) {
     let mut file = [0; 84];
     put_all(&mut file, &BIG_ENDIAN_FILE_OF_32_BITS_BYTES);
-    let Ok(elf) = ElfFile::parse(&file) else {
-        panic!(rt; "the file is well formed");
-    };
+    let elf = ElfFile::parse(&file).expect(&rt, "the file is well formed");
     let header = elf.header();
     assert_eq!(rt; (header.wide, header.order), (false, Order::Big));
     assert_eq!(rt; (header.kind, header.machine), (3, 8));
@@ -139,15 +134,12 @@ fn big_endian_file_of_32_bits(rt: HostRuntime) {
 }
 
 #[test]
-fn more_sections_than_the_header_can_count(rt: HostRuntime) -> Result<(), Fail> {
-    let mut file = vec![in rt.alloc(); 0u8; 160 + 64 * 65280]?;
+fn more_sections_than_the_header_can_count(rt: HostRuntime) {
+    let mut file = vec![in rt.alloc(); 0u8; 160 + 64 * 65280].expect(&rt, "memory");
     put(&mut file, 0, &plain_file());
     put(&mut file, 60, b"\0");
     put(&mut file, 192, b"\0\xff");
-    let Ok(elf) = ElfFile::parse(&file) else {
-        panic!(rt; "the file is well formed");
-    };
+    let elf = ElfFile::parse(&file).expect(&rt, "the file is well formed");
     assert_eq!(rt; elf.header().sections, 65280);
     assert_eq!(rt; elf.find(b".data"), None);
-    Ok(())
 }

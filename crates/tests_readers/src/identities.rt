@@ -150,9 +150,7 @@ fn build_ids(rt: HostRuntime) {
         let mut file = elf();
         assert!(rt; at < 420 && bytes.len() < 20);
         put(&mut file, at, bytes);
-        let Ok(elf) = ElfFile::parse(&file) else {
-            panic!(rt; "the file is well formed");
-        };
+        let elf = ElfFile::parse(&file).expect(&rt, "the file is well formed");
         assert!(rt; elf_identity(&elf) == want, "{bytes:?} at {at}");
     }
 }
@@ -176,9 +174,7 @@ fn build_id_of_a_big_endian_file_of_32_bits(rt: HostRuntime) {
         84,
         b"\0\0\0\x04\0\0\0\x03\0\0\0\x03GNU\0\xaa\xbb\xcc",
     );
-    let Ok(elf) = ElfFile::parse(&file) else {
-        panic!(rt; "the file is well formed");
-    };
+    let elf = ElfFile::parse(&file).expect(&rt, "the file is well formed");
     assert!(rt; elf_identity(&elf) == Some(b"\xaa\xbb\xcc".as_slice()));
 }
 
@@ -200,9 +196,7 @@ fn uuids(rt: HostRuntime) {
         put(&mut file, 56, b"\x1b\0\0\0\x18\0\0\0ghijklmnopqrstuv");
         assert!(rt; at < 40 && bytes.len() < 20);
         put(&mut file, at, bytes);
-        let Ok(macho) = MachoFile::parse(&file) else {
-            panic!(rt; "the file is well formed");
-        };
+        let macho = MachoFile::parse(&file).expect(&rt, "the file is well formed");
         assert!(rt; macho_identity(&macho) == want, "{bytes:?} at {at}");
     }
 }

@@ -6,7 +6,6 @@ use elf_file::ElfFile;
 use elf_symbols::{NumbersIndex, SHT_DYNSYM, SHT_SYMTAB, SHT_SYMTAB_SHNDX, SymbolTable};
 use sample_files::{put, put_all};
 use size_core::{BadFile, Fault};
-use std::test::Fail;
 
 const PUT_SYMBOLS_BYTES: [(usize, &[u8]); 3] = [
     (64, b"\x01\0\0\0\x12\0\x03\0\x78\0\x40\0\0\0\0\0\x08"),
@@ -49,29 +48,23 @@ fn file_with_symbols() -> [u8; 384] {
 #[test]
 fn symbols_of_a_table(rt: HostRuntime) {
     let file = file_with_symbols();
-    let Ok(elf) = ElfFile::parse(&file) else {
-        panic!(rt; "the file is well formed");
-    };
+    let elf = ElfFile::parse(&file).expect(&rt, "the file is well formed");
     assert!(rt; elf.header().sections > 1 && elf.section(1).kind == SHT_SYMTAB);
-    let Ok(table) = SymbolTable::at(&elf, 1) else {
-        panic!(rt; "section 1 names a section");
-    };
+    let table = SymbolTable::at(&elf, 1).expect(&rt, "section 1 names a section");
     assert_eq!(rt; table.len(), 2);
-    let Ok(first) = table.symbol(0) else {
-        panic!(rt; "the first symbol has its name");
-    };
+    let first = table.symbol(0).expect(&rt, "the first symbol has its name");
     assert!(rt; first.name == b"a".as_slice());
     assert_eq!(rt; (first.place, first.value), (64, 0x400078));
     assert_eq!(rt; (first.size, first.kind), (8, 2));
     assert_eq!(rt; (first.shndx, first.section), (3, 3));
-    let Ok(second) = table.symbol(1) else {
-        panic!(rt; "the second symbol has its section");
-    };
+    let second = table
+        .symbol(1)
+        .expect(&rt, "the second symbol has its section");
     assert!(rt; second.name == b"bc".as_slice());
     assert_eq!(rt; (second.shndx, second.section), (0xffff, 0x10000));
 }
 
-/// The fault of the table in section 1 or, if it has none, of its second symbol, where bytes are written over.
+/// The fault of the table in section 1 or, if it has none, of its second symbol, once bytes are written over.
 fn fault_of(at: usize, bytes: &[u8]) -> Option<BadFile>
     requires { at + length bytes.now ≤ 384 }
 {
@@ -108,7 +101,7 @@ fn faults_of_a_table(rt: HostRuntime) {
     }
 }
 
-/// Writes the header of section `i`, where the headers begin at 144.
+/// Writes the header of section `i`. The headers begin at 144.
 fn put_section(file: &mut [u8], i: usize, kind: u32, bytes: (u8, u8), link: u8)
     requires index { i < 9 }
     requires kind { kind < 256 }
@@ -157,10 +150,10 @@ fn second_section(table: Result<SymbolTable<'_>, BadFile>) -> Result<u32, BadFil
 }
 
 #[test]
-fn first_numbers_of_each_table(rt: HostRuntime) -> Result<(), Fail> {
+fn first_numbers_of_each_table(rt: HostRuntime) {
     let file = file_with_tables();
-    let elf = ElfFile::parse(&file)?;
-    let numbers = NumbersIndex::of(rt.alloc(), &elf)?;
+    let elf = ElfFile::parse(&file).expect(&rt, "a sound file");
+    let numbers = NumbersIndex::of(rt.alloc(), &elf).expect(&rt, "memory");
     let none = BadFile {
         fault: Fault::BadIndex,
         offset: 88,
@@ -180,5 +173,4 @@ fn first_numbers_of_each_table(rt: HostRuntime) -> Result<(), Fail> {
             want
         );
     }
-    Ok(())
 }

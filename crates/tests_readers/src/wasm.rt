@@ -4,7 +4,7 @@ ghost use Rattle.std.specs.Prelude.{◌<◌, ◌^◌, length};
 
 use size_core::{BadFile, Fault};
 use std::alloc::Global;
-use std::test::Fail;
+use std::process::Abort;
 use wasm_file::{WasmAnswer, WasmFile};
 
 /// Three imported functions, one with a body, and a section of names that is cut short.
@@ -76,23 +76,22 @@ fn faults_of_cut_modules(rt: HostRuntime) {
     }
 }
 
+/// The sections of the module: the id, the offset, the length, and the first byte of the contents.
+const IN_ORDER: [(u8, u64, u64, u8); 5] = [
+    (1, 8, 6, 0x01),
+    (2, 14, 21, 0x03),
+    (3, 35, 4, 0x01),
+    (10, 39, 6, 0x01),
+    (0, 45, 10, 0x04),
+];
+
 #[test]
 fn sections_come_in_order(rt: HostRuntime) {
-    let Ok(module) = WasmFile::parse(&MODULE) else {
-        panic!(rt; "the module has no fault");
-    };
+    let module = WasmFile::parse(&MODULE).expect(&rt, "a sound file");
     assert!(rt; module.bytes() == MODULE.as_slice());
     let mut sections = module.sections();
-    for (id, place, len, first) in [
-        (1, 8, 6, 0x01),
-        (2, 14, 21, 0x03),
-        (3, 35, 4, 0x01),
-        (10, 39, 6, 0x01),
-        (0, 45, 10, 0x04),
-    ] {
-        let Some(section) = sections.next() else {
-            panic!(rt; "five sections stand there");
-        };
+    for (id, place, len, first) in IN_ORDER {
+        let section = sections.next().expect(&rt, "a section");
         assert_eq!(rt; (section.id, section.place, section.len), (id, place, len));
         assert_eq!(rt; section.name.is_some(), id == 0);
         let mut contents = section.contents;
@@ -116,54 +115,56 @@ fn names_borrow_the_file(rt: HostRuntime) {
     assert!(rt; name == Some(b"ab".as_slice()));
 }
 
-/// The fault of a module's functions.
-fn fault_of_functions(alloc: Global, file: &[u8]) -> Result<Option<WasmAnswer>, BadFile>
+/// The functions of a module have a fault at this offset, or none.
+fn has_fault(rt: &impl Abort, alloc: Global, file: &[u8], offset: Option<u64>)
     requires { length file.now < 2 ^ 32 }
 {
-    Ok(WasmFile::parse(file)?.functions(alloc).err())
+    let want = offset.map(|offset| {
+        WasmAnswer::Bad(BadFile {
+            fault: Fault::BadWasm,
+            offset,
+        })
+    });
+    let module = WasmFile::parse(file).expect(rt, "a sound file");
+    assert_eq!(rt; module.functions(alloc).err(), want, "{file:?}");
 }
 
 #[test]
 fn faults_of_functions(rt: HostRuntime) {
+    let alloc = rt.alloc();
+    has_fault(&rt, alloc, &MODULE, None);
+    has_fault(&rt, alloc, &NAMED, None);
     let mut many = MODULE;
     many[16] = 127;
+    has_fault(&rt, alloc, &many, Some(35));
     let mut unknown = NAMED;
     unknown[30] = 4;
+    has_fault(&rt, alloc, &unknown, Some(26));
     let mut long = NAMED;
     long[55] = 127;
-    let mut both = unknown;
-    both[55] = 127;
-    for (file, want) in [
-        (MODULE.as_slice(), None),
-        (NAMED.as_slice(), None),
-        (many.as_slice(), Some(35)),
-        (unknown.as_slice(), Some(26)),
-        (long.as_slice(), Some(55)),
-        (both.as_slice(), Some(26)),
-        (b"\0asm\x01\0\0\0\x02\0", Some(10)),
-        (b"\0asm\x01\0\0\0\x0a\0", Some(10)),
-    ] {
-        assert!(rt; file.len() < 100);
-        let want = want.map(|offset| {
-            WasmAnswer::Bad(BadFile {
-                fault: Fault::BadWasm,
-                offset,
-            })
-        });
-        assert_eq!(rt; fault_of_functions(rt.alloc(), file), Ok(want), "{file:?}");
-    }
+    has_fault(&rt, alloc, &long, Some(55));
+    unknown[55] = 127;
+    has_fault(&rt, alloc, &unknown, Some(26));
+    has_fault(&rt, alloc, b"\0asm\x01\0\0\0\x02\0", Some(10));
+    has_fault(&rt, alloc, b"\0asm\x01\0\0\0\x0a\0", Some(10));
 }
 
+/// A module, how many functions it has, the number of one among them, its index, its offset and its name.
+type Function<'a> = (&'a [u8], usize, usize, u32, u64, Option<&'a [u8]>);
+
+const FUNCTIONS: [Function<'static>; 4] = [
+    (&MODULE, 1, 0, 3, 42, None),
+    (&NAMED, 3, 0, 2, 49, Some(b"a")),
+    (&NAMED, 3, 1, 3, 52, None),
+    (&NAMED, 3, 2, 4, 55, None),
+];
+
 #[test]
-fn functions_have_indices_and_names(rt: HostRuntime) -> Result<(), Fail> {
-    for (file, count, j, index, place, name) in [
-        (MODULE.as_slice(), 1, 0, 3, 42, None),
-        (NAMED.as_slice(), 3, 0, 2, 49, Some(b"a".as_slice())),
-        (NAMED.as_slice(), 3, 1, 3, 52, None),
-        (NAMED.as_slice(), 3, 2, 4, 55, None),
-    ] {
+fn functions_have_indices_and_names(rt: HostRuntime) {
+    for (file, count, j, index, place, name) in FUNCTIONS {
         assert!(rt; file.len() < 100);
-        let functions = WasmFile::parse(file)?.functions(rt.alloc())?;
+        let module = WasmFile::parse(file).expect(&rt, "a sound file");
+        let functions = module.functions(rt.alloc()).expect(&rt, "functions");
         assert_eq!(rt; functions.len(), count);
         assert!(rt; j < functions.len());
         let function = functions[j];
@@ -173,24 +174,26 @@ fn functions_have_indices_and_names(rt: HostRuntime) -> Result<(), Fail> {
         );
         assert!(rt; function.name == name, "{index}");
     }
-    Ok(())
 }
+
+/// A module names its function of an index so, or not.
+fn has_name(rt: &impl Abort, file: &[u8], index: u32, want: Option<&[u8]>)
+    requires { length file.now < 2 ^ 32 }
+{
+    let module = WasmFile::parse(file).expect(rt, "a sound file");
+    assert!(rt; module.name_of(index) == want, "{index}");
+}
+
+/// The names of functions by their indices.
+const NAMES: [(u32, Option<&[u8]>); 4] = [(0, Some(b"imp")), (1, None), (2, Some(b"a")), (3, None)];
 
 #[test]
 fn names_of_functions(rt: HostRuntime) {
+    for (index, want) in NAMES {
+        has_name(&rt, &NAMED, index, want);
+    }
+    // One pair more than there are names nothing.
     let mut more = NAMED;
     more[72] = 6;
-    for (file, index, want) in [
-        (&NAMED, 0, Some(b"imp".as_slice())),
-        (&NAMED, 1, None),
-        (&NAMED, 2, Some(b"a".as_slice())),
-        (&NAMED, 3, None),
-        // One pair more than there are names nothing.
-        (&more, 0, None),
-    ] {
-        let Ok(module) = WasmFile::parse(file) else {
-            panic!(rt; "the module has no fault");
-        };
-        assert!(rt; module.name_of(index) == want, "{index}");
-    }
+    has_name(&rt, &more, 0, None);
 }

@@ -379,7 +379,7 @@ const WRITTEN: [Case<'static>; 6] = [
     },
 ];
 
-// A path is counted where the pattern is found in one of its labels.
+// A path is counted if the pattern is found in one of its labels.
 const FILTERED: [Case<'static>; 3] = [
     Case {
         words: &[

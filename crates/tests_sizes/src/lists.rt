@@ -5,17 +5,15 @@ ghost use Rattle.std.specs.Prelude.{◌≡◌, ◌<◌};
 use size_core::{Bytes, FULL, LabelPool, Names, Path, Source, Steps, Text};
 use std::marker::Brand;
 use std::sync::ledger::{Blank, Ledger};
-use std::test::Fail;
 
 #[test]
-fn labels_keep_their_numbers(rt: HostRuntime) -> Result<(), Fail> {
+fn labels_keep_their_numbers(rt: HostRuntime) {
     let mut pool = LabelPool::new(rt.alloc());
-    assert_eq!(rt; pool.intern(b".text")?, 0);
-    assert_eq!(rt; pool.intern(b"")?, 1);
-    assert_eq!(rt; pool.intern(b".text")?, 0);
+    assert_eq!(rt; pool.intern(b".text").expect(&rt, "memory"), 0);
+    assert_eq!(rt; pool.intern(b"").expect(&rt, "memory"), 1);
+    assert_eq!(rt; pool.intern(b".text").expect(&rt, "memory"), 0);
     assert_eq!(rt; pool.len(), 2);
     assert!(rt; pool.get(1) == b"".as_slice());
-    Ok(())
 }
 
 #[test]
@@ -26,21 +24,23 @@ fn limits_of_the_program(rt: HostRuntime) {
 }
 
 #[test]
-fn lists_hold_copies(rt: HostRuntime) -> Result<(), Fail> {
+fn lists_hold_copies(rt: HostRuntime) {
     let alloc = rt.alloc();
     let mut names = Names::new(alloc);
-    names.push(Text::of(alloc, "sections")?.copy()?)?;
+    let name = Text::of(alloc, "sections").expect(&rt, "memory");
+    names
+        .push(name.copy().expect(&rt, "memory"))
+        .expect(&rt, "memory");
     assert_eq!(rt; names.len(), 1);
     assert_eq!(rt; names.get(0).as_str(), "sections");
-    assert_eq!(rt;
-        Source::named(names.get(0).as_slice()),
-        Some(Source::Sections)
-    );
+    let source = Source::named(names.get(0).as_slice());
+    assert_eq!(rt; source, Some(Source::Sections));
     let mut path = Path::new(alloc);
-    path.push(Bytes::of(alloc, b"\xff")?.copy()?)?;
+    let label = Bytes::of(alloc, b"\xff").expect(&rt, "memory");
+    path.push(label.copy().expect(&rt, "memory"))
+        .expect(&rt, "memory");
     assert_eq!(rt; path.len(), 1);
     assert!(rt; path.get(0).as_slice() == b"\xff".as_slice());
-    Ok(())
 }
 
 // Counts to two, and says how many bytes the counter takes.

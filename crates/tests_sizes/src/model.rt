@@ -9,7 +9,6 @@ use size_model::{
 };
 use std::alloc::Global;
 use std::process::Abort;
-use std::test::Fail;
 
 // A claim's side, the start and length of its VM span and of its file span, and its label.
 type Row<'a> = (Side, (u64, u64), (u64, u64), &'a str);
@@ -120,11 +119,10 @@ fn first_other<'a>(
 }
 
 // The paths of a file have these sizes.
-fn has_sizes(rt: &impl Abort, alloc: Global, example: &Example<'_>) -> Result<(), Fail> {
-    let file = view(alloc, example)?;
-    let other = first_other(alloc, None, &file, example.sizes)?;
+fn has_sizes(rt: &impl Abort, alloc: Global, example: &Example<'_>) {
+    let file = view(alloc, example).expect(rt, "memory");
+    let other = first_other(alloc, None, &file, example.sizes).expect(rt, "memory");
     assert!(rt; other.is_none(), "{other:?}");
-    Ok(())
 }
 
 // One load of the first 136 bytes, a section of code, and a section table at 160.
@@ -161,8 +159,8 @@ const PLAIN: Example<'static> = Example {
 };
 
 #[test]
-fn plain_file(rt: HostRuntime) -> Result<(), Fail> {
-    has_sizes(&rt, rt.alloc(), &PLAIN)
+fn plain_file(rt: HostRuntime) {
+    has_sizes(&rt, rt.alloc(), &PLAIN);
 }
 
 const BY_SEGMENTS: Example<'static> = Example {
@@ -180,7 +178,7 @@ const BY_SEGMENTS: Example<'static> = Example {
     ],
 };
 
-// The sizes of the same file where only labels with a bracket count.
+// The sizes of the same file if only labels with a bracket count.
 const BRACKETED: [Sizes<'static>; 3] = [
     (&[], 120, 336),
     (&["LOAD #0 [RX]"], 120, 120),
@@ -188,13 +186,12 @@ const BRACKETED: [Sizes<'static>; 3] = [
 ];
 
 #[test]
-fn plain_file_by_two_data_sources(rt: HostRuntime) -> Result<(), Fail> {
+fn plain_file_by_two_data_sources(rt: HostRuntime) {
     let alloc = rt.alloc();
-    has_sizes(&rt, alloc, &BY_SEGMENTS)?;
-    let file = view(alloc, &BY_SEGMENTS)?;
-    let other = first_other(alloc, Some(&Bracketed), &file, &BRACKETED)?;
+    has_sizes(&rt, alloc, &BY_SEGMENTS);
+    let file = view(alloc, &BY_SEGMENTS).expect(&rt, "memory");
+    let other = first_other(alloc, Some(&Bracketed), &file, &BRACKETED).expect(&rt, "memory");
     assert!(rt; other.is_none(), "with a filter: {other:?}");
-    Ok(())
 }
 
 // A section of memory alone that has another section's addresses claims nothing.
@@ -221,8 +218,8 @@ const THREAD_LOCAL: Example<'static> = Example {
 };
 
 #[test]
-fn section_of_memory_alone_claims_nothing(rt: HostRuntime) -> Result<(), Fail> {
-    has_sizes(&rt, rt.alloc(), &THREAD_LOCAL)
+fn section_of_memory_alone_claims_nothing(rt: HostRuntime) {
+    has_sizes(&rt, rt.alloc(), &THREAD_LOCAL);
 }
 
 // The headers are loaded twice, and are in the file once.
@@ -257,8 +254,8 @@ const LOADED_TWICE: Example<'static> = Example {
 };
 
 #[test]
-fn two_loads_over_the_same_offsets(rt: HostRuntime) -> Result<(), Fail> {
-    has_sizes(&rt, rt.alloc(), &LOADED_TWICE)
+fn two_loads_over_the_same_offsets(rt: HostRuntime) {
+    has_sizes(&rt, rt.alloc(), &LOADED_TWICE);
 }
 
 // Symbols claim addresses, and the bytes that are loaded there.
@@ -279,8 +276,8 @@ const TWO_SYMBOLS: Example<'static> = Example {
 };
 
 #[test]
-fn symbols_claim_the_bytes_that_are_loaded(rt: HostRuntime) -> Result<(), Fail> {
-    has_sizes(&rt, rt.alloc(), &TWO_SYMBOLS)
+fn symbols_claim_the_bytes_that_are_loaded(rt: HostRuntime) {
+    has_sizes(&rt, rt.alloc(), &TWO_SYMBOLS);
 }
 
 // A WebAssembly module has no mapped addresses.
@@ -309,8 +306,8 @@ const MODULE: Example<'static> = Example {
 };
 
 #[test]
-fn module_has_no_addresses(rt: HostRuntime) -> Result<(), Fail> {
-    has_sizes(&rt, rt.alloc(), &MODULE)
+fn module_has_no_addresses(rt: HostRuntime) {
+    has_sizes(&rt, rt.alloc(), &MODULE);
 }
 
 // A section of memory alone that is too large to be walked.
@@ -339,8 +336,8 @@ const EDGE_ADDRESSES: [(u64, &str, bool); 6] = [
 const EDGE_OFFSETS: [(u64, &str); 3] = [(119, "[Unmapped]"), (120, ".text"), (136, "[Unmapped]")];
 
 #[test]
-fn edges_of_a_large_section(rt: HostRuntime) -> Result<(), Fail> {
-    let file = view(rt.alloc(), &LARGE_BSS)?;
+fn edges_of_a_large_section(rt: HostRuntime) {
+    let file = view(rt.alloc(), &LARGE_BSS).expect(&rt, "memory");
     assert!(rt; file.sources.len() > 0);
     let sections = file.sources.get(0);
     for &(address, label, is_mapped) in &EDGE_ADDRESSES {
@@ -355,7 +352,6 @@ fn edges_of_a_large_section(rt: HostRuntime) -> Result<(), Fail> {
         let found = label_of_offset(&file, sections, offset);
         assert!(rt; found.as_slice() == label.as_bytes(), "{label} at {offset}");
     }
-    Ok(())
 }
 
 const LAST_PAGE: u64 = u64::MAX - 4095;
@@ -394,9 +390,9 @@ const EDGE_LOADED: [(u64, Option<(u32, u128)>); 4] = [
 ];
 
 #[test]
-fn edges_of_loads(rt: HostRuntime) -> Result<(), Fail> {
+fn edges_of_loads(rt: HostRuntime) {
     let alloc = rt.alloc();
-    let file = view(alloc, &EDGES)?;
+    let file = view(alloc, &EDGES).expect(&rt, "memory");
     for &(space, address, offset) in &EDGE_PLACES {
         assert_eq!(rt;
             place(100, &file.loads, space, address),
@@ -407,7 +403,7 @@ fn edges_of_loads(rt: HostRuntime) -> Result<(), Fail> {
     for &(offset, address) in &EDGE_LOADED {
         assert_eq!(rt; addr(100, &file.loads, offset), address, "at {offset}");
     }
-    has_sizes(&rt, alloc, &EDGES)
+    has_sizes(&rt, alloc, &EDGES);
 }
 
 const NUMBERED: [Claim; 2] = [
@@ -442,9 +438,11 @@ const NUMBERED: [Claim; 2] = [
 ];
 
 #[test]
-fn labels_by_number(rt: HostRuntime) -> Result<(), Fail> {
+fn labels_by_number(rt: HostRuntime) {
     let mut loads = List::new(rt.alloc());
-    loads.push(load(0x400000, 136, 0, 136))?;
+    loads
+        .push(load(0x400000, 136, 0, 136))
+        .expect(&rt, "memory");
     for (offset, label) in [(119, 0), (120, 1), (127, 1), (128, 2), (132, 0)] {
         assert_eq!(rt;
             offset_label(352, &loads, 0, &NUMBERED, offset),
@@ -458,11 +456,10 @@ fn labels_by_number(rt: HostRuntime) -> Result<(), Fail> {
             "at {address}"
         );
     }
-    Ok(())
 }
 
 #[test]
-fn paths_of_single_bytes(rt: HostRuntime) -> Result<(), Fail> {
+fn paths_of_single_bytes(rt: HostRuntime) {
     cut_is_unique();
     cut_has_labels();
     range_adds_two_places();
@@ -473,15 +470,14 @@ fn paths_of_single_bytes(rt: HostRuntime) -> Result<(), Fail> {
     rewriting_is_by_label();
 
     let alloc = rt.alloc();
-    let file = view(alloc, &BY_SEGMENTS)?;
-    let wanted = path_of(alloc, &["LOAD #0 [RX]", ".text"])?;
+    let file = view(alloc, &BY_SEGMENTS).expect(&rt, "memory");
+    let wanted = path_of(alloc, &["LOAD #0 [RX]", ".text"]).expect(&rt, "memory");
     for path in [
-        offset_path(alloc, &file, 120)?,
-        address_path(alloc, &file, 0, 0x400078)?,
+        offset_path(alloc, &file, 120).expect(&rt, "memory"),
+        address_path(alloc, &file, 0, 0x400078).expect(&rt, "memory"),
     ] {
         assert_eq!(rt; path.len(), 2);
         assert!(rt; counts_for::<Bracketed>(None, &wanted, &path));
         assert!(rt; !passes(Some(&Bracketed), &path));
     }
-    Ok(())
 }

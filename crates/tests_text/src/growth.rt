@@ -8,7 +8,6 @@ use size_core::{Bytes, Domain, Format};
 use size_growth::{GrowthKind, GrowthRow, GrowthRows, GrowthSizes, GrowthTree};
 use std::alloc::Global;
 use std::process::Abort;
-use std::test::Fail;
 
 // The definitions on worked sizes, and on a small tree.
 fn worked_growths()
@@ -16,7 +15,9 @@ fn worked_growths()
 {}
 
 // New VM and file sizes, and base VM and file sizes.
-fn sizes(new_vm: u64, new_file: u64, base_vm: u64, base_file: u64) -> GrowthSizes {
+type Four = (u64, u64, u64, u64);
+
+fn sizes((new_vm, new_file, base_vm, base_file): Four) -> GrowthSizes {
     GrowthSizes {
         new_vm,
         new_file,
@@ -25,54 +26,67 @@ fn sizes(new_vm: u64, new_file: u64, base_vm: u64, base_file: u64) -> GrowthSize
     }
 }
 
-// A tree of these sizes; of each row the level, what it is, and its sizes.
-fn tree(
-    alloc: Global,
+// A row of a tree: its level, what it is, and its sizes.
+type Line<'a> = (u32, Kind<'a>, Four);
+
+// A tree with its totals.
+#[derive(Clone, Copy)]
+struct Tree<'a> {
     depth: u32,
-    total: GrowthSizes,
-    lines: &[(u32, Kind, GrowthSizes)],
-) -> Result<GrowthTree, Fail> {
-    let mut rows = GrowthRows::new(alloc);
-    for &(level, kind, sizes) in lines {
-        let kind = match kind {
-            Kind::Label(label) => GrowthKind::Label(Bytes::of(alloc, label)?),
-            Kind::Others(count) => GrowthKind::Others(count),
-        };
-        rows.push(GrowthRow { level, kind, sizes })?;
-    }
-    Ok(GrowthTree {
-        depth,
-        sizes: total,
-        rows,
-    })
+    total: Four,
+    rows: &'a [Line<'a>],
 }
 
-// The records of a tree; nothing where its levels form none, or where there are more or fewer names.
+fn kind_of(rt: &impl Abort, alloc: Global, kind: Kind<'_>) -> GrowthKind {
+    match kind {
+        Kind::Label(label) => GrowthKind::Label(Bytes::of(alloc, label).expect(rt, "memory")),
+        Kind::Others(count) => GrowthKind::Others(count),
+    }
+}
+
+fn tree_of(rt: &impl Abort, alloc: Global, tree: &Tree<'_>) -> GrowthTree {
+    let mut rows = GrowthRows::new(alloc);
+    for &(level, kind, four) in tree.rows {
+        let row = GrowthRow {
+            level,
+            kind: kind_of(rt, alloc, kind),
+            sizes: sizes(four),
+        };
+        rows.push(row).expect(rt, "memory");
+    }
+    GrowthTree {
+        depth: tree.depth,
+        sizes: sizes(tree.total),
+        rows,
+    }
+}
+
+// The records of a tree, whose levels form one, with as many names.
 fn records(
+    rt: &impl Abort,
     alloc: Global,
-    format: Format,
     tree: &GrowthTree,
-    domain: Domain,
+    (format, domain): (Format, Domain),
     sources: &[&str],
-) -> Result<Vec<u8>, Fail> {
+) -> Vec<u8> {
     let mut out = Vec::new(alloc);
-    let names = names(alloc, sources)?;
-    if names.len() != tree.depth as usize || !is_tree(tree.depth, &tree.rows) {
-        return Ok(out);
-    }
-    if format == Format::Csv {
-        growth_csv(alloc, tree, domain, &names, &mut out)?;
+    let names = names(rt, alloc, sources);
+    assert_eq!(rt; names.len(), tree.depth as usize);
+    assert!(rt; is_tree(tree.depth, &tree.rows));
+    let written = if format == Format::Csv {
+        growth_csv(alloc, tree, domain, &names, &mut out)
     } else {
-        growth_tsv(alloc, tree, domain, &names, &mut out)?;
-    }
-    Ok(out)
+        growth_tsv(alloc, tree, domain, &names, &mut out)
+    };
+    written.expect(rt, "memory");
+    out
 }
 
 // The lines of a tree.
-fn lines(alloc: Global, tree: &GrowthTree, domain: Domain, wide: bool) -> Result<Vec<u8>, Fail> {
+fn lines(rt: &impl Abort, alloc: Global, tree: &GrowthTree, domain: Domain, wide: bool) -> Vec<u8> {
     let mut out = Vec::new(alloc);
-    growth_text(alloc, tree, domain, wide, &mut out)?;
-    Ok(out)
+    growth_text(alloc, tree, domain, wide, &mut out).expect(rt, "memory");
+    out
 }
 
 const FILE_TITLE: &[u8] = b"          FILE SIZE  LABEL\n";
@@ -84,77 +98,83 @@ const SECTION_RECORDS: &[u8] = b"sections,vmsize,filesize
 [Unmapped],0,-5
 ";
 
-#[test]
-fn sections_that_grew(rt: HostRuntime) -> Result<(), Fail> {
-    worked_growths();
-    let alloc = rt.alloc();
-    let total = sizes(1_099_511_627_912, 416, 136, 352);
-    let headers = Kind::Label(b"[ELF Section Headers]");
-    let whole = tree(
-        alloc,
-        1,
-        total,
-        &[
-            (0, Kind::Label(b".bss"), sizes(1 << 40, 0, 0, 0)),
-            (0, headers, sizes(0, 256, 0, 192)),
-            (0, Kind::Label(b".shstrtab"), sizes(0, 22, 0, 17)),
-            (0, Kind::Label(b"[Unmapped]"), sizes(0, 2, 0, 7)),
-        ],
-    )?;
-    let out = records(alloc, Format::Csv, &whole, Domain::Both, &["sections"])?;
-    assert!(rt; out.as_slice() == SECTION_RECORDS);
-    let limited = tree(
-        alloc,
-        1,
-        total,
-        &[
-            (0, headers, sizes(0, 256, 0, 192)),
-            (0, Kind::Others(2), sizes(1 << 40, 24, 0, 24)),
-        ],
-    )?;
-    let mut out = Vec::from_slice(alloc, b"kept\n")?;
-    growth_text(alloc, &limited, Domain::File, false, &mut out)?;
-    let want = [
-        b"kept\n".as_slice(),
-        FILE_TITLE,
-        b"   +33.3%       +64  [ELF Section Headers]\n",
-        b"    [ = ]         0  [2 Others]\n",
-        b"   +18.1%       +64  TOTAL\n",
-    ];
-    assert!(rt; out == joined(alloc, &want)?);
-    Ok(())
-}
+const TOTAL: Four = (1_099_511_627_912, 416, 136, 352);
+
+const WHOLE: Tree<'static> = Tree {
+    depth: 1,
+    total: TOTAL,
+    rows: &[
+        (0, Kind::Label(b".bss"), (1 << 40, 0, 0, 0)),
+        (0, Kind::Label(b"[ELF Section Headers]"), (0, 256, 0, 192)),
+        (0, Kind::Label(b".shstrtab"), (0, 22, 0, 17)),
+        (0, Kind::Label(b"[Unmapped]"), (0, 2, 0, 7)),
+    ],
+};
+
+const FEW: Tree<'static> = Tree {
+    depth: 1,
+    total: TOTAL,
+    rows: &[
+        (0, Kind::Label(b"[ELF Section Headers]"), (0, 256, 0, 192)),
+        (0, Kind::Others(2), (1 << 40, 24, 0, 24)),
+    ],
+};
+
+const FEW_LINES: [&[u8]; 5] = [
+    b"kept\n",
+    FILE_TITLE,
+    b"   +33.3%       +64  [ELF Section Headers]\n",
+    b"    [ = ]         0  [2 Others]\n",
+    b"   +18.1%       +64  TOTAL\n",
+];
 
 #[test]
-fn nothing_grew(rt: HostRuntime) -> Result<(), Fail> {
+fn sections_that_grew(rt: HostRuntime) {
+    worked_growths();
     let alloc = rt.alloc();
-    let tree = tree(alloc, 1, sizes(136, 352, 136, 352), &[])?;
-    let out = records(alloc, Format::Tsv, &tree, Domain::Both, &["sections"])?;
-    assert!(rt; out.as_slice() == b"sections\tvmsize\tfilesize\n".as_slice());
-    let out = lines(alloc, &tree, Domain::Both, false)?;
-    let want = b"          FILE SIZE              VM SIZE  LABEL
+    let whole = tree_of(&rt, alloc, &WHOLE);
+    let form = (Format::Csv, Domain::Both);
+    let out = records(&rt, alloc, &whole, form, &["sections"]);
+    assert!(rt; out.as_slice() == SECTION_RECORDS);
+    let few = tree_of(&rt, alloc, &FEW);
+    let mut out = Vec::from_slice(alloc, b"kept\n").expect(&rt, "memory");
+    growth_text(alloc, &few, Domain::File, false, &mut out).expect(&rt, "memory");
+    assert!(rt; out == joined(&rt, alloc, &FEW_LINES));
+}
+
+const SAME: Tree<'static> = Tree {
+    depth: 1,
+    total: (136, 352, 136, 352),
+    rows: &[],
+};
+
+const SAME_LINES: &[u8] = b"          FILE SIZE              VM SIZE  LABEL
     [ = ]         0      [ = ]         0  TOTAL
 ";
-    assert!(rt; out.as_slice() == want.as_slice());
-    Ok(())
+
+#[test]
+fn nothing_grew(rt: HostRuntime) {
+    let tree = tree_of(&rt, rt.alloc(), &SAME);
+    let form = (Format::Tsv, Domain::Both);
+    let out = records(&rt, rt.alloc(), &tree, form, &["sections"]);
+    assert!(rt; out.as_slice() == b"sections\tvmsize\tfilesize\n".as_slice());
+    let out = lines(&rt, rt.alloc(), &tree, Domain::Both, false);
+    assert!(rt; out.as_slice() == SAME_LINES);
 }
 
 // Two levels, with an Others row on each.
-fn two_levels(alloc: Global) -> Result<GrowthTree, Fail> {
-    tree(
-        alloc,
-        2,
-        sizes(36, 47, 36, 17),
-        &[
-            (0, Kind::Label(b"a"), sizes(10, 35, 14, 10)),
-            (1, Kind::Label(b"b"), sizes(10, 30, 10, 5)),
-            (1, Kind::Others(3), sizes(0, 5, 4, 5)),
-            (0, Kind::Label(b"c"), sizes(20, 5, 16, 0)),
-            (1, Kind::Label(b"d"), sizes(20, 5, 16, 0)),
-            (0, Kind::Others(2), sizes(6, 7, 6, 7)),
-        ],
-    )
-}
+const LEVELS: Tree<'static> = Tree {
+    depth: 2,
+    total: (36, 47, 36, 17),
+    rows: &[
+        (0, Kind::Label(b"a"), (10, 35, 14, 10)),
+        (1, Kind::Label(b"b"), (10, 30, 10, 5)),
+        (1, Kind::Others(3), (0, 5, 4, 5)),
+        (0, Kind::Label(b"c"), (20, 5, 16, 0)),
+        (1, Kind::Label(b"d"), (20, 5, 16, 0)),
+        (0, Kind::Others(2), (6, 7, 6, 7)),
+    ],
+};
 
 const BOTH_LINES: &[u8] = b"          FILE SIZE              VM SIZE  LABEL
   +250.0%       +25     -28.5%        -4  a
@@ -190,19 +210,25 @@ c\td\t4
 [2 Others]\t\t0
 ";
 
+const LEVEL_LINES: [(Domain, &[u8]); 2] = [(Domain::Both, BOTH_LINES), (Domain::Vm, VM_LINES)];
+
+const LEVEL_RECORDS: [(Format, Domain, &[u8]); 2] = [
+    (Format::Csv, Domain::Both, BOTH_RECORDS),
+    (Format::Tsv, Domain::Vm, VM_RECORDS),
+];
+
 #[test]
-fn levels_and_others(rt: HostRuntime) -> Result<(), Fail> {
+fn levels_and_others(rt: HostRuntime) {
     let alloc = rt.alloc();
-    let tree = two_levels(alloc)?;
-    let out = lines(alloc, &tree, Domain::Both, false)?;
-    assert!(rt; out.as_slice() == BOTH_LINES);
-    let out = lines(alloc, &tree, Domain::Vm, false)?;
-    assert!(rt; out.as_slice() == VM_LINES);
-    let out = records(alloc, Format::Csv, &tree, Domain::Both, &["x", "y"])?;
-    assert!(rt; out.as_slice() == BOTH_RECORDS);
-    let out = records(alloc, Format::Tsv, &tree, Domain::Vm, &["x", "y"])?;
-    assert!(rt; out.as_slice() == VM_RECORDS);
-    Ok(())
+    let tree = tree_of(&rt, alloc, &LEVELS);
+    for (domain, want) in LEVEL_LINES {
+        let out = lines(&rt, alloc, &tree, domain, false);
+        assert!(rt; out.as_slice() == want);
+    }
+    for (format, domain, want) in LEVEL_RECORDS {
+        let out = records(&rt, alloc, &tree, (format, domain), &["x", "y"]);
+        assert!(rt; out.as_slice() == want);
+    }
 }
 
 // 2^63 - 1.
@@ -228,58 +254,66 @@ fn has_lines(
     alloc: Global,
     &(new, base, column): &(u64, u64, &[u8]),
     (label, wide, want): (&[u8], bool, &[u8]),
-) -> Result<(), Fail> {
-    let sizes = sizes(0, new, 0, base);
-    let tree = tree(alloc, 1, sizes, &[(0, Kind::Label(label), sizes)])?;
-    let out = lines(alloc, &tree, Domain::File, wide)?;
+) {
+    let total = (0, new, 0, base);
+    let tree = Tree {
+        depth: 1,
+        total,
+        rows: &[(0, Kind::Label(label), total)],
+    };
+    let tree = tree_of(rt, alloc, &tree);
+    let out = lines(rt, alloc, &tree, Domain::File, wide);
     let parts = [FILE_TITLE, column, want, b"\n", column, b"TOTAL\n"];
-    assert!(rt; out == joined(alloc, &parts)?, "from {base} to {new}");
-    Ok(())
+    assert!(rt; out == joined(rt, alloc, &parts), "from {base} to {new}");
 }
 
 #[test]
-fn changes_and_growths(rt: HostRuntime) -> Result<(), Fail> {
+fn changes_and_growths(rt: HostRuntime) {
     for case in &CHANGES {
-        has_lines(&rt, rt.alloc(), case, (b"x", false, b"x"))?;
+        has_lines(&rt, rt.alloc(), case, (b"x", false, b"x"));
     }
-    Ok(())
 }
 
-#[test]
-fn labels_in_lines(rt: HostRuntime) -> Result<(), Fail> {
-    let alloc = rt.alloc();
-    let whole = letters(alloc, 0, b"", 61)?;
-    let cut = letters(alloc, 28, b"[...]", 60)?;
-    let grown: (u64, u64, &[u8]) = (9, 6, b"   +50.0%        +3  ");
-    has_lines(&rt, alloc, &grown, (&whole, false, &cut))?;
-    has_lines(&rt, alloc, &grown, (&whole, true, &whole))?;
-    has_lines(&rt, alloc, &grown, (b"a\nb", false, b"a\\x0ab"))
-}
+const GROWN: (u64, u64, &[u8]) = (9, 6, b"   +50.0%        +3  ");
 
 #[test]
-fn labels_in_records(rt: HostRuntime) -> Result<(), Fail> {
+fn labels_in_lines(rt: HostRuntime) {
     let alloc = rt.alloc();
-    let tree = tree(
-        alloc,
-        1,
-        sizes(MOST, 9, 0, MOST),
-        &[
-            (0, Kind::Label(b"a,b"), sizes(MOST, 0, 0, MOST)),
-            (0, Kind::Label(b"a\tb"), sizes(0, 2, 7, 9)),
-            (0, Kind::Label(b"a\"b"), sizes(0, 7, 0, 8)),
-            (0, Kind::Others(2), sizes(0, 0, 2048, 0)),
-        ],
-    )?;
-    let commas =
-        b"x,vmsize,filesize\n\"a,b\",9223372036854775807,-9223372036854775807\na\tb,-7,-7\n\"a\"\"b\",0,-1\n[2 Others],-2048,0\n";
-    let tabs =
-        b"x\tvmsize\tfilesize\na,b\t9223372036854775807\t-9223372036854775807\n\"a\tb\"\t-7\t-7\n\"a\"\"b\"\t0\t-1\n[2 Others]\t-2048\t0\n";
-    for (format, want) in [
-        (Format::Csv, commas.as_slice()),
-        (Format::Tsv, tabs.as_slice()),
-    ] {
-        let out = records(alloc, format, &tree, Domain::Both, &["x"])?;
+    let whole = letters(&rt, alloc, 0, b"", 61);
+    let cut = letters(&rt, alloc, 28, b"[...]", 60);
+    has_lines(&rt, alloc, &GROWN, (&whole, false, &cut));
+    has_lines(&rt, alloc, &GROWN, (&whole, true, &whole));
+    has_lines(&rt, alloc, &GROWN, (b"a\nb", false, b"a\\x0ab"));
+}
+
+const CONTROLS: Tree<'static> = Tree {
+    depth: 1,
+    total: (MOST, 9, 0, MOST),
+    rows: &[
+        (0, Kind::Label(b"a,b"), (MOST, 0, 0, MOST)),
+        (0, Kind::Label(b"a\tb"), (0, 2, 7, 9)),
+        (0, Kind::Label(b"a\"b"), (0, 7, 0, 8)),
+        (0, Kind::Others(2), (0, 0, 2048, 0)),
+    ],
+};
+
+const CONTROL_RECORDS: [(Format, &[u8]); 2] = [
+    (
+        Format::Csv,
+        b"x,vmsize,filesize\n\"a,b\",9223372036854775807,-9223372036854775807\na\tb,-7,-7\n\"a\"\"b\",0,-1\n[2 Others],-2048,0\n",
+    ),
+    (
+        Format::Tsv,
+        b"x\tvmsize\tfilesize\na,b\t9223372036854775807\t-9223372036854775807\n\"a\tb\"\t-7\t-7\n\"a\"\"b\"\t0\t-1\n[2 Others]\t-2048\t0\n",
+    ),
+];
+
+#[test]
+fn labels_in_records(rt: HostRuntime) {
+    let alloc = rt.alloc();
+    let tree = tree_of(&rt, alloc, &CONTROLS);
+    for (format, want) in CONTROL_RECORDS {
+        let out = records(&rt, alloc, &tree, (format, Domain::Both), &["x"]);
         assert!(rt; out.as_slice() == want);
     }
-    Ok(())
 }

@@ -5,44 +5,55 @@ use place_explain::{NamedClaim, NamedClaims, PlaceSource};
 use report_text::place_text;
 use size_core::{Bytes, Place, Side, Text};
 use std::alloc::Global;
-use std::test::Fail;
+use std::process::Abort;
 
 // What a data source says: its name and the label; of each claim the number, the side and the label; and how many more
 // there are.
-fn source(
-    alloc: Global,
-    name: &str,
-    label: &[u8],
-    claims: &[(u64, Side, &[u8])],
+#[derive(Clone, Copy)]
+struct Said<'a> {
+    name: &'a str,
+    label: &'a [u8],
+    claims: &'a [(u64, Side, &'a [u8])],
     more: u64,
-) -> Result<PlaceSource, Fail> {
-    let mut named = NamedClaims::new(alloc);
-    for &(number, side, label) in claims {
-        let label = Bytes::of(alloc, label)?;
-        named.push(NamedClaim {
-            number,
-            side,
-            label,
-        })?;
-    }
-    Ok(PlaceSource {
-        name: Text::of(alloc, name)?,
-        label: Bytes::of(alloc, label)?,
-        claims: named,
-        more,
-    })
 }
 
-// The lines of an explanation after a line that was there.
+fn named(rt: &impl Abort, alloc: Global, claims: &[(u64, Side, &[u8])]) -> NamedClaims {
+    let mut named = NamedClaims::new(alloc);
+    for &(number, side, label) in claims {
+        let claim = NamedClaim {
+            number,
+            side,
+            label: Bytes::of(alloc, label).expect(rt, "memory"),
+        };
+        named.push(claim).expect(rt, "memory");
+    }
+    named
+}
+
+fn source(rt: &impl Abort, alloc: Global, said: &Said<'_>) -> PlaceSource {
+    PlaceSource {
+        name: Text::of(alloc, said.name).expect(rt, "memory"),
+        label: Bytes::of(alloc, said.label).expect(rt, "memory"),
+        claims: named(rt, alloc, said.claims),
+        more: said.more,
+    }
+}
+
+// The lines of an explanation by one or two data sources, after a line that was there.
 fn shown(
+    rt: &impl Abort,
     alloc: Global,
     place: Place,
-    sources: &[PlaceSource],
+    sources: &[Said<'_>],
     wide: bool,
-) -> Result<Vec<u8>, Fail> {
-    let mut out = Vec::from_slice(alloc, b"kept\n")?;
-    place_text(alloc, &place, sources, wide, &mut out)?;
-    Ok(out)
+) -> Vec<u8> {
+    let mut said = Vec::new(alloc);
+    for it in sources {
+        said.push(source(rt, alloc, it)).expect(rt, "memory");
+    }
+    let mut out = Vec::from_slice(alloc, b"kept\n").expect(rt, "memory");
+    place_text(alloc, &place, &said, wide, &mut out).expect(rt, "memory");
+    out
 }
 
 const OFFSET_LINES: &[u8] = b"kept
@@ -53,17 +64,20 @@ source sections
   beaten #6 both [LOAD #0 [RX]]
 ";
 
-#[test]
-fn a_place_of_the_file(rt: HostRuntime) -> Result<(), Fail> {
-    let alloc = rt.alloc();
-    let claims = [
-        (1, Side::Both, b".text".as_slice()),
+const OF_OFFSET: [Said<'static>; 1] = [Said {
+    name: "sections",
+    label: b".text",
+    claims: &[
+        (1, Side::Both, b".text"),
         (6, Side::Both, b"[LOAD #0 [RX]]"),
-    ];
-    let sections = source(alloc, "sections", b".text", &claims, 0)?;
-    let out = shown(alloc, Place::Offset(120), &[sections], false)?;
+    ],
+    more: 0,
+}];
+
+#[test]
+fn a_place_of_the_file(rt: HostRuntime) {
+    let out = shown(&rt, rt.alloc(), Place::Offset(120), &OF_OFFSET, false);
     assert!(rt; out.as_slice() == OFFSET_LINES);
-    Ok(())
 }
 
 const ADDRESS_LINES: &[u8] = b"kept
@@ -78,23 +92,32 @@ source sections
   beaten #6 both [LOAD #0 [RX]]
 ";
 
+const OF_ADDRESS: [Said<'static>; 2] = [
+    Said {
+        name: "segments",
+        label: b"LOAD #0 [RX]",
+        claims: &[
+            (1, Side::Both, b"LOAD #0 [RX]"),
+            (2, Side::File, b"[ELF Header]"),
+        ],
+        more: 0,
+    },
+    Said {
+        name: "sections",
+        label: b"[ELF Header]",
+        claims: &[
+            (3, Side::File, b"[ELF Header]"),
+            (6, Side::Both, b"[LOAD #0 [RX]]"),
+        ],
+        more: 0,
+    },
+];
+
 #[test]
-fn a_place_in_memory(rt: HostRuntime) -> Result<(), Fail> {
-    let alloc = rt.alloc();
-    let claims = [
-        (1, Side::Both, b"LOAD #0 [RX]".as_slice()),
-        (2, Side::File, b"[ELF Header]"),
-    ];
-    let segments = source(alloc, "segments", b"LOAD #0 [RX]", &claims, 0)?;
-    let claims = [
-        (3, Side::File, b"[ELF Header]".as_slice()),
-        (6, Side::Both, b"[LOAD #0 [RX]]"),
-    ];
-    let sections = source(alloc, "sections", b"[ELF Header]", &claims, 0)?;
+fn a_place_in_memory(rt: HostRuntime) {
     let place = Place::Address(0, 0x40_0000);
-    let out = shown(alloc, place, &[segments, sections], false)?;
+    let out = shown(&rt, rt.alloc(), place, &OF_ADDRESS, false);
     assert!(rt; out.as_slice() == ADDRESS_LINES);
-    Ok(())
 }
 
 const SPACE_LINES: &[u8] = b"kept
@@ -112,31 +135,48 @@ source mine
   first none
 ";
 
+const OF_SPACE: [Said<'static>; 1] = [Said {
+    name: "mine",
+    label: b"new",
+    claims: &[(9, Side::Vm, b"old")],
+    more: u64::MAX,
+}];
+
+const BARE: [Said<'static>; 1] = [Said {
+    name: "mine",
+    label: b"[Unmapped]",
+    claims: &[],
+    more: 0,
+}];
+
 #[test]
-fn a_space_and_a_limit(rt: HostRuntime) -> Result<(), Fail> {
-    let alloc = rt.alloc();
-    let claims = [(9, Side::Vm, b"old".as_slice())];
-    let mine = source(alloc, "mine", b"new", &claims, u64::MAX)?;
-    let out = shown(alloc, Place::Address(u32::MAX, u64::MAX), &[mine], false)?;
+fn a_space_and_a_limit(rt: HostRuntime) {
+    let place = Place::Address(u32::MAX, u64::MAX);
+    let out = shown(&rt, rt.alloc(), place, &OF_SPACE, false);
     assert!(rt; out.as_slice() == SPACE_LINES);
-    let bare = source(alloc, "mine", b"[Unmapped]", &[], 0)?;
-    let out = shown(alloc, Place::Address(0, 0), &[bare], false)?;
+    let out = shown(&rt, rt.alloc(), Place::Address(0, 0), &BARE, false);
     assert!(rt; out.as_slice() == BARE_LINES);
-    Ok(())
+}
+
+// The label and a claim's label are shown in this form.
+fn has_label(rt: &impl Abort, alloc: Global, label: &[u8], wide: bool, want: &[u8]) {
+    let said = Said {
+        name: "a\tb",
+        label,
+        claims: &[(1, Side::File, label)],
+        more: 0,
+    };
+    let out = shown(rt, alloc, Place::Offset(0), &[said], wide);
+    let head = b"kept\nfile offset 0\nsource a\\x09b\n  label ".as_slice();
+    let parts = [head, want, b"\n  first #1 file ", want, b"\n"];
+    assert!(rt; out == joined(rt, alloc, &parts));
 }
 
 #[test]
-fn names_in_places(rt: HostRuntime) -> Result<(), Fail> {
+fn names_in_places(rt: HostRuntime) {
     let alloc = rt.alloc();
-    let long = letters(alloc, 0, b"", 61)?;
-    let cut = letters(alloc, 28, b"[...]", 60)?;
-    for (wide, want) in [(false, cut.as_slice()), (true, long.as_slice())] {
-        let claims = [(1, Side::File, long.as_slice())];
-        let source = source(alloc, "a\tb", long.as_slice(), &claims, 0)?;
-        let out = shown(alloc, Place::Offset(0), &[source], wide)?;
-        let head = b"kept\nfile offset 0\nsource a\\x09b\n  label ".as_slice();
-        let parts = [head, want, b"\n  first #1 file ", want, b"\n"];
-        assert!(rt; out == joined(alloc, &parts)?);
-    }
-    Ok(())
+    let long = letters(&rt, alloc, 0, b"", 61);
+    let cut = letters(&rt, alloc, 28, b"[...]", 60);
+    has_label(&rt, alloc, &long, false, &cut);
+    has_label(&rt, alloc, &long, true, &long);
 }

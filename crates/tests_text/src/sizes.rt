@@ -6,86 +6,99 @@ use report_text::{csv, text, tsv};
 use size_core::{Bytes, Domain, Format};
 use std::alloc::Global;
 use std::process::Abort;
-use std::test::Fail;
 
-// A tree of these totals, VM first; of each row the level, what it is, and its sizes, VM first.
-fn tree(
-    alloc: Global,
+// A row of a tree: its level, what it is, its VM size and its file size.
+type Line<'a> = (u32, Kind<'a>, u64, u64);
+
+// A tree with its totals.
+#[derive(Clone, Copy)]
+struct Tree<'a> {
     depth: u32,
-    total: (u64, u64),
-    lines: &[(u32, Kind, u64, u64)],
-) -> Result<RowTree, Fail> {
+    vm: u64,
+    file: u64,
+    rows: &'a [Line<'a>],
+}
+
+fn kind_of(rt: &impl Abort, alloc: Global, kind: Kind<'_>) -> RowKind {
+    match kind {
+        Kind::Label(label) => RowKind::Label(Bytes::of(alloc, label).expect(rt, "memory")),
+        Kind::Others(count) => RowKind::Others(count),
+    }
+}
+
+fn tree_of(rt: &impl Abort, alloc: Global, tree: &Tree<'_>) -> RowTree {
     let mut rows = Rows::new(alloc);
-    for &(level, kind, vm, file) in lines {
-        let kind = match kind {
-            Kind::Label(label) => RowKind::Label(Bytes::of(alloc, label)?),
-            Kind::Others(count) => RowKind::Others(count),
-        };
-        rows.push(Row {
+    for &(level, kind, vm, file) in tree.rows {
+        let row = Row {
             level,
-            kind,
+            kind: kind_of(rt, alloc, kind),
             vm,
             file,
-        })?;
+        };
+        rows.push(row).expect(rt, "memory");
     }
-    Ok(RowTree {
-        depth,
-        vm: total.0,
-        file: total.1,
+    RowTree {
+        depth: tree.depth,
+        vm: tree.vm,
+        file: tree.file,
         rows,
-    })
+    }
 }
 
 // A tree of one label, which has a part of the file.
-fn one(alloc: Global, label: &[u8], part: u64, total: u64) -> Result<RowTree, Fail> {
-    tree(alloc, 1, (0, total), &[(0, Kind::Label(label), 0, part)])
+fn one(rt: &impl Abort, alloc: Global, label: &[u8], part: u64, total: u64) -> RowTree {
+    let tree = Tree {
+        depth: 1,
+        vm: 0,
+        file: total,
+        rows: &[(0, Kind::Label(label), 0, part)],
+    };
+    tree_of(rt, alloc, &tree)
 }
 
-// The records of a tree; nothing where its levels form none, or where there are more or fewer names.
+// The records of a tree, whose levels form one, with as many names.
 #[tactic(auto, using(crate::proofs::TreeLemmas::from_plain))]
 fn records(
+    rt: &impl Abort,
     alloc: Global,
-    format: Format,
     tree: &RowTree,
-    domain: Domain,
+    (format, domain): (Format, Domain),
     sources: &[&str],
-) -> Result<Vec<u8>, Fail> {
+) -> Vec<u8> {
     let mut out = Vec::new(alloc);
-    let names = names(alloc, sources)?;
-    if names.len() != tree.depth as usize || !is_tree(tree.depth, &tree.rows) {
-        return Ok(out);
-    }
-    if format == Format::Csv {
-        csv(alloc, tree, domain, &names, &mut out)?;
+    let names = names(rt, alloc, sources);
+    assert_eq!(rt; names.len(), tree.depth as usize);
+    assert!(rt; is_tree(tree.depth, &tree.rows));
+    let written = if format == Format::Csv {
+        csv(alloc, tree, domain, &names, &mut out)
     } else {
-        tsv(alloc, tree, domain, &names, &mut out)?;
-    }
-    Ok(out)
+        tsv(alloc, tree, domain, &names, &mut out)
+    };
+    written.expect(rt, "memory");
+    out
 }
 
 // The lines of a tree.
-fn lines(alloc: Global, tree: &RowTree, domain: Domain, wide: bool) -> Result<Vec<u8>, Fail> {
+fn lines(rt: &impl Abort, alloc: Global, tree: &RowTree, domain: Domain, wide: bool) -> Vec<u8> {
     let mut out = Vec::new(alloc);
-    text(alloc, tree, domain, wide, &mut out)?;
-    Ok(out)
+    text(alloc, tree, domain, wide, &mut out).expect(rt, "memory");
+    out
 }
 
 // The rows of a small file's sections.
-fn sections(alloc: Global) -> Result<RowTree, Fail> {
-    tree(
-        alloc,
-        1,
-        (136, 352),
-        &[
-            (0, Kind::Label(b"[ELF Section Headers]"), 0, 192),
-            (0, Kind::Label(b"[ELF Header]"), 64, 64),
-            (0, Kind::Label(b"[ELF Program Headers]"), 56, 56),
-            (0, Kind::Label(b".shstrtab"), 0, 17),
-            (0, Kind::Label(b".text"), 16, 16),
-            (0, Kind::Label(b"[Unmapped]"), 0, 7),
-        ],
-    )
-}
+const SECTIONS: Tree<'static> = Tree {
+    depth: 1,
+    vm: 136,
+    file: 352,
+    rows: &[
+        (0, Kind::Label(b"[ELF Section Headers]"), 0, 192),
+        (0, Kind::Label(b"[ELF Header]"), 64, 64),
+        (0, Kind::Label(b"[ELF Program Headers]"), 56, 56),
+        (0, Kind::Label(b".shstrtab"), 0, 17),
+        (0, Kind::Label(b".text"), 16, 16),
+        (0, Kind::Label(b"[Unmapped]"), 0, 7),
+    ],
+};
 
 const SECTION_LINES: &[u8] = b"      FILE SIZE          VM SIZE  LABEL
  54.5%      192    0.0%        0  [ELF Section Headers]
@@ -107,16 +120,16 @@ const SECTION_RECORDS: &[u8] = b"sections,filesize
 ";
 
 #[test]
-fn sections_of_a_small_file(rt: HostRuntime) -> Result<(), Fail> {
+fn sections_of_a_small_file(rt: HostRuntime) {
     let alloc = rt.alloc();
-    let tree = sections(alloc)?;
-    let mut out = Vec::from_slice(alloc, b"kept\n")?;
-    text(alloc, &tree, Domain::Both, false, &mut out)?;
-    assert!(rt; out == joined(alloc, &[b"kept\n", SECTION_LINES])?);
-    let out = records(alloc, Format::Csv, &tree, Domain::File, &["sections"])?;
+    let tree = tree_of(&rt, alloc, &SECTIONS);
+    let mut out = Vec::from_slice(alloc, b"kept\n").expect(&rt, "memory");
+    text(alloc, &tree, Domain::Both, false, &mut out).expect(&rt, "memory");
+    assert!(rt; out == joined(&rt, alloc, &[b"kept\n", SECTION_LINES]));
+    let form = (Format::Csv, Domain::File);
+    let out = records(&rt, alloc, &tree, form, &["sections"]);
     assert_eq!(rt; out.len(), 120);
     assert!(rt; out.as_slice() == SECTION_RECORDS);
-    Ok(())
 }
 
 const SEGMENT_RECORDS: &[u8] = b"segments\tsections\tvmsize\tfilesize
@@ -128,50 +141,48 @@ LOAD #0 [RX]\t.text\t16\t16
 [Unmapped]\t[Unmapped]\t0\t7
 ";
 
+const SEGMENTS: Tree<'static> = Tree {
+    depth: 2,
+    vm: 136,
+    file: 352,
+    rows: &[
+        (0, Kind::Label(b"[ELF Section Headers]"), 0, 192),
+        (1, Kind::Label(b"[ELF Section Headers]"), 0, 192),
+        (0, Kind::Label(b"LOAD #0 [RX]"), 136, 136),
+        (1, Kind::Label(b"[ELF Header]"), 64, 64),
+        (1, Kind::Label(b"[ELF Program Headers]"), 56, 56),
+        (1, Kind::Label(b".text"), 16, 16),
+        (0, Kind::Label(b"[Unmapped]"), 0, 24),
+        (1, Kind::Label(b".shstrtab"), 0, 17),
+        (1, Kind::Label(b"[Unmapped]"), 0, 7),
+    ],
+};
+
 #[test]
-fn sections_of_segments(rt: HostRuntime) -> Result<(), Fail> {
-    let alloc = rt.alloc();
-    let tree = tree(
-        alloc,
-        2,
-        (136, 352),
-        &[
-            (0, Kind::Label(b"[ELF Section Headers]"), 0, 192),
-            (1, Kind::Label(b"[ELF Section Headers]"), 0, 192),
-            (0, Kind::Label(b"LOAD #0 [RX]"), 136, 136),
-            (1, Kind::Label(b"[ELF Header]"), 64, 64),
-            (1, Kind::Label(b"[ELF Program Headers]"), 56, 56),
-            (1, Kind::Label(b".text"), 16, 16),
-            (0, Kind::Label(b"[Unmapped]"), 0, 24),
-            (1, Kind::Label(b".shstrtab"), 0, 17),
-            (1, Kind::Label(b"[Unmapped]"), 0, 7),
-        ],
-    )?;
-    let sources = ["segments", "sections"];
-    let out = records(alloc, Format::Tsv, &tree, Domain::Both, &sources)?;
+fn sections_of_segments(rt: HostRuntime) {
+    let tree = tree_of(&rt, rt.alloc(), &SEGMENTS);
+    let form = (Format::Tsv, Domain::Both);
+    let out = records(&rt, rt.alloc(), &tree, form, &["segments", "sections"]);
     assert!(rt; out.as_slice() == SEGMENT_RECORDS);
-    Ok(())
 }
 
 // Three levels, with Others rows on each.
-fn three_levels(alloc: Global) -> Result<RowTree, Fail> {
-    tree(
-        alloc,
-        3,
-        (12, 23),
-        &[
-            (0, Kind::Label(b"a"), 10, 20),
-            (1, Kind::Label(b"b"), 6, 12),
-            (2, Kind::Label(b"c"), 4, 8),
-            (2, Kind::Others(3), 2, 4),
-            (1, Kind::Others(2), 4, 8),
-            (0, Kind::Label(b"d"), 1, 2),
-            (1, Kind::Label(b"e"), 1, 2),
-            (2, Kind::Label(b"f"), 1, 2),
-            (0, Kind::Others(7), 1, 1),
-        ],
-    )
-}
+const LEVELS: Tree<'static> = Tree {
+    depth: 3,
+    vm: 12,
+    file: 23,
+    rows: &[
+        (0, Kind::Label(b"a"), 10, 20),
+        (1, Kind::Label(b"b"), 6, 12),
+        (2, Kind::Label(b"c"), 4, 8),
+        (2, Kind::Others(3), 2, 4),
+        (1, Kind::Others(2), 4, 8),
+        (0, Kind::Label(b"d"), 1, 2),
+        (1, Kind::Label(b"e"), 1, 2),
+        (2, Kind::Label(b"f"), 1, 2),
+        (0, Kind::Others(7), 1, 1),
+    ],
+};
 
 const LEVEL_LINES: &[u8] = b"      FILE SIZE  LABEL
  86.9%       20  a
@@ -202,15 +213,15 @@ const LEVEL_RECORDS: [(Domain, &[u8]); 3] = [
 ];
 
 #[test]
-fn others_on_three_levels(rt: HostRuntime) -> Result<(), Fail> {
+fn others_on_three_levels(rt: HostRuntime) {
     let alloc = rt.alloc();
-    let tree = three_levels(alloc)?;
-    assert!(rt; lines(alloc, &tree, Domain::File, false)?.as_slice() == LEVEL_LINES);
-    for &(domain, want) in &LEVEL_RECORDS {
-        let out = records(alloc, Format::Csv, &tree, domain, &["x", "y", "z"])?;
+    let tree = tree_of(&rt, alloc, &LEVELS);
+    assert!(rt; lines(&rt, alloc, &tree, Domain::File, false).as_slice() == LEVEL_LINES);
+    for (domain, want) in LEVEL_RECORDS {
+        let form = (Format::Csv, domain);
+        let out = records(&rt, alloc, &tree, form, &["x", "y", "z"]);
         assert!(rt; out.as_slice() == want);
     }
-    Ok(())
 }
 
 const FILE_TITLE: &[u8] = b"      FILE SIZE  LABEL\n";
@@ -244,103 +255,105 @@ const PERCENTAGES: [(u64, u64, &[u8]); 8] = [
 ];
 
 // The report of one label has these lines.
-fn has_lines(
-    rt: &impl Abort,
-    alloc: Global,
-    &(part, total, want): &(u64, u64, &[u8]),
-) -> Result<(), Fail> {
-    let out = lines(alloc, &one(alloc, b"x", part, total)?, Domain::File, false)?;
-    assert!(rt; out == joined(alloc, &[FILE_TITLE, want])?, "at {part}");
-    Ok(())
+fn has_lines(rt: &impl Abort, alloc: Global, &(part, total, want): &(u64, u64, &[u8])) {
+    let tree = one(rt, alloc, b"x", part, total);
+    let out = lines(rt, alloc, &tree, Domain::File, false);
+    assert!(rt; out == joined(rt, alloc, &[FILE_TITLE, want]), "at {part}");
 }
 
+const NONE: Tree<'static> = Tree {
+    depth: 1,
+    vm: 0,
+    file: 0,
+    rows: &[],
+};
+
 #[test]
-fn sizes_and_percentages(rt: HostRuntime) -> Result<(), Fail> {
+fn sizes_and_percentages(rt: HostRuntime) {
     let alloc = rt.alloc();
     for case in &PERCENTAGES {
-        has_lines(&rt, alloc, case)?;
+        has_lines(&rt, alloc, case);
     }
-    let none = tree(alloc, 1, (0, 0), &[])?;
-    let out = lines(alloc, &none, Domain::Vm, false)?;
+    let none = tree_of(&rt, alloc, &NONE);
+    let out = lines(&rt, alloc, &none, Domain::Vm, false);
     assert!(rt; out.as_slice() == b"        VM SIZE  LABEL\n  0.0%        0  TOTAL\n".as_slice());
-    let out = records(alloc, Format::Csv, &none, Domain::Vm, &["x"])?;
+    let out = records(&rt, alloc, &none, (Format::Csv, Domain::Vm), &["x"]);
     assert!(rt; out.as_slice() == b"x,vmsize\n".as_slice());
-    Ok(())
 }
 
 // The line of a label has it in this form.
-fn has_label(
-    rt: &impl Abort,
-    alloc: Global,
-    label: &[u8],
-    wide: bool,
-    want: &[u8],
-) -> Result<(), Fail> {
-    let out = lines(alloc, &one(alloc, label, 1, 1)?, Domain::File, wide)?;
+fn has_label(rt: &impl Abort, alloc: Global, label: &[u8], wide: bool, want: &[u8]) {
+    let tree = one(rt, alloc, label, 1, 1);
+    let out = lines(rt, alloc, &tree, Domain::File, wide);
     let column = b"100.0%        1  ".as_slice();
     let parts = [FILE_TITLE, column, want, b"\n", column, b"TOTAL\n"];
-    assert!(rt; out == joined(alloc, &parts)?);
-    Ok(())
+    assert!(rt; out == joined(rt, alloc, &parts));
 }
 
 #[test]
-fn labels_in_lines(rt: HostRuntime) -> Result<(), Fail> {
+fn labels_in_lines(rt: HostRuntime) {
     let alloc = rt.alloc();
-    let whole = letters(alloc, 0, b"", 61)?;
-    let cut = letters(alloc, 28, b"[...]", 60)?;
-    has_label(&rt, alloc, &whole, false, &cut)?;
-    has_label(&rt, alloc, &whole, true, &whole)
+    let whole = letters(&rt, alloc, 0, b"", 61);
+    let cut = letters(&rt, alloc, 28, b"[...]", 60);
+    has_label(&rt, alloc, &whole, false, &cut);
+    has_label(&rt, alloc, &whole, true, &whole);
 }
 
-#[test]
-fn controls_in_lines(rt: HostRuntime) -> Result<(), Fail> {
-    let alloc = rt.alloc();
-    let tab = letters(alloc, 59, b"\t", 60)?;
-    let tab_shown = letters(alloc, 59, b"\\x09", 63)?;
-    has_label(&rt, alloc, &tab, false, &tab_shown)?;
-    let feed = letters(alloc, 27, b"\n\n", 61)?;
-    let feed_shown = letters(alloc, 27, b"\\x0a[...]", 63)?;
-    has_label(&rt, alloc, &feed, false, &feed_shown)?;
-    has_label(&rt, alloc, b"a\nb", false, b"a\\x0ab")?;
-    has_label(
-        &rt,
-        alloc,
-        b"\"\x7f\xff\xc3 \x1f",
-        false,
-        b"\"\\x7f\xff\xc3 \\x1f",
-    )?;
-    has_label(&rt, alloc, b"", false, b"")
-}
+// Labels, and how their lines show them.
+const SHOWN: [(&[u8], &[u8]); 3] = [
+    (b"a\nb", b"a\\x0ab"),
+    (b"\"\x7f\xff\xc3 \x1f", b"\"\\x7f\xff\xc3 \\x1f"),
+    (b"", b""),
+];
 
 #[test]
-fn labels_in_records(rt: HostRuntime) -> Result<(), Fail> {
+fn controls_in_lines(rt: HostRuntime) {
     let alloc = rt.alloc();
-    let tree = tree(
-        alloc,
-        1,
-        (0, 9),
-        &[
-            (0, Kind::Label(b"a\nb"), 0, 9),
-            (0, Kind::Label(b"a,b"), 0, 8),
-            (0, Kind::Label(b"a\tb"), 0, 7),
-            (0, Kind::Label(b"a\"b"), 0, 6),
-            (0, Kind::Label(b"a\rb"), 0, 5),
-            (0, Kind::Label(b"a b\xff\x7f"), 0, 4),
-            (0, Kind::Label(b""), 0, 3),
-            (0, Kind::Label(b"[2 Others]"), 0, 2),
-            (0, Kind::Others(2), 0, 2048),
-        ],
-    )?;
-    let commas =
-        b"x,filesize\n\"a\nb\",9\n\"a,b\",8\na\tb,7\n\"a\"\"b\",6\n\"a\rb\",5\na b\xff\x7f,4\n,3\n[2 Others],2\n[2 Others],2048\n";
-    let tabs =
-        b"x\tfilesize\n\"a\nb\"\t9\na,b\t8\n\"a\tb\"\t7\n\"a\"\"b\"\t6\n\"a\rb\"\t5\na b\xff\x7f\t4\n\t3\n[2 Others]\t2\n[2 Others]\t2048\n";
-    for (format, want) in [
-        (Format::Csv, commas.as_slice()),
-        (Format::Tsv, tabs.as_slice()),
-    ] {
-        let out = records(alloc, format, &tree, Domain::File, &["x"])?;
+    let tab = letters(&rt, alloc, 59, b"\t", 60);
+    let tab_shown = letters(&rt, alloc, 59, b"\\x09", 63);
+    has_label(&rt, alloc, &tab, false, &tab_shown);
+    let feed = letters(&rt, alloc, 27, b"\n\n", 61);
+    let feed_shown = letters(&rt, alloc, 27, b"\\x0a[...]", 63);
+    has_label(&rt, alloc, &feed, false, &feed_shown);
+    for (label, want) in SHOWN {
+        has_label(&rt, alloc, label, false, want);
+    }
+}
+
+const CONTROLS: Tree<'static> = Tree {
+    depth: 1,
+    vm: 0,
+    file: 9,
+    rows: &[
+        (0, Kind::Label(b"a\nb"), 0, 9),
+        (0, Kind::Label(b"a,b"), 0, 8),
+        (0, Kind::Label(b"a\tb"), 0, 7),
+        (0, Kind::Label(b"a\"b"), 0, 6),
+        (0, Kind::Label(b"a\rb"), 0, 5),
+        (0, Kind::Label(b"a b\xff\x7f"), 0, 4),
+        (0, Kind::Label(b""), 0, 3),
+        (0, Kind::Label(b"[2 Others]"), 0, 2),
+        (0, Kind::Others(2), 0, 2048),
+    ],
+};
+
+const CONTROL_RECORDS: [(Format, &[u8]); 2] = [
+    (
+        Format::Csv,
+        b"x,filesize\n\"a\nb\",9\n\"a,b\",8\na\tb,7\n\"a\"\"b\",6\n\"a\rb\",5\na b\xff\x7f,4\n,3\n[2 Others],2\n[2 Others],2048\n",
+    ),
+    (
+        Format::Tsv,
+        b"x\tfilesize\n\"a\nb\"\t9\na,b\t8\n\"a\tb\"\t7\n\"a\"\"b\"\t6\n\"a\rb\"\t5\na b\xff\x7f\t4\n\t3\n[2 Others]\t2\n[2 Others]\t2048\n",
+    ),
+];
+
+#[test]
+fn labels_in_records(rt: HostRuntime) {
+    let alloc = rt.alloc();
+    let tree = tree_of(&rt, alloc, &CONTROLS);
+    for (format, want) in CONTROL_RECORDS {
+        let out = records(&rt, alloc, &tree, (format, Domain::File), &["x"]);
         assert!(rt; out.as_slice() == want);
     }
-    Ok(())
 }

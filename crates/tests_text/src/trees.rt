@@ -9,7 +9,7 @@ use report_rows::{Row, RowKind};
 use size_core::{List, Names, Text};
 use size_growth::{GrowthKind, GrowthRow};
 use std::alloc::Global;
-use std::test::Fail;
+use std::process::Abort;
 
 /// What a row is: a label, or so many labels that a limit left over.
 #[derive(Clone, Copy)]
@@ -108,32 +108,33 @@ pub fn is_tree<R: TreeRow>(depth: u32, rows: &List<R>) -> bool
 }
 
 /// Names of data sources.
-pub fn names(alloc: Global, sources: &[&str]) -> Result<Names, Fail> {
+pub fn names(rt: &impl Abort, alloc: Global, sources: &[&str]) -> Names {
     let mut names = Names::new(alloc);
     for source in sources {
-        names.push(Text::of(alloc, source)?)?;
+        let name = Text::of(alloc, source).expect(rt, "memory");
+        names.push(name).expect(rt, "memory");
     }
-    Ok(names)
+    names
 }
 
 /// Texts one after the other.
-pub fn joined(alloc: Global, parts: &[&[u8]]) -> Result<Vec<u8>, Fail> {
+pub fn joined(rt: &impl Abort, alloc: Global, parts: &[&[u8]]) -> Vec<u8> {
     let mut out = Vec::new(alloc);
     for part in parts {
-        out.extend_from_slice(part)?;
+        out.extend_from_slice(part).expect(rt, "memory");
     }
-    Ok(out)
+    out
 }
 
 /// So many letters, then these bytes, and letters up to a length.
-pub fn letters(alloc: Global, before: usize, bytes: &[u8], len: usize) -> Result<Vec<u8>, Fail> {
+pub fn letters(rt: &impl Abort, alloc: Global, before: usize, bytes: &[u8], len: usize) -> Vec<u8> {
     let mut label = Vec::new(alloc);
     for _ in 0..before {
-        label.push(b'a')?;
+        label.push(b'a').expect(rt, "memory");
     }
-    label.extend_from_slice(bytes)?;
+    label.extend_from_slice(bytes).expect(rt, "memory");
     for _ in label.len()..len {
-        label.push(b'a')?;
+        label.push(b'a').expect(rt, "memory");
     }
-    Ok(label)
+    label
 }

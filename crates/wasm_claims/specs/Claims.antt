@@ -14,7 +14,7 @@ use Rattle.claim_sheet.specs.Reaches.{claim_on, in_file, span, wrapped}
 
 -- Sections.
 
--- The standard's name of the sections of an id (WebAssembly core 2.0, 5.5.2 Sections).
+-- The name that the standard gives the sections with this id (WebAssembly core 2.0, 5.5.2 Sections).
 abbrev pub standard_name : ℕ → Option (List ℕ)
 standard_name id =
     if id == TYPE then Some (codes "Type")

@@ -16,7 +16,7 @@ use wasm_file::{
     TABLE, TYPE, WasmFile, WasmSection,
 };
 
-// Returns the standard's name of the sections of an id.
+// Returns the name that the standard gives the sections with this id.
 fn standard_name(id: u8) -> Option<&'static [u8]>
     ensures { option_copied result ≡ standard_name id }
 {

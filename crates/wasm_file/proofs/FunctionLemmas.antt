@@ -46,7 +46,7 @@ counted_imports file n h = by_check (first_of (checks_of (imports_of file))) h
     by_check (Ok x) is = cc
     by_check (Err f) is = cc
 
--- The result is Ok exactly where the checks hold, and otherwise the first fault.
+-- The result is Ok exactly if the checks hold, and otherwise the first fault.
 pub means_answer : {A : Type 0} (file : List ℕ) (r : Result (Vec Body A) WasmAnswer) → Answers r (functions_of file) → MatchResult r (λ _. AllHold (function_checks file)) (IsFirstFaultOf (function_checks file))
 means_answer file (Ok v) h = means_checked (function_checks file) (bodies_of file) (Ok (map body v.items)) (sym h)
 means_answer file (Err (Bad e)) h = means_checked (function_checks file) (bodies_of file) (Err e) (sym h)

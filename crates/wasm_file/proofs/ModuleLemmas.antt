@@ -13,7 +13,7 @@ pub opened_is : (file : List ℕ) → opened file ≡ under (first_of (version_c
 unfolding module_checks are_there
 opened_is file = simp first_of_append
 
--- A result under checks is Ok exactly where they hold, and otherwise the first fault.
+-- A result under checks is Ok exactly if they hold, and otherwise the first fault.
 pub means_checked : {X : Type 0} (checks : List Check) (x : X) (r : Result X BadFile) → r ≡ checked checks x → MatchResult r (λ _. AllHold checks) (IsFirstFault checks)
 means_checked {X} checks x r e = answers r (first_of checks) e (means (first_of checks) checks refl)
   where

@@ -34,7 +34,7 @@ forward : (w : Window) (x : (ℕ × Window) × ℕ) → subsection_at w ≡ Some
 unfolding subsection_at
 forward w x h = grind (arith, common_steps, byte_forward, piece_forward)
 
--- A larger bound changes nothing where the bound is enough.
+-- A larger bound changes nothing if the bound is enough.
 same_fuel : (id m n : ℕ) (w : Window) → length w.bytes ≤ w.at + m → length w.bytes ≤ w.at + n → subsection_within m id w ≡ subsection_within n id w
 unfolding subsection_within
 same_fuel id zero zero w p q = refl

@@ -22,7 +22,7 @@ module _ {X : Type 0} (read : Window → Option (X × ℕ)) where
       let k : n ≡ suc m = omega arith in
       rw (k, h.is) (ap (λ (v : Window). let rest : List (Result X BadFile) = records read m v in Ok x ∷ rest) (sym h.same))
 
-  -- Where no record is left.
+  -- No record is left.
   pub fault_end : (n : ℕ) (w : Window) → n ≡ 0 → fault_in read n w ≡ Ok tt
   unfolding fault_in
   fault_end n w none = rw (records_end n w none) refl
@@ -31,12 +31,12 @@ module _ {X : Type 0} (read : Window → Option (X × ℕ)) where
   unfolding values_in
   values_end n w none = rw (records_end n w none) refl
 
-  -- Where a record can't be read.
+  -- A record can't be read.
   pub fault_here : (n : ℕ) (w : Window) → 0 < n → read w ≡ None → fault_in read n w ≡ bad BadWasm (place_of w)
   unfolding fault_in
   fault_here n w some is = rw (records_bad n (n - 1) w (omega arith) is) refl
 
-  -- Where a record is read.
+  -- A record is read.
   pub fault_later : (n m : ℕ) (w : Window) (x : X) (next : Window) → n ≡ m + 1 → IsRead (read w) w x next → fault_in read n w ≡ fault_in read m next
   unfolding fault_in
   fault_later n m w x next some h = rw (records_next n m w x next some h) refl

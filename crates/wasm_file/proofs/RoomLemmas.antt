@@ -10,7 +10,7 @@ use Rattle.wasm_file.specs.declared.constants.TheConstants.{IMPORT, CODE}
 use Rattle.wasm_file.specs.Numbers.{number_at, long_number_at, name_at}
 use Rattle.wasm_file.specs.Records.{records, values, vector}
 use Rattle.wasm_file.specs.Sections.{SectionRecord, section_at, sections_within, sections_from, with_rest}
-use Rattle.wasm_file.specs.Imports.{behind_description, behind_limits, function_count, import_at, imports_in}
+use Rattle.wasm_file.specs.Imports.{after_description, after_limits, function_count, import_at, imports_in}
 use Rattle.wasm_file.specs.Functions.{bodies_in, body_at, extents_of, first_with, imports_of}
 use Rattle.wasm_file.specs.Module.{IsOpened, sections_of}
 use Rattle.wasm_file.proofs.NameLemmas.{byte_forward, piece_forward, piece_begins}
@@ -56,12 +56,12 @@ long_forward : (bytes : List ℕ) (at : ℕ) (x : ℕ × ℕ) → long_number_at
 unfolding long_number_at
 long_forward bytes at x h = grind (arith, common_steps)
 
-limits_forward : (bytes : List ℕ) (at next : ℕ) → behind_limits bytes at ≡ Some next → at ≤ next
-unfolding behind_limits
+limits_forward : (bytes : List ℕ) (at next : ℕ) → after_limits bytes at ≡ Some next → at ≤ next
+unfolding after_limits
 limits_forward bytes at next h = grind (arith, common_steps, byte_forward, long_forward)
 
-description_forward : (bytes : List ℕ) (kind at next : ℕ) → behind_description bytes kind at ≡ Some next → at ≤ next
-unfolding behind_description
+description_forward : (bytes : List ℕ) (kind at next : ℕ) → after_description bytes kind at ≡ Some next → at ≤ next
+unfolding after_description
 description_forward bytes kind at next h = grind (arith, common_steps, number_forward, byte_forward, limits_forward)
 
 imports_advance : Advances import_at
@@ -78,7 +78,7 @@ bodies_advance = record {
   on = λ w x h. grind (arith, common_steps, piece_forward);
 }
 
--- The size of a section's contents in bytes, and 0 where there is no such section.
+-- The size of a section's contents in bytes, and 0 if there is no such section.
 abbrev size_of : Option Window → ℕ
 size_of None = 0
 size_of (Some w) = length w.bytes

@@ -70,7 +70,7 @@ goes_on file at s h = let room = has_room file at s h in omega arith
 pub stands_at : (file : List ℕ) (at : ℕ) (s : SectionRecord) → section_at file at ≡ Ok s → s.place ≡ at
 stands_at file at s h = (has_room file at s h).stands
 
--- A larger bound changes nothing where the bound is enough.
+-- A larger bound changes nothing if the bound is enough.
 pub same_fuel : (file : List ℕ) (m n at : ℕ) → length file ≤ at + m → length file ≤ at + n → sections_within m file at ≡ sections_within n file at
 unfolding sections_within
 same_fuel file zero zero at p q = refl
@@ -111,7 +111,7 @@ one_more file at s lt is =
     same_fuel file (length file - at) (suc (length file - at)) at (omega arith) (omega arith) ∙ one_within file (length file - at) at s lt is
     ∙ ap (λ (read : List (Result SectionRecord BadFile)). Ok s ∷ read) rest
 
--- Where no section is left.
+-- No section is left.
 pub fault_end : (w : Window) → length w.bytes ≤ w.at → are_there w ≡ Ok tt
 unfolding are_there
 fault_end w past = rw (none_left w.bytes w.at past) refl
@@ -120,12 +120,12 @@ pub section_end : (w : Window) → length w.bytes ≤ w.at → to_come w ≡ []
 unfolding to_come
 section_end w past = rw (none_left w.bytes w.at past) refl
 
--- Where a section can't be read.
+-- A section can't be read.
 pub fault_here : (w : Window) (e : BadFile) → w.at < length w.bytes → IsUnreadable w e → are_there w ≡ Err e
 unfolding are_there
 fault_here w e lt h = rw (one_bad w.bytes w.at e lt h.fault) refl
 
--- Where a section is found.
+-- A section is found.
 pub found_forward : (w : Window) (s : SectionRecord) (next : Window) → IsFound w s next → w.at < next.at
 found_forward w s next h =
     let forward = goes_on w.bytes w.at s h.read in

@@ -22,7 +22,7 @@ first_with id (s ∷ sections) = if s.id == id then Some s.contents else first_w
 unfoldable pub body_at : Window → Option (Extent × ℕ)
 body_at w = option_map (λ x. (record { place = place_of w; len = x.1 - w.at }, x.1)) (piece_at w.base w.bytes w.at)
 
--- The bodies of a Code section, and none where there is no such section. One that can't be read is a fault
+-- The bodies of a Code section, and none if there is no such section. One that can't be read is a fault
 -- (WebAssembly core 2.0, 5.5.13 Code Section).
 unfoldable pub bodies_in : Option Window → List (Result Extent BadFile)
 bodies_in None = []

@@ -27,7 +27,7 @@ section_checks file = checks_of (sections_from file 8)
 unfoldable pub module_checks : List ℕ → List Check
 module_checks file = version_checks file ++ section_checks file
 
--- The value where the checks hold, or the first fault.
+-- The value if the checks hold, or the first fault.
 abbrev pub checked : {X : Type 0} → List Check → X → Result X BadFile
 checked checks x = under (first_of checks) x
 

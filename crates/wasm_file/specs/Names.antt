@@ -48,12 +48,12 @@ pair_at w = do
   name ← name_at w.bytes index.1
   Some ((index.0, name.0), name.1)
 
--- The records where the check holds, and no records otherwise.
+-- The records if the check holds, and no records otherwise.
 abbrev pub whole_or_none : {X : Type 0} → Check → List X → List X
 whole_or_none (Ok x) read = read
 whole_or_none (Err e) read = []
 
--- The pairs of a subsection, and none where one of them can't be read (WebAssembly core 2.0, 7.4.1 Name
+-- The pairs of a subsection, and none if one of them can't be read (WebAssembly core 2.0, 7.4.1 Name
 -- Section).
 unfoldable pub pairs_in : Option Window → List (ℕ × List ℕ)
 pairs_in None = []
@@ -77,12 +77,12 @@ abbrev pub first_of_index : ℕ → List (ℕ × List ℕ) → Option (List ℕ)
 first_of_index index [] = None
 first_of_index index (p ∷ pairs) = if p.0 == index then Some p.1 else first_of_index index pairs
 
--- The name, where it isn't empty.
+-- The name, if it isn't empty.
 abbrev pub some_name : Option (List ℕ) → Option (List ℕ)
 some_name None = None
 some_name (Some []) = None
 some_name (Some (c ∷ name)) = Some (c ∷ name)
 
--- The name of a function in these pairs: that of the first pair with its index, where it isn't empty.
+-- The name of a function in these pairs: that of the first pair with its index, if it isn't empty.
 abbrev pub name_in : List (ℕ × List ℕ) → ℕ → Option (List ℕ)
 name_in pairs index = some_name (first_of_index index pairs)

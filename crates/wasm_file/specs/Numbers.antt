@@ -6,13 +6,13 @@ use Rattle.byte_cursor.specs.declared.order.Order.TheVariants.{Little}
 use Rattle.byte_cursor.specs.Numbers.{num, uleb}
 use Rattle.byte_cursor.specs.Window.{Window}
 
--- A read, and then a read that depends on its value. None where one of them is.
+-- A read, and then a read that depends on its value. None if one of them is.
 infixl 10 ◌>>=◌
 abbrev pub ◌>>=◌ : {A B : Type 0} → Option A → (A → Option B) → Option B
 None >>= f = None
 (Some x) >>= f = f x
 
--- The value, where it passes the test.
+-- The value, if it passes the test.
 abbrev pub provided : {A : Type 0} → (A → Bool) → A → Option A
 provided test x = if test x then Some x else None
 

@@ -15,7 +15,7 @@ check_of (Err e) = Err e
 abbrev pub checks_of : {X : Type 0} → List (Result X BadFile) → List Check
 checks_of read = map check_of read
 
--- The value where the check holds, or the fault of the check.
+-- The value if the check holds, or the fault of the check.
 abbrev pub under : {X : Type 0} → Check → X → Result X BadFile
 under (Ok c) x = Ok x
 under (Err e) x = Err e
@@ -37,7 +37,7 @@ unfoldable pub records : {X : Type 0} → (Window → Option (X × ℕ)) → ℕ
 records read zero w = []
 records read (suc count) w = record_and_rest (read w) (place_of w) (λ next. records read count (record w { at = next }))
 
--- As many records as the count that was read, or BadWasm at its offset where there is no count.
+-- As many records as the count that was read, or BadWasm at its offset if there is no count.
 abbrev pub counted : {X : Type 0} → (Window → Option (X × ℕ)) → Option (ℕ × ℕ) → Window → List (Result X BadFile)
 counted read None w = bad BadWasm (place_of w) ∷ []
 counted read (Some count) w = records read count.0 (record w { at = count.1 })

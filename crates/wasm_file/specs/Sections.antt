@@ -21,7 +21,7 @@ pub record SectionRecord : Type 0 where
   pub name : Option (List ℕ)
   pub contents : Window
 
--- The name at the start of the contents of a custom section, where it can be read (WebAssembly core 2.0,
+-- The name at the start of the contents of a custom section, if it can be read (WebAssembly core 2.0,
 -- 5.5.3 Custom Section).
 unfoldable pub section_name : ℕ → List ℕ → Option (List ℕ)
 section_name id contents = if id == CUSTOM then value_of (name_at contents 0) else None
@@ -36,12 +36,12 @@ section_of file at size = let contents = window_at 0 file size in record {
   contents = contents;
 }
 
--- The value, or this fault where there is none.
+-- The value, or this fault if there is none.
 abbrev pub present : {X : Type 0} → Option X → Fault → ℕ → Result X BadFile
 present None fault place = bad fault place
 present (Some x) fault place = Ok x
 
--- The size field at an offset, and the offset after it. Truncated where it has no end, and BadLeb where it
+-- The size field at an offset, and the offset after it. Truncated if it has no end, and BadLeb if it
 -- isn't a number below 2^32 in at most five bytes; both faults are at offset place (WebAssembly core 2.0,
 -- 5.5.2 Sections).
 unfoldable pub size_at : List ℕ → ℕ → ℕ → Result (ℕ × ℕ) BadFile

@@ -3,7 +3,7 @@ use Rattle.std.specs.Prelude.{◌≡◌, ℕ, ◌≤◌, Option, Some, None, Ok}
 use Rattle.byte_cursor.specs.Window.{Window}
 use Rattle.wasm_file.specs.Sections.{size_at}
 
--- The window after a read. It is unchanged where the read failed.
+-- The window after a read. It is unchanged if the read failed.
 abbrev pub window_after : {X : Type 0} → Window → Option (X × ℕ) → Window
 window_after w None = w
 window_after w (Some x) = record w { at = x.1 }

@@ -7,7 +7,7 @@ pub struct Body<'a> {
     pub index: u32,
     /// The file offset of the size field of the body.
     pub place: u64,
-    /// The bytes of the size field and of the body.
+    /// The number of bytes of the size field and the body together.
     pub len: u64,
     /// Its name, if the module has one.
     pub name: Option<&'a [u8]>,

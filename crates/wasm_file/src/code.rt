@@ -51,7 +51,7 @@ fn add_name<'a>(
     Ok(())
 }
 
-/// Returns the names by index. Where an index has several, the first one counts.
+/// Returns the names by index. If an index has several, the first one counts.
 fn name_table<'a>(
     alloc: Global,
     names: FunctionNames<'a>,
@@ -65,7 +65,7 @@ fn name_table<'a>(
     Ok(table)
 }
 
-/// Returns the name of an index in the table. `None` where the name is empty.
+/// Returns the name of an index in the table. `None` if the name is empty.
 fn name_at<'a>(table: &HashMap<u32, &'a [u8]>, index: u32) -> Option<&'a [u8]>
     ensures { option_copied result ≡ some_name (option_copied (get nat_eq table.now index)) }
 {
@@ -93,7 +93,7 @@ fn read_extent(cursor: &mut Cursor) -> Option<Extent>
 /// Reads `count` bodies. They get the function indices from `first` on, and their names. BadWasm at the
 /// first body that can't be read.
 #[tactic(auto, using(crate::proofs::RecordLemmas::fault_end, crate::proofs::RecordLemmas::fault_here, crate::proofs::RecordLemmas::values_end))]
-fn numbered<'a>(
+fn read_bodies<'a>(
     alloc: Global,
     cursor: Cursor<'a>,
     count: u32,
@@ -125,7 +125,7 @@ fn numbered<'a>(
     Ok(bodies)
 }
 
-/// Returns the bodies of a Code section, and none where there is no such section. BadWasm where the count
+/// Returns the bodies of a Code section, and none if there is no such section. BadWasm if the count
 /// or a body can't be read.
 #[tactic(auto, unfolding(crate::specs::Functions::bodies_in, crate::specs::Records::vector, crate::specs::Records::fault_in, crate::specs::Records::values_in))]
 pub fn numbered_bodies<'a>(
@@ -143,7 +143,7 @@ pub fn numbered_bodies<'a>(
     };
     let place = cursor.place();
     match number(&mut cursor) {
-        Some(count) => numbered(alloc, cursor, count, first, names),
+        Some(count) => read_bodies(alloc, cursor, count, first, names),
         None => Err(WasmAnswer::Bad(bad_wasm(place))),
     }
 }

@@ -101,8 +101,8 @@ impl<'a> WasmFile<'a> {
     }
 
     /// Returns the name of a function: that of the first pair with its index, in the function names of the
-    /// first custom section `name` (WebAssembly core 2.0, 7.4.1 Name Section). `None` where there is no
-    /// such pair, where the name is empty, and where one of the function names can't be read.
+    /// first custom section `name` (WebAssembly core 2.0, 7.4.1 Name Section). `None` if there is no
+    /// such pair, if the name is empty, and if one of the function names can't be read.
     #[tactic(auto, unfolding(crate::specs::Functions::name_of))]
     pub fn name_of(&self, index: u32) -> Option<&'a [u8]>
         ensures { option_copied result ≡ name_of self.now index }
@@ -111,8 +111,8 @@ impl<'a> WasmFile<'a> {
     }
 
     /// Returns the functions with bodies, in the order of the first Code section. Imported functions have
-    /// the first indices. BadWasm where the count or an import of the first Import section can't be read,
-    /// and then where the count or a body of the first Code section can't be read. The fault has the file
+    /// the first indices. BadWasm if the count or an import of the first Import section can't be read,
+    /// and then if the count or a body of the first Code section can't be read. The fault has the file
     /// offset of the section's contents for a count, and that of the import or body otherwise.
     #[tactic(auto, using(crate::proofs::FunctionLemmas::bad_imports, crate::proofs::FunctionLemmas::good_imports))]
     pub fn functions(&self, alloc: Global) -> Result<Vec<Body<'a>>, WasmAnswer>

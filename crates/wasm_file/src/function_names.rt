@@ -87,7 +87,7 @@ impl<'a> Iterator for FunctionNames<'a> {
     }
 }
 
-/// Returns the pairs of a subsection, and none where one of them can't be read.
+/// Returns the pairs of a subsection, and none if one of them can't be read.
 #[tactic(auto, unfolding(crate::specs::Names::pairs_in, crate::specs::Records::vector, crate::specs::Records::fault_in, crate::specs::Records::values_in))]
 pub fn pairs_in<'a>(contents: Option<Cursor<'a>>) -> FunctionNames<'a>
     ensures { result ≡ pairs_in contents.entry }

@@ -2,7 +2,7 @@
 
 ghost use Rattle.std.specs.Prelude.{◌≡◌, None, MatchOption, count_by, if◌then◌else◌};
 ghost use Rattle.size_core.specs.declared.fault.Fault.TheVariants.{BadWasm};
-ghost use Rattle.wasm_file.specs.Imports.{behind_description, behind_limits, function_count, import_at, imports_in};
+ghost use Rattle.wasm_file.specs.Imports.{after_description, after_limits, function_count, import_at, imports_in};
 ghost use Rattle.wasm_file.specs.Module.{checked};
 ghost use Rattle.wasm_file.specs.Records.{IsRead, checks_of, fault_in, under, values_in};
 ghost use Rattle.wasm_file.specs.Steps.{IsPassed};
@@ -12,13 +12,13 @@ use crate::reads::{byte, long_number, name, number};
 use byte_cursor::Cursor;
 use size_core::{BadFile, Fault};
 
-/// Skips limits: a flag and the minimum, and the maximum where bit 0 of the flag is set (WebAssembly core
+/// Skips limits: a flag and the minimum, and the maximum if bit 0 of the flag is set (WebAssembly core
 /// 2.0, 5.3.7 Limits).
-#[tactic(auto, unfolding(crate::specs::Imports::behind_limits))]
+#[tactic(auto, unfolding(crate::specs::Imports::after_limits))]
 fn skip_limits(cursor: &mut Cursor) -> Option<()>
     ensures { MatchOption result
-        (behind_limits cursor.old.bytes cursor.old.at ≡ None)
-        (λ _. IsPassed cursor.old (behind_limits cursor.old.bytes cursor.old.at) cursor.new) }
+        (after_limits cursor.old.bytes cursor.old.at ≡ None)
+        (λ _. IsPassed cursor.old (after_limits cursor.old.bytes cursor.old.at) cursor.new) }
 {
     let flag = byte(cursor)?;
     long_number(cursor)?;
@@ -29,11 +29,11 @@ fn skip_limits(cursor: &mut Cursor) -> Option<()>
 }
 
 /// Skips the description of an import of this kind.
-#[tactic(auto, unfolding(crate::specs::Imports::behind_description))]
+#[tactic(auto, unfolding(crate::specs::Imports::after_description))]
 fn skip_description(cursor: &mut Cursor, kind: u8) -> Option<()>
     ensures { MatchOption result
-        (behind_description cursor.old.bytes kind cursor.old.at ≡ None)
-        (λ _. IsPassed cursor.old (behind_description cursor.old.bytes kind cursor.old.at) cursor.new) }
+        (after_description cursor.old.bytes kind cursor.old.at ≡ None)
+        (λ _. IsPassed cursor.old (after_description cursor.old.bytes kind cursor.old.at) cursor.new) }
 {
     match kind {
         FUNCTION_IMPORT => {
@@ -94,8 +94,8 @@ fn count_functions(cursor: Cursor, count: u32) -> Result<u32, BadFile>
     Ok(found)
 }
 
-/// Returns the number of imported functions of an Import section, and 0 where there is no such section.
-/// BadWasm where the count or an import can't be read.
+/// Returns the number of imported functions of an Import section, and 0 if there is no such section.
+/// BadWasm if the count or an import can't be read.
 #[tactic(auto, unfolding(crate::specs::Imports::imports_in, crate::specs::Records::vector, crate::specs::Records::fault_in, crate::specs::Records::values_in))]
 pub fn function_imports(section: Option<Cursor>) -> Result<u32, BadFile>
     ensures { result ≡ checked (checks_of (imports_in section.entry)) (function_count (imports_in section.entry)) }

@@ -81,7 +81,7 @@ pub fn function_names<'a>(sections: WasmSections<'a>) -> FunctionNames<'a>
     pairs_in(find_name_subsection(find_custom_section(sections, b"name")))
 }
 
-/// Returns the name of a function. `None` where the name is empty.
+/// Returns the name of a function. `None` if the name is empty.
 pub fn name_in<'a>(names: FunctionNames<'a>, index: u32) -> Option<&'a [u8]>
     ensures { option_copied result ≡ name_in names.entry index }
 {
@@ -93,7 +93,7 @@ pub fn name_in<'a>(names: FunctionNames<'a>, index: u32) -> Option<&'a [u8]>
     None
 }
 
-/// Returns the name. `None` where it is empty.
+/// Returns the name. `None` if it is empty.
 pub fn some_name<'a>(name: &'a [u8]) -> Option<&'a [u8]>
     ensures { option_copied result ≡ some_name (Some name.now) }
 {

@@ -1,5 +1,5 @@
 //! Reads numbers, names and byte vectors of a module. Each read returns the value at the cursor's position
-//! and moves past it. It returns `None` where the value can't be read, and the position is then
+//! and moves past it. It returns `None` if the value can't be read, and the position is then
 //! unspecified.
 
 ghost use Rattle.std.specs.Prelude.{◌≡◌, OnSome};

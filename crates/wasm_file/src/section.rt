@@ -20,7 +20,7 @@ pub struct WasmSection<'a> {
     pub len: u64,
     /// Its id.
     pub id: u8,
-    /// The name of a custom section, where it can be read.
+    /// The name of a custom section, if it can be read.
     pub name: Option<&'a [u8]>,
     /// The bytes after the id and the size field.
     pub contents: Cursor<'a>,
@@ -38,8 +38,8 @@ fn section_name<'a>(id: u8, contents: &Cursor<'a>) -> Option<&'a [u8]>
     name(&mut contents.fork())
 }
 
-/// Returns the size of the contents of the section at file offset `place`. Truncated where the size field
-/// has no end, and BadLeb where it isn't a number below 2^32 in at most five bytes.
+/// Returns the size of the contents of the section at file offset `place`. Truncated if the size field
+/// has no end, and BadLeb if it isn't a number below 2^32 in at most five bytes.
 #[tactic(auto, unfolding(crate::specs::Sections::size_at, crate::specs::Numbers::number_at))]
 fn section_size(cursor: &mut Cursor, place: u64) -> Result<u32, BadFile>
     ensures { MatchResult result

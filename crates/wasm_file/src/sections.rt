@@ -23,7 +23,7 @@ pub fn check_sections(cursor: Cursor) -> Result<(), BadFile>
     Ok(())
 }
 
-/// Reads the next section. `None` where none is left.
+/// Reads the next section. `None` if none is left.
 #[tactic(auto, using(crate::proofs::SectionLemmas::section_end, crate::proofs::SectionLemmas::section_next, crate::proofs::SectionLemmas::fault_here, crate::proofs::SectionLemmas::still_there))]
 fn next_section<'a>(cursor: &mut Cursor<'a>) -> Option<WasmSection<'a>>
     requires { AreThere cursor.old }

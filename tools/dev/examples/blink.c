@@ -1,4 +1,4 @@
-// The program of the manual's examples with a debug file, and of those that explain a place.
+// The program of the manual's examples with a debug file, and of those that explain a location.
 #include <stdio.h>
 
 static int levels[4] = {0, 1, 3, 2};

@@ -1,4 +1,4 @@
--- A file is counted as it is decided.
+-- A file is counted as its definition says.
 use Rattle.std.proofs.Common.{◌≡◌, ◌+◌, length, Ok, sym, ap, ◌∙◌}
 use Rattle.file_profile.specs.Counts.{filter_test}
 use Rattle.file_profile.specs.Views.{viewed}

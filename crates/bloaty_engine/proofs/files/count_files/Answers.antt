@@ -2,12 +2,12 @@
 use Rattle.std.proofs.Common.{◌≡◌, ◌+◌, ◌-◌, ◌≤◌, [], ◌∷◌, Ok, Err, length, take, drop, min, refl, ap, ◌∙◌, rules, arith}
 use Rattle.std.proofs.lemmas.Result.{err_from_is_err_and}
 use Rattle.file_profile.specs.Counts.{filter_test}
-use Rattle.bloaty_engine.specs.Reading.{reading_from}
+use Rattle.bloaty_engine.specs.Reading.{file_reading}
 use Rattle.bloaty_engine.specs.Steps.{batch_of, batch_reading}
 use Rattle.bloaty_engine.proofs.FileLemmas.{all-counted, count-ends, counted-next, counted-none, extended, min-within, ok-some, read-ends}
 use Rattle.bloaty_engine.specs.Verdict.{file_limit, total_limit}
 use Rattle.file_profile.proofs.MapLemmas.{err-same}
-use Rattle.bloaty_engine.proofs.ReadLemmas.{take-next, take-none}
+use Rattle.bloaty_engine.proofs.ReadLemmas.{take-length, take-next, take-none}
 use Rattle.bloaty_engine.proofs.StepLemmas.{batch-part, follows, front, front-all, front-rest, same-batch, same-ok, stops, then-ok, then-unread, unread-ok}
 use Rattle.bloaty_engine.proofs.TakenLemmas.{taken-more, taken-none}
 use Rattle.bloaty_engine.proofs.files.count_files.Goals as goal
@@ -64,9 +64,9 @@ loop-k-preserved g c =
       counted = counted-next (g.F.Files.held c.args.files.now) c.args.run.now.limits c.args.plan.now.sources (filter_test c.args.plan.now.filter) batch c.loop-k.k c.loop-k.tally.bytes (c.loop-k.tally.bytes + c.len.result)
           c.loop-k.total c.count_file.new.total c.get-name.result.now found.0 f.0 to more c.get-name.ensures le f.1 has (omega (arith, more_taken, to.lengths_are));
       within = omega (arith, room, len);
-      reads = follows g.F.Files (front c.args.run.now.limits batch c.loop-k.k) (reading_from (batch.first + c.loop-k.k) (c.get-name.result.now ∷ []) (c.min-limit.result + 1)) (front c.args.run.now.limits batch (c.loop-k.k + 1)) tt (Ok tt)
+      reads = follows g.F.Files (front c.args.run.now.limits batch c.loop-k.k) (file_reading (batch.first + c.loop-k.k) c.get-name.result.now c.min-limit.result) (front c.args.run.now.limits batch (c.loop-k.k + 1)) tt (Ok tt)
           c.loop-k.total.lengths c.args.files.now c.loop-k.files c.read_file.new.files (take-next c.args.names.now c.loop-k.k c.get-name.result.now c.get-name.ensures)
-          (batch-part c.args.run.now.limits batch c.loop-k.k c.loop-k.tally.bytes c.min-limit.result c.loop-k.total.lengths c.get-name.result.now (take (c.loop-k.k + 1) c.args.names.now) c.get-name.ensures c.loop-k.invariant.counted.lengths_are c.loop-k.invariant.within limit)
+          (batch-part c.args.run.now.limits batch c.loop-k.k (length (take c.loop-k.k c.args.names.now)) c.loop-k.tally.bytes c.min-limit.result c.loop-k.total.lengths c.get-name.result.now (take (c.loop-k.k + 1) c.args.names.now) (take-length c.args.names.now c.loop-k.k (omega (arith, c.loop-k-test.true, c.len-k-end.ensures))) c.get-name.ensures c.loop-k.invariant.counted.lengths_are c.loop-k.invariant.within limit)
           c.loop-k.invariant.reads c.loop-k.invariant.taken (same-ok g.F.Files _ c.in_ok-file.file tt _ _ (rw c.as_str.ensures at c.in_ok-file.ensures.files));
       taken = rw more_taken (taken-more (g.F.Files.held c.args.files.now) c.loop-k.total.lengths c.len.result _ _ _ c.loop-k.invariant.taken taken);
     }
@@ -84,8 +84,8 @@ returns-in_err-file-clause-files g c =
     let batch = batch_of c.args.tally.now.files c.args.tally.now.bytes c.args.names.now in
     let p = err_from_is_err_and c.from_residual.result c.from_residual.ensures.1 in
     let limit : c.min-limit.result ≡ min (file_limit c.args.run.now.limits) (total_limit c.args.run.now.limits - c.loop-k.tally.bytes) = rw (c.file_limit.ensures, c.total_limit.ensures) at c.min-limit.ensures in
-    let part = batch-part c.args.run.now.limits batch c.loop-k.k c.loop-k.tally.bytes c.min-limit.result c.loop-k.total.lengths c.get-name.result.now (take (c.loop-k.k + 1) c.args.names.now) c.get-name.ensures c.loop-k.invariant.counted.lengths_are c.loop-k.invariant.within limit in
-    let to = follows g.F.Files (front c.args.run.now.limits batch c.loop-k.k) (reading_from (batch.first + c.loop-k.k) (c.get-name.result.now ∷ []) (c.min-limit.result + 1)) (front c.args.run.now.limits batch (c.loop-k.k + 1)) tt (Err c.in_err-file.field-0.0)
+    let part = batch-part c.args.run.now.limits batch c.loop-k.k (length (take c.loop-k.k c.args.names.now)) c.loop-k.tally.bytes c.min-limit.result c.loop-k.total.lengths c.get-name.result.now (take (c.loop-k.k + 1) c.args.names.now) (take-length c.args.names.now c.loop-k.k (omega (arith, c.loop-k-test.true, c.len-k-end.ensures))) c.get-name.ensures c.loop-k.invariant.counted.lengths_are c.loop-k.invariant.within limit in
+    let to = follows g.F.Files (front c.args.run.now.limits batch c.loop-k.k) (file_reading (batch.first + c.loop-k.k) c.get-name.result.now c.min-limit.result) (front c.args.run.now.limits batch (c.loop-k.k + 1)) tt (Err c.in_err-file.field-0.0)
     c.loop-k.total.lengths c.args.files.now c.loop-k.files c.read_file.new.files (take-next c.args.names.now c.loop-k.k c.get-name.result.now c.get-name.ensures) part
     c.loop-k.invariant.reads c.loop-k.invariant.taken (rw c.as_str.ensures at c.in_err-file.ensures.files) in
     rw (p.1, p.2) (stops g.F.Files (front c.args.run.now.limits batch (c.loop-k.k + 1)) (batch_reading c.args.run.now.limits batch) (drop (c.loop-k.k + 1) c.args.names.now) c.in_err-file.field-0.0 c.args.files.now c.read_file.new.files
@@ -99,16 +99,16 @@ returns-in_err-count_file-clause-files g c =
     let limit : c.min-limit.result ≡ min (file_limit c.args.run.now.limits) (total_limit c.args.run.now.limits - c.loop-k.tally.bytes) = rw (c.file_limit.ensures, c.total_limit.ensures) at c.min-limit.ensures in
     let room : c.loop-k.tally.bytes + length found.0 ≤ total_limit c.args.run.now.limits
     = omega (arith, found.2.1, c.loop-k.invariant.within, min-within (file_limit c.args.run.now.limits) (total_limit c.args.run.now.limits) c.loop-k.tally.bytes c.min-limit.result limit) in
-    let part = batch-part c.args.run.now.limits batch c.loop-k.k c.loop-k.tally.bytes c.min-limit.result c.loop-k.total.lengths c.get-name.result.now (take (c.loop-k.k + 1) c.args.names.now) c.get-name.ensures c.loop-k.invariant.counted.lengths_are c.loop-k.invariant.within limit in
-    let to = follows g.F.Files (front c.args.run.now.limits batch c.loop-k.k) (reading_from (batch.first + c.loop-k.k) (c.get-name.result.now ∷ []) (c.min-limit.result + 1)) (front c.args.run.now.limits batch (c.loop-k.k + 1)) tt (Ok c.in_ok-file.file)
+    let part = batch-part c.args.run.now.limits batch c.loop-k.k (length (take c.loop-k.k c.args.names.now)) c.loop-k.tally.bytes c.min-limit.result c.loop-k.total.lengths c.get-name.result.now (take (c.loop-k.k + 1) c.args.names.now) (take-length c.args.names.now c.loop-k.k (omega (arith, c.loop-k-test.true, c.len-k-end.ensures))) c.get-name.ensures c.loop-k.invariant.counted.lengths_are c.loop-k.invariant.within limit in
+    let to = follows g.F.Files (front c.args.run.now.limits batch c.loop-k.k) (file_reading (batch.first + c.loop-k.k) c.get-name.result.now c.min-limit.result) (front c.args.run.now.limits batch (c.loop-k.k + 1)) tt (Ok c.in_ok-file.file)
     c.loop-k.total.lengths c.args.files.now c.loop-k.files c.read_file.new.files (take-next c.args.names.now c.loop-k.k c.get-name.result.now c.get-name.ensures) part
     c.loop-k.invariant.reads c.loop-k.invariant.taken (rw c.as_str.ensures at c.in_ok-file.ensures.files) in
     rw (p.1, p.2) (then-unread g.F.Files (front c.args.run.now.limits batch (c.loop-k.k + 1)) (batch_reading c.args.run.now.limits batch) (drop (c.loop-k.k + 1) c.args.names.now) c.in_ok-file.file (Err c.in_err-count_file.field-0.0) c.args.files.now c.read_file.new.files
-    (front-rest c.args.names.now (c.loop-k.k + 1)) tt
+    (front-rest c.args.names.now (c.loop-k.k + 1)) (omega arith) tt
     (λ i e. rw (err-same _ _ e) at ((rw (c.deref.ensures.value, found.2.0) at c.in_err-count_file.ensures.ended) c.loop-k.tally.bytes room)) (λ i e. c.in_err-count_file.ensures.short i (ap Err (err-same _ _ e))) to)
 
 pub returns-clause-files : goal.returns-clause-files
 returns-clause-files g c =
     let batch = batch_of c.args.tally.now.files c.args.tally.now.bytes c.args.names.now in
     then-ok g.F.Files (front c.args.run.now.limits batch c.loop-k.k) (batch_reading c.args.run.now.limits batch) [] tt c.loop-k.total c.args.files.now c.loop-k.files
-    (front-all c.args.names.now c.loop-k.k (omega (arith, c.loop-k-test.false, c.len-k-end.ensures))) refl c.loop-k.invariant.reads
+    (front-all c.args.names.now c.loop-k.k (omega (arith, c.loop-k-test.false, c.len-k-end.ensures))) (omega arith) refl c.loop-k.invariant.reads

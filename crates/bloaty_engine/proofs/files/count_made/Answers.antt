@@ -1,4 +1,4 @@
--- The made file is counted, or it is too long.
+-- The synthetic file is counted, or it is too long.
 use Rattle.std.proofs.Common.{◌≡◌, ◌+◌, ◌<◌, ◌≤◌, [], ◌∷◌, length, min, ap, codes, arith}
 use Rattle.std.proofs.lemmas.Result.{err_from_is_err_and}
 use Rattle.elf_synth.specs.Made.{made}

@@ -1,4 +1,4 @@
-use Rattle.std.proofs.Common.{[], sym, refl}
+use Rattle.std.proofs.Common.{[], sym, refl, arith}
 use Rattle.std.proofs.lemmas.List.{append-nil}
 use Rattle.std.proofs.lemmas.Result.{err_from_is_err_and}
 use Rattle.bloaty_engine.specs.Steps.{batch_of, batch_reading}
@@ -15,9 +15,9 @@ pub returns-in_err-growth_of-clause-files : goal.returns-in_err-growth_of-clause
 returns-in_err-growth_of-clause-files g c =
     let p = err_from_is_err_and c.from_residual-in_err-growth_of.result c.from_residual-in_err-growth_of.ensures.1 in
     let q = batch_reading c.args.run.now.limits (batch_of c.args.tally.now.files c.args.tally.now.bytes c.args.run.now.options.bases) in
-    rw (p.1, p.2) (then-no-memory g.F.Files q q [] c.in_ok-base.base c.args.files.now c.count_files.new.files (sym (append-nil q.names)) c.in_ok-base.ensures.files)
+    rw (p.1, p.2) (then-no-memory g.F.Files q q [] c.in_ok-base.base c.args.files.now c.count_files.new.files (sym (append-nil q.names)) (omega arith) c.in_ok-base.ensures.files)
 
 pub returns-clause-files : goal.returns-clause-files
 returns-clause-files g c =
     let q = batch_reading c.args.run.now.limits (batch_of c.args.tally.now.files c.args.tally.now.bytes c.args.run.now.options.bases) in
-    then-ok g.F.Files q q [] c.in_ok-base.base c.in_ok-growth_of.field-0 c.args.files.now c.count_files.new.files (sym (append-nil q.names)) refl c.in_ok-base.ensures.files
+    then-ok g.F.Files q q [] c.in_ok-base.base c.in_ok-growth_of.field-0 c.args.files.now c.count_files.new.files (sym (append-nil q.names)) (omega arith) refl c.in_ok-base.ensures.files

@@ -1,4 +1,4 @@
--- They add up in every tree of growth.
+-- Growths add up in every tree of growth.
 use Rattle.bloaty_engine.specs.Report.{depth_of, row_options}
 use Rattle.bloaty_engine.proofs.laws.growths_add_up.Goals as goal
 

@@ -1,4 +1,4 @@
--- They add up in the rows of every report.
+-- Sizes add up in the rows of every report.
 use Rattle.bloaty_engine.specs.Report.{depth_of, row_options}
 use Rattle.bloaty_engine.proofs.laws.sizes_add_up.Goals as goal
 

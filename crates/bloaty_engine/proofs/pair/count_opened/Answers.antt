@@ -1,4 +1,4 @@
--- The pair is counted as it is decided.
+-- The pair is counted as its definition says.
 use Rattle.std.proofs.Common.{◌+◌, [], length, sym, ap, ◌∙◌}
 use Rattle.file_profile.specs.Counts.{filter_test}
 use Rattle.bloaty_engine.specs.Verdict.{first_name}

@@ -6,7 +6,7 @@ use Rattle.file_profile.proofs.MapLemmas.{err-same}
 use Rattle.bloaty_engine.specs.Verdict.{file_limit, first_name, total_limit}
 use Rattle.bloaty_engine.proofs.HeldLemmas.{held-some}
 use Rattle.bloaty_engine.proofs.PairLemmas.{pair-counted, pair-first, paired-not-long, paired-unread, second-read}
-use Rattle.bloaty_engine.specs.Reading.{reading_from}
+use Rattle.bloaty_engine.specs.Reading.{file_reading}
 use Rattle.bloaty_engine.specs.Steps.{batch_of, batch_reading}
 use Rattle.bloaty_engine.proofs.ReadLemmas.{OnOk-any}
 use Rattle.bloaty_engine.proofs.StepLemmas.{batch-part, follows, front-part, same-all, stops, then-unread}
@@ -57,23 +57,23 @@ returns-in_err-other-clause-files g c =
     let batch = batch_of 0 0 (name ∷ c.args.debug.now ∷ []) in
     let len : c.len.result ≡ length c.in_ok-file.file.items = omega (arith, c.len.ensures, c.in_ok-file.file.ok) in
     let limit : c.min-limit.result ≡ min (file_limit c.args.run.now.limits) (total_limit c.args.run.now.limits - length c.in_ok-file.file.items) = rw (c.file_limit.ensures, c.total_limit.ensures, len) at c.min-limit.ensures in
-    let part = batch-part c.args.run.now.limits batch 1 (length c.in_ok-file.file.items) c.min-limit.result (length c.in_ok-file.file.items) c.args.debug.now batch.names refl (omega arith) (omega (arith, c.in_ok-file.ensures.room)) limit in
-    rw (p.1, p.2) (follows g.F.Files (batch_reading c.args.run.now.limits (batch_of 0 0 (name ∷ []))) (reading_from 2 (c.args.debug.now ∷ []) (c.min-limit.result + 1)) (batch_reading c.args.run.now.limits batch) c.in_ok-file.file (Err c.in_err-other.field-0.0)
+    let part = batch-part c.args.run.now.limits batch 1 1 (length c.in_ok-file.file.items) c.min-limit.result (length c.in_ok-file.file.items) c.args.debug.now batch.names refl refl (omega arith) (omega (arith, c.in_ok-file.ensures.room)) limit in
+    rw (p.1, p.2) (follows g.F.Files (batch_reading c.args.run.now.limits (batch_of 0 0 (name ∷ []))) (file_reading 2 c.args.debug.now c.min-limit.result) (batch_reading c.args.run.now.limits batch) c.in_ok-file.file (Err c.in_err-other.field-0.0)
     (length c.in_ok-file.file.items) c.args.files.now c.read_first.new.files c.read_file.new.files refl part c.in_ok-file.ensures.files c.in_ok-file.ensures.taken
-    (stops g.F.Files (reading_from 2 (c.args.debug.now ∷ []) (c.min-limit.result + 1)) (reading_from 2 (c.args.debug.now ∷ []) (c.min-limit.result + 1)) [] c.in_err-other.field-0.0 c.read_first.new.files c.read_file.new.files refl
-    (same-all (reading_from 2 (c.args.debug.now ∷ []) (c.min-limit.result + 1))) (rw c.as_str.ensures at c.in_err-other.ensures.files)))
+    (stops g.F.Files (file_reading 2 c.args.debug.now c.min-limit.result) (file_reading 2 c.args.debug.now c.min-limit.result) [] c.in_err-other.field-0.0 c.read_first.new.files c.read_file.new.files refl
+    (same-all (file_reading 2 c.args.debug.now c.min-limit.result)) (rw c.as_str.ensures at c.in_err-other.ensures.files)))
 
 pub returns-clause-files : goal.returns-clause-files
 returns-clause-files g c =
     let name = first_name c.args.run.now.options in
     let batch = batch_of 0 0 (name ∷ c.args.debug.now ∷ []) in
-    let one = reading_from 2 (c.args.debug.now ∷ []) (c.min-limit.result + 1) in
+    let one = file_reading 2 c.args.debug.now c.min-limit.result in
     let len : c.len.result ≡ length c.in_ok-file.file.items = omega (arith, c.len.ensures, c.in_ok-file.file.ok) in
     let limit : c.min-limit.result ≡ min (file_limit c.args.run.now.limits) (total_limit c.args.run.now.limits - length c.in_ok-file.file.items) = rw (c.file_limit.ensures, c.total_limit.ensures, len) at c.min-limit.ensures in
     let paired = rw (c.deref.ensures.value, c.deref-2.ensures.value) at c.count_opened.ensures in
-    let part = batch-part c.args.run.now.limits batch 1 (length c.in_ok-file.file.items) c.min-limit.result (length c.in_ok-file.file.items) c.args.debug.now batch.names refl (omega arith) (omega (arith, c.in_ok-file.ensures.room)) limit in
+    let part = batch-part c.args.run.now.limits batch 1 1 (length c.in_ok-file.file.items) c.min-limit.result (length c.in_ok-file.file.items) c.args.debug.now batch.names refl refl (omega arith) (omega (arith, c.in_ok-file.ensures.room)) limit in
     follows g.F.Files (batch_reading c.args.run.now.limits (batch_of 0 0 (name ∷ []))) one (batch_reading c.args.run.now.limits batch) c.in_ok-file.file c.count_opened.result
     (length c.in_ok-file.file.items) c.args.files.now c.read_first.new.files c.read_file.new.files refl part c.in_ok-file.ensures.files c.in_ok-file.ensures.taken
-    (then-unread g.F.Files one one [] c.in_ok-other.other c.count_opened.result c.read_first.new.files c.read_file.new.files refl (OnOk-any c.count_opened.result _ refl)
+    (then-unread g.F.Files one one [] c.in_ok-other.other c.count_opened.result c.read_first.new.files c.read_file.new.files refl (omega arith) (OnOk-any c.count_opened.result _ refl)
     (paired-unread c.args.run.now.limits c.args.plan.now.sources (filter_test c.args.plan.now.filter) name c.in_ok-file.file.items c.in_ok-other.other.items c.count_opened.result paired)
     (paired-not-long c.args.run.now.limits c.args.plan.now.sources (filter_test c.args.plan.now.filter) name c.in_ok-file.file.items c.in_ok-other.other.items c.count_opened.result paired) (rw c.as_str.ensures at c.in_ok-other.ensures.files))

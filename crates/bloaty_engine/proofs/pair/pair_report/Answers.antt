@@ -5,7 +5,7 @@ use Rattle.bloaty_engine.specs.Reading.{files_to_read, reading_for}
 use Rattle.bloaty_engine.specs.Steps.{batch_of, batch_reading}
 use Rattle.bloaty_engine.specs.Verdict.{first_name}
 use Rattle.bloaty_engine.proofs.PairLemmas.{debug-held, own-held, pair-ends, pair-found, pair-named, pair-one-input, pair-part, read-are, two}
-use Rattle.bloaty_engine.proofs.StepLemmas.{stops, then-no-memory, then-ok}
+use Rattle.bloaty_engine.proofs.StepLemmas.{part-most, stops, then-no-memory, then-ok}
 use Rattle.bloaty_engine.proofs.pair.pair_report.Goals as goal
 
 pub returns-in_err-total-clause-found : goal.returns-in_err-total-clause-found
@@ -44,7 +44,7 @@ returns-in_err-report_of-clause-files g c =
     let is = c.requires.limits.debug _ c.requires.debug in
     let q = reading_for c.args.run.now.limits o (files_to_read o) in
     rw (p.1, p.2) (then-no-memory g.F.Files (batch_reading c.args.run.now.limits (batch_of 0 0 (first_name o ∷ c.args.debug.now ∷ []))) q [] c.in_ok-total.total c.args.files.now c.count_pair.new.files
-    (read-are o (first_name o) c.args.debug.now is c.requires.debug (pair-named o is)) c.in_ok-total.ensures.files)
+    (read-are o (first_name o) c.args.debug.now is c.requires.debug (pair-named o is)) (part-most _ _ (pair-part c.args.run.now.limits o c.args.debug.now is c.requires.debug (files_to_read o))) c.in_ok-total.ensures.files)
 
 pub returns-clause-files : goal.returns-clause-files
 returns-clause-files g c =
@@ -52,7 +52,7 @@ returns-clause-files g c =
     let is = c.requires.limits.debug _ c.requires.debug in
     let q = reading_for c.args.run.now.limits o (files_to_read o) in
     then-ok g.F.Files (batch_reading c.args.run.now.limits (batch_of 0 0 (first_name o ∷ c.args.debug.now ∷ []))) q [] c.in_ok-total.total c.in_ok-report_of.field-0 c.args.files.now c.count_pair.new.files
-    (read-are o (first_name o) c.args.debug.now is c.requires.debug (pair-named o is)) refl c.in_ok-total.ensures.files
+    (read-are o (first_name o) c.args.debug.now is c.requires.debug (pair-named o is)) (part-most _ _ (pair-part c.args.run.now.limits o c.args.debug.now is c.requires.debug (files_to_read o))) refl c.in_ok-total.ensures.files
 
 pub returns-in_err-report_of-clause-found : goal.returns-in_err-report_of-clause-found
 returns-in_err-report_of-clause-found g c =

@@ -1,4 +1,4 @@
--- The place is explained as it is decided.
+-- The location is explained as its definition says.
 use Rattle.std.proofs.Common.{ap}
 use Rattle.bloaty_engine.specs.Verdict.{if_explained}
 use Rattle.bloaty_engine.proofs.PlaceLemmas.{ends-explained}

@@ -1,4 +1,4 @@
--- The made file is its bytes, or it is too long.
+-- The synthetic file has its bytes, or it is too long.
 use Rattle.std.proofs.Common.{length, refl, ap, arith}
 use Rattle.bloaty_engine.proofs.place.made_file.Goals as goal
 

@@ -1,7 +1,7 @@
--- The one file is that of its name, or the made one.
+-- The only file is the one that the arguments name, or the synthetic one.
 use Rattle.std.proofs.Common.{◌≡◌, ◌+◌, ◌∷◌, [], length, min, refl, ap, ◌∙◌}
 use Rattle.elf_synth.specs.Made.{made}
-use Rattle.bloaty_engine.specs.Reading.{reading_for, reading_from, unmade_names}
+use Rattle.bloaty_engine.specs.Reading.{file_reading, reading_for, unmade_names}
 use Rattle.bloaty_engine.specs.Verdict.{file_limit, first_name, total_limit}
 use Rattle.bloaty_engine.proofs.PairLemmas.{one-held}
 use Rattle.bloaty_engine.proofs.PlaceLemmas.{first-file, first-of-run}
@@ -35,6 +35,6 @@ returns-in-None-clause-files g c =
     let one : length o.files ≡ 1 = rw c.in-None.is at c.requires.one in
     let files = first-file o c.in-None.is one in
     let limit : c.min-limit.result ≡ min (file_limit c.args.run.now.limits) (total_limit c.args.run.now.limits) = rw (c.file_limit.ensures, c.total_limit.ensures) at c.min-limit.ensures in
-    reads-as g.F.Files (reading_from 1 (first_name o ∷ []) (c.min-limit.result + 1)) (reading_for c.args.run.now.limits o (unmade_names o.synth o.files)) c.read_file.result c.args.files.now c.read_file.new.files
+    reads-as g.F.Files (file_reading 1 (first_name o) c.min-limit.result) (reading_for c.args.run.now.limits o (unmade_names o.synth o.files)) c.read_file.result c.args.files.now c.read_file.new.files
     (ap (λ s. unmade_names s o.files) c.in-None.is ∙ files) (first-of-run c.args.run.now.limits o (unmade_names o.synth o.files) c.min-limit.result limit c.in-None.is files)
     (rw c.first_name.ensures at c.read_file.ensures.files)

@@ -1,5 +1,5 @@
--- The one file is read, and then its place explained.
-use Rattle.std.proofs.Common.{◌+◌, length, Err, refl, ap, ◌∙◌}
+-- The only file is read, and then a location of it is explained.
+use Rattle.std.proofs.Common.{◌+◌, length, Err, refl, ap, ◌∙◌, arith}
 use Rattle.std.proofs.Common.{subst}
 use Rattle.std.proofs.lemmas.Result.{err_from_is_err_and}
 use Rattle.bloaty_engine.specs.PlaceSteps.{EndsExplained, explained_within}
@@ -33,20 +33,20 @@ pub returns-in_err-sources-clause-files : goal.returns-in_err-sources-clause-fil
 returns-in_err-sources-clause-files g c =
     let p = err_from_is_err_and c.from_residual-in_err-sources.result c.from_residual-in_err-sources.ensures.1 in
     let o = c.args.run.now.options in
-    rw (p.1, p.2) (then-unread g.F.Files (reading_for c.args.run.now.limits o (unmade_names o.synth o.files)) (reading_for c.args.run.now.limits o (files_to_read o)) (other_names o) c.in_ok-file.file (Err c.in_err-sources.field-0.0) c.args.files.now c.only_file.new.files refl tt
+    rw (p.1, p.2) (then-unread g.F.Files (reading_for c.args.run.now.limits o (unmade_names o.synth o.files)) (reading_for c.args.run.now.limits o (files_to_read o)) (other_names o) c.in_ok-file.file (Err c.in_err-sources.field-0.0) c.args.files.now c.only_file.new.files refl (omega arith) tt
     (λ i e. rw (err-same _ _ e) at c.in_err-sources.ensures) (λ i e. rw (err-same _ _ e) at c.in_err-sources.ensures) c.in_ok-file.ensures.files)
 
 pub returns-in_err-text_of-clause-files : goal.returns-in_err-text_of-clause-files
 returns-in_err-text_of-clause-files g c =
     let p = err_from_is_err_and c.from_residual-in_err-text_of.result c.from_residual-in_err-text_of.ensures.1 in
     let o = c.args.run.now.options in
-    rw (p.1, p.2) (then-no-memory g.F.Files (reading_for c.args.run.now.limits o (unmade_names o.synth o.files)) (reading_for c.args.run.now.limits o (files_to_read o)) (other_names o) c.in_ok-file.file c.args.files.now c.only_file.new.files refl c.in_ok-file.ensures.files)
+    rw (p.1, p.2) (then-no-memory g.F.Files (reading_for c.args.run.now.limits o (unmade_names o.synth o.files)) (reading_for c.args.run.now.limits o (files_to_read o)) (other_names o) c.in_ok-file.file c.args.files.now c.only_file.new.files refl (omega arith) c.in_ok-file.ensures.files)
 
 pub returns-clause-files : goal.returns-clause-files
 returns-clause-files g c =
     let o = c.args.run.now.options in
     let alone = c.requires.limits.place _ c.requires.place in
-    then-ok g.F.Files (reading_for c.args.run.now.limits o (unmade_names o.synth o.files)) (reading_for c.args.run.now.limits o (files_to_read o)) (other_names o) c.in_ok-file.file c.in_ok-text_of.field-0 c.args.files.now c.only_file.new.files refl
+    then-ok g.F.Files (reading_for c.args.run.now.limits o (unmade_names o.synth o.files)) (reading_for c.args.run.now.limits o (files_to_read o)) (other_names o) c.in_ok-file.file c.in_ok-text_of.field-0 c.args.files.now c.only_file.new.files refl (omega arith)
     (no-other-names o alone) c.in_ok-file.ensures.files
 
 pub returns-in_err-sources-clause-found : goal.returns-in_err-sources-clause-found

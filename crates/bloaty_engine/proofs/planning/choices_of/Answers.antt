@@ -1,4 +1,4 @@
--- One name more has its data source, or has none.
+-- One more name has its data source, or has none.
 use Rattle.std.proofs.Common.{Some, length, sym, ap, ◌∙◌}
 use Rattle.std.proofs.lemmas.List.Elements.{All-push}
 use Rattle.file_profile.specs.Choices.{IsChoice}

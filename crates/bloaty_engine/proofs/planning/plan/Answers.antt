@@ -1,4 +1,4 @@
--- Each pattern is one of the grammar, or one isn't made.
+-- Each pattern is a regular expression of the grammar, or one isn't compiled.
 use Rattle.std.proofs.Common.{IfSome, IsOk, ◌∙◌, rules}
 use Rattle.std.proofs.lemmas.Result.{err_from_is_err_and}
 use Rattle.custom_rewrites.specs.Pattern.{IsPattern}

@@ -1,4 +1,4 @@
--- One data source more has its rewrites made, or a pattern of it isn't made.
+-- One more data source has its rewrites compiled, or one of its patterns isn't.
 use Rattle.std.proofs.Common.{◌≡◌, ◌+◌, Some, length, slice_get, refl, ap, ◌∙◌, arith}
 use Rattle.std.proofs.lemmas.Option.{slice_get_read}
 use Rattle.std.proofs.lemmas.Result.{err_from_is_err_and}

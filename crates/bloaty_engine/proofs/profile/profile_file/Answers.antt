@@ -1,4 +1,4 @@
--- What is answered and added is what profiling the opened file answers and adds.
+-- The answer and the added sizes are those of the opened file.
 use Rattle.std.proofs.Common.{◌≡◌, sym, ap, ◌∙◌}
 use Rattle.std.proofs.lemmas.Result.{err_from_is_err_and}
 use Rattle.file_profile.specs.Views.{alone}

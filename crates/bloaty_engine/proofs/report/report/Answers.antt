@@ -1,10 +1,10 @@
--- Each step ends the run as it is decided, or there is the report.
-use Rattle.std.proofs.Common.{Err, refl, sym, ap}
+-- Each step ends the run as its definition says, or the run has the report.
+use Rattle.std.proofs.Common.{Err, Ok, refl, sym, ap, arith}
 use Rattle.std.proofs.lemmas.Result.{err_from_is_err_and}
-use Rattle.bloaty_engine.specs.Reading.{config_names, files_to_read, names_to_read, reading_for}
+use Rattle.bloaty_engine.specs.Reading.{config_reading, files_to_read, reading_for, run_reading}
 use Rattle.file_profile.proofs.MapLemmas.{err-same}
 use Rattle.bloaty_engine.proofs.RunLemmas.{config-never-big, ends-config, ends-finding, ends-plan, never-big, planned-count}
-use Rattle.bloaty_engine.proofs.StepLemmas.{build-stops, built, goes-on, same-run, stops, then-unread, unbuilt}
+use Rattle.bloaty_engine.proofs.StepLemmas.{build-stops, built, config-run, files-run, goes-on, stops, then-unread, unbuilt}
 use Rattle.bloaty_engine.proofs.report.report.Goals as goal
 
 pub returns-in_err-customs-clause-run : goal.returns-in_err-customs-clause-run
@@ -37,21 +37,21 @@ pub returns-in_err-customs-clause-files : goal.returns-in_err-customs-clause-fil
 returns-in_err-customs-clause-files g c =
     let p = err_from_is_err_and c.from_residual.result c.from_residual.ensures.1 in
     let o = c.args.run.now.options in
-    rw (p.1, p.2) (stops g.F.Files (reading_for c.args.run.now.limits o (config_names o.config)) (reading_for c.args.run.now.limits o (names_to_read o)) (files_to_read o) c.in_err-customs.field-0.0 c.args.files.now c.customs_of.new.files refl
-    (same-run c.args.run.now.limits o (config_names o.config) (names_to_read o)) c.in_err-customs.ensures.files)
+    rw (p.1, p.2) (stops g.F.Files (config_reading c.args.run.now.limits o) (run_reading c.args.run.now.limits (Ok o)) (files_to_read o) c.in_err-customs.field-0.0 c.args.files.now c.customs_of.new.files refl
+    (config-run c.args.run.now.limits o) c.in_err-customs.ensures.files)
 
 pub returns-in_err-plan-clause-files : goal.returns-in_err-plan-clause-files
 returns-in_err-plan-clause-files g c =
     let p = err_from_is_err_and c.from_residual-in_err-plan.result c.from_residual-in_err-plan.ensures.1 in
     let o = c.args.run.now.options in
-    rw (p.1, p.2) (then-unread g.F.Files (reading_for c.args.run.now.limits o (config_names o.config)) (reading_for c.args.run.now.limits o (names_to_read o)) (files_to_read o) c.in_ok-customs.customs (Err c.in_err-plan.field-0.0) c.args.files.now c.customs_of.new.files refl tt
+    rw (p.1, p.2) (then-unread g.F.Files (config_reading c.args.run.now.limits o) (run_reading c.args.run.now.limits (Ok o)) (files_to_read o) c.in_ok-customs.customs (Err c.in_err-plan.field-0.0) c.args.files.now c.customs_of.new.files refl (omega arith) tt
     (λ i e. rw (err-same _ _ e) at c.in_err-plan.ensures.ends) (λ i e. rw (err-same _ _ e) at c.in_err-plan.ensures.ends) c.in_ok-customs.ensures.files)
 
 pub returns-clause-files : goal.returns-clause-files
 returns-clause-files g c =
     let o = c.args.run.now.options in
-    goes-on g.F.Files (reading_for c.args.run.now.limits o (config_names o.config)) (reading_for c.args.run.now.limits o (files_to_read o)) (reading_for c.args.run.now.limits o (names_to_read o)) c.in_ok-customs.customs c.report_of_kind.result
-    c.args.files.now c.customs_of.new.files c.report_of_kind.new.files refl (same-run c.args.run.now.limits o (files_to_read o) (names_to_read o)) c.in_ok-customs.ensures.files c.report_of_kind.ensures.files
+    goes-on g.F.Files (config_reading c.args.run.now.limits o) (reading_for c.args.run.now.limits o (files_to_read o)) (run_reading c.args.run.now.limits (Ok o)) c.in_ok-customs.customs c.report_of_kind.result
+    c.args.files.now c.customs_of.new.files c.report_of_kind.new.files refl (files-run c.args.run.now.limits o (files_to_read o)) c.in_ok-customs.ensures.files c.report_of_kind.ensures.files
 
 pub returns-in_err-customs-clause-patterns : goal.returns-in_err-customs-clause-patterns
 returns-in_err-customs-clause-patterns g c =

@@ -69,13 +69,13 @@ pub returns-in_err-report_of-clause-files : goal.returns-in_err-report_of-clause
 returns-in_err-report_of-clause-files g c =
     let p = err_from_is_err_and c.from_residual-in_err-report_of.result c.from_residual-in_err-report_of.ensures.1 in
     let o = c.args.run.now.options in
-    rw (p.1, p.2) (then-no-memory g.F.Files (reading_for c.args.run.now.limits o (unmade_names o.synth o.files)) (reading_for c.args.run.now.limits o (unmade_names o.synth o.files ++ o.bases)) o.bases c.in_ok-total.total c.args.files.now c.total_of.new.files refl c.in_ok-total.ensures.files)
+    rw (p.1, p.2) (then-no-memory g.F.Files (reading_for c.args.run.now.limits o (unmade_names o.synth o.files)) (reading_for c.args.run.now.limits o (unmade_names o.synth o.files ++ o.bases)) o.bases c.in_ok-total.total c.args.files.now c.total_of.new.files refl (omega arith) c.in_ok-total.ensures.files)
 
 pub returns-then-len-eq0-clause-files : goal.returns-then-len-eq0-clause-files
 returns-then-len-eq0-clause-files g c =
     let o = c.args.run.now.options in
     let none : o.bases ≡ [] = no-names o.bases (sym c.len.ensures ∙ c.if-len-eq0.true) in
-    then-ok g.F.Files (reading_for c.args.run.now.limits o (unmade_names o.synth o.files)) (reading_for c.args.run.now.limits o (unmade_names o.synth o.files ++ o.bases)) o.bases c.in_ok-total.total c.in_ok-report_of.field-0 c.args.files.now c.total_of.new.files refl none
+    then-ok g.F.Files (reading_for c.args.run.now.limits o (unmade_names o.synth o.files)) (reading_for c.args.run.now.limits o (unmade_names o.synth o.files ++ o.bases)) o.bases c.in_ok-total.total c.in_ok-report_of.field-0 c.args.files.now c.total_of.new.files refl (omega arith) none
     c.in_ok-total.ensures.files
 
 pub returns-clause-files : goal.returns-clause-files

@@ -1,4 +1,4 @@
--- A run ends before its report, or it writes it.
+-- A run ends before its report, or it writes the report.
 use Rattle.std.proofs.Common.{Err, Ok, ap}
 use Rattle.bloaty_engine.specs.Reading.{run_reading}
 use Rattle.bloaty_engine.proofs.ReadLemmas.{done-is-no-end}

@@ -3,6 +3,8 @@ use Rattle.std.proofs.Common.{refl, sym}
 use Rattle.size_options.specs.Asked.{asked as options_of}
 use Rattle.size_options.specs.Words.{seen_words}
 use Rattle.bloaty_engine.specs.Reading.{run_reading}
+use Rattle.run_outcome.specs.declared.outcome.Outcome.TheVariants.{NoMemory}
+use Rattle.bloaty_engine.proofs.LineLemmas.{line-printed}
 use Rattle.bloaty_engine.proofs.RunLemmas.{no-memory-run, usage-run}
 use Rattle.bloaty_engine.proofs.StepLemmas.{unbuilt, unread-no-memory, unread-usage}
 use Rattle.bloaty_engine.proofs.run.bloaty.Goals as goal
@@ -34,3 +36,9 @@ returns-in-Err-Usage-clause-patterns g c = rw c.misused.ensures.is (unbuilt g.P.
 
 pub returns-in-Err-NoMemory-clause-patterns : goal.returns-in-Err-NoMemory-clause-patterns
 returns-in-Err-NoMemory-clause-patterns g c = unbuilt g.P.Patterns _ c.args.patterns.now (λ i e. cc)
+
+pub returns-in-Ok-clause-err : goal.returns-in-Ok-clause-err
+returns-in-Ok-clause-err g c = rw c.in-Ok.ensures.asked (line-printed g.E.Sink c.tell.result _ c.answer-outcome.result c.args.err.now c.tell.new.err c.tell.ensures.writes c.tell.ensures.silent)
+
+pub returns-in-Err-NoMemory-clause-err : goal.returns-in-Err-NoMemory-clause-err
+returns-in-Err-NoMemory-clause-err g c = line-printed g.E.Sink c.tell_no_memory.result _ NoMemory c.args.err.now c.tell_no_memory.new.err c.tell_no_memory.ensures.writes (λ e. cc)

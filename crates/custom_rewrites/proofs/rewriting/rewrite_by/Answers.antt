@@ -2,7 +2,7 @@ use Rattle.std.proofs.Common.{rules, ◌≡◌, ◌∙◌, ◌<◌, ◌+◌, ◌
 use Rattle.custom_rewrites.specs.declared.rewriting.RewriteFinder.{RewriteFinder}
 use Rattle.custom_rewrites.specs.Rewriting.{rewritten}
 use Rattle.custom_rewrites.specs.Shown.{shown_finder}
-use Rattle.custom_rewrites.proofs.RewriteLemmas.{left, put_back, told}
+use Rattle.custom_rewrites.proofs.RewriteLemmas.{first_applies, first_fails, put_back}
 use Rattle.custom_rewrites.proofs.rewriting.rewrite_by.Goals as goal
 
 pub returns-in-Some-clause-ok : goal.returns-in-Some-clause-ok
@@ -12,7 +12,7 @@ returns-in-Some-clause-ok c =
     let text = c.in-Some.text.items in
     let found = sym c.in_ok-text.ensures.text ∙ ap (option_map (λ v. v.items)) c.in-Some.is in
     let is : rewritten c.args.label.now (map shown_finder c.args.ready.now.items) ≡ text =
-    c.rewrites.invariant.text ∙ told c.args.label.now c.rewrites.ready.items c.rewrites.i x within c.index_mut.ensures.value text found in
+    c.rewrites.invariant.text ∙ first_applies c.args.label.now c.rewrites.ready.items c.rewrites.i x within c.index_mut.ensures.value text found in
     let grown : c.extend_from_slice.new.self.items ≡ c.rewrites.out.items ++ text = search rules in
     grown ∙ ap (λ (bytes : List ℕ). bytes ++ text) c.rewrites.invariant.kept ∙ ap (λ (bytes : List ℕ). c.args.out.now.items ++ bytes) (sym is)
 
@@ -27,6 +27,6 @@ rewrites-preserved c =
       kept = c.rewrites.invariant.kept;
       same = back ∙ c.rewrites.invariant.same;
       text = c.rewrites.invariant.text
-          ∙ left c.args.label.now c.rewrites.ready.items c.rewrites.i x within c.index_mut.ensures.value none
+          ∙ first_fails c.args.label.now c.rewrites.ready.items c.rewrites.i x within c.index_mut.ensures.value none
           ∙ ap (λ (items : List RewriteFinder). rewritten c.args.label.now (drop (c.rewrites.i + 1) (map shown_finder items))) (sym back);
     }

@@ -20,7 +20,8 @@ loop-unit-preserved c =
           ∙ c.loop-unit.invariant.rest;
       labels = kept_goes (labelled c.args.sections.now) (shown_units c.loop-unit.units.items) (shown_units c.add_item.new.units.items) c.in-Some.unit c.next.new.self c.loop-unit.unit-iterator c.in-Some.ensures.steps c.in_ok-add_item.ensures.labels
           ∙ c.loop-unit.invariant.labels;
-      last = c.add_item.ensures.last;
+      last = c.in_ok-add_item.ensures.last;
+      known = c.in_ok-add_item.ensures.known;
       kept = c.add_item.ensures.adds.kept ∙ c.loop-unit.invariant.kept;
     }
 

@@ -1,4 +1,4 @@
--- A fault of the sets is the first only where the units have none.
+-- A fault of the sets is the first only if the units have none.
 use Rattle.std.proofs.Common.{◌∙◌}
 use Rattle.std.proofs.lemmas.Result.{on_ok_weaker}
 use Rattle.claim_sheet.proofs.LoopLemmas.{joined_later, read_joined}

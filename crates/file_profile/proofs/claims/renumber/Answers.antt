@@ -1,4 +1,4 @@
--- One claim more has the new number of its label.
+-- One more claim has the new number of its label.
 use Rattle.std.proofs.Common.{◌≡◌, ◌<◌, ◌++◌, map, take, drop, length, get_or, sym, ap, ◌∙◌, Some, arith}
 use Rattle.std.proofs.lemmas.Option.{slice_get-get_or}
 use Rattle.size_core.specs.declared.claim.Claim.{Claim}

@@ -1,4 +1,4 @@
--- One label more has its new number.
+-- One more label has its new number.
 use Rattle.std.proofs.Common.{◌∙◌, arith}
 use Rattle.claim_sheet.proofs.MadeLemmas.{kept-more}
 use Rattle.custom_rewrites.specs.Rewriting.{rewritten}

@@ -1,7 +1,7 @@
--- A file that isn't opened, and one that is.
+-- The result for a file that can't be opened, and for one that can.
 use Rattle.std.proofs.Common.{sym}
 use Rattle.std.proofs.lemmas.Result.{err_from_is_err_and}
-use Rattle.file_profile.specs.Places.{named_sources}
+use Rattle.file_profile.specs.Explanations.{named_sources}
 use Rattle.file_profile.proofs.PlaceLemmas.{explained-bad, explained-opened}
 use Rattle.file_profile.proofs.explain.explain_place.Goals as goal
 

@@ -1,4 +1,4 @@
--- One label more has its mark.
+-- One more label has its mark.
 use Rattle.std.proofs.Common.{◌∙◌}
 use Rattle.size_model.proofs.Firsts.{map_more}
 use Rattle.custom_rewrites.specs.Pattern.{is_found}

@@ -1,8 +1,5 @@
-use Rattle.std.proofs.Common.{arith}
-use Rattle.range_map.proofs.Segments.{IsLaid-from_all}
+use Rattle.range_map.proofs.Segments.{EndsBy-claims}
 use Rattle.range_map.proofs.sweep.laid.Goals as goal
 
-pub returns : goal.returns
-returns c = record {
-  laid = IsLaid-from_all c.args.claims.now c.deref-edge-items.result.now c.loop-edge.from c.loop-edge.out.items (rw c.deref-edge-items.ensures.value c.in_ok-edges.ensures.places) (λ j l. c.loop-edge.invariant.passed j (omega arith)) c.loop-edge.invariant.laid;
-}
+pub pieces_of-requires-clause-fits : goal.pieces_of-requires-clause-fits
+pieces_of-requires-clause-fits c = EndsBy-claims c.args.claims.now c.requires

@@ -21,7 +21,7 @@ returns-then-kept-eq0 g c =
 pub insert-requires : goal.insert-requires
 insert-requires g c =
     let key = g.G.Grouped.key in
-    omega (arith, c.place-place.ensures, prefix_len-le-length (λ y. not (leb (key y) (key c.together-others.result))) c.as_slice.result.now, c.as_slice.ensures.len)
+    omega (arith, c.position-index.ensures, prefix_len-le-length (λ y. not (leb (key y) (key c.together-others.result))) c.as_slice.result.now, c.as_slice.ensures.len)
 
 pub returns : goal.returns
 returns g c =
@@ -31,11 +31,11 @@ returns g c =
     let others = c.together-others.result in
     let kept = take o.limit old in
     let p : g.row.G.Denot → Bool = λ y. leb (key y) (key others) in
-    let place : c.place-place.result ≡ position_or_len p kept = c.place-place.ensures ∙ ap (position_or_len p) (c.as_slice.ensures.value ∙ c.truncate.ensures.items) in
+    let index : c.position-index.result ≡ position_or_len p kept = c.position-index.ensures ∙ ap (position_or_len p) (c.as_slice.ensures.value ∙ c.truncate.ensures.items) in
     let left : take (length c.deref.result.now - o.limit) (drop o.limit c.deref.result.now) ≡ drop o.limit old = take_rest c.deref.result.now o.limit ∙ ap (drop o.limit) c.deref.ensures.value in
     c.in_ok-insert.ensures.items
-    ∙ (ap (λ xs. insert xs c.place-place.result others) c.truncate.ensures.items
-    ∙ (ap (λ n. insert kept n others) place
+    ∙ (ap (λ xs. insert xs c.position-index.result others) c.truncate.ensures.items
+    ∙ (ap (λ n. insert kept n others) index
     ∙ (sym (placed-insert (λ a b. nat_cmp (key b) (key a)) p others (λ y. lower (key others) (key y)) kept)
     ∙ (ap (λ x. placed (λ a b. nat_cmp (key b) (key a)) x kept) (c.together-others.ensures ∙ ap (g.G.Grouped.together o) left)
     ∙ sym (within-more o.limit (λ a b. nat_cmp (key b) (key a)) (g.G.Grouped.together o) old (omega arith) (omega arith))))))

@@ -17,7 +17,7 @@ loop-row-preserved c =
     let before = c.loop-row.rows.items ++ reverse c.loop-row.above.items in
     let after = c.insert.new.rows.items ++ reverse c.insert.new.above.items in
     record {
-      room = omega (arith, c.in-Some.ensures.cases, c.insert.ensures.room, c.insert.ensures.capacity, c.loop-row.invariant.room);
+      spare = omega (arith, c.in-Some.ensures.cases, c.insert.ensures.spare, c.insert.ensures.capacity, c.loop-row.invariant.spare);
       ordered = next_strict before after c.in-Some.row c.insert.ensures.rows c.loop-row.invariant.ordered;
       climbs = next_climbs new rest c.in-Some.row is c.loop-row.invariant.climbs;
       ends = next_ends new rest c.insert.new.rows.items c.in-Some.row is c.loop-row.invariant.climbs c.insert.ensures.ends;

@@ -6,7 +6,7 @@ use Rattle.rollup.proofs.merge.insert_all.Given as goal
 
 abbrev pub invariant-loop-row : goal.invariant-loop-row
 invariant-loop-row l = record {
-  room : vec_len l.rows + vec_len l.above + vec_len l.new ≤ vec_capacity l.rows;
+  spare : vec_len l.rows + vec_len l.above + vec_len l.new ≤ vec_capacity l.rows;
   ordered : IsStrictlySortedBy row_cmp (l.rows.items ++ reverse l.above.items);
   climbs : Climbs (reverse l.new.items);
   ends : EndsUptoFirst l.rows.items (reverse l.new.items);

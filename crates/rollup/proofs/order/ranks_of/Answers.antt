@@ -2,12 +2,12 @@ use Rattle.std.proofs.Common.{◌≡◌, length, sym, ap, subst, ◌∙◌}
 use Rattle.std.specs.List.{range_with_len}
 use Rattle.std.specs.List.Sorted.{IsPermutation}
 use Rattle.std.proofs.lemmas.Result.{IfOk-weaker}
-use Rattle.rollup.specs.Order.{ArePlaces}
+use Rattle.rollup.specs.Order.{AreIndices}
 use Rattle.rollup.proofs.Ranks.{numbers_length, ranks_are}
 use Rattle.rollup.proofs.order.ranks_of.Goals as goal
 
-pub places_of-requires : goal.places_of-requires
-places_of-requires c =
+pub indices_of-requires : goal.indices_of-requires
+indices_of-requires c =
     let pool = c.args.pool.now in
     let numbers = c.in_ok-numbers.numbers.items in
     let all = c.in_ok-numbers.ensures.all in
@@ -18,4 +18,4 @@ pub returns : goal.returns
 returns c =
     let pool = c.args.pool.now in
     let numbers = c.in_ok-numbers.numbers.items in
-    IfOk-weaker c.places_of.result _ _ (λ v h. ranks_are pool numbers c.in_ok-numbers.ensures.all v.items c.in_ok-numbers.ensures.ascend (subst (λ l. ArePlaces l v.items) c.as_slice.ensures.value h)) c.places_of.ensures
+    IfOk-weaker c.indices_of.result _ _ (λ v h. ranks_are pool numbers c.in_ok-numbers.ensures.all v.items c.in_ok-numbers.ensures.ascend (subst (λ l. AreIndices l v.items) c.as_slice.ensures.value h)) c.indices_of.ensures

@@ -6,8 +6,8 @@ use Rattle.rollup.specs.Rows.{FitTogether, with_rows}
 use Rattle.rollup.specs.Tree.{rows_in}
 use Rattle.rollup.proofs.ordered.insert_all.Given as goal
 
-abbrev pub invariant-loop-branch : goal.invariant-loop-branch
-invariant-loop-branch l = record {
+abbrev pub invariant-loop-branches : goal.invariant-loop-branches
+invariant-loop-branches l = record {
   alone : map (λ b. b.value) l.branches.items ≡ map (λ b. alone b.value.row) l.branches.items;
   ordered : IsStrictlySortedBy row_cmp (rows_in l.tree);
   fits : FitTogether (rows_in l.tree) (map (λ b. b.value.row) l.branches.items);
@@ -15,5 +15,5 @@ invariant-loop-branch l = record {
   same : with_rows (rows_in l.tree) (reverse (map (λ b. b.value.row) l.branches.items)) ≡ with_rows (rows_in l.initial.tree) (reverse (map (λ b. b.value.row) l.initial.branches.items));
 }
 
-abbrev pub decreases-loop-branch : goal.decreases-loop-branch
-decreases-loop-branch l = vec_len l.branches
+abbrev pub decreases-loop-branches : goal.decreases-loop-branches
+decreases-loop-branches l = vec_len l.branches

@@ -3,4 +3,4 @@ use Rattle.range_map.specs.Ranges.{IsRange}
 use Rattle.tests_maps.proofs.ranges.falling.Given as goal
 
 abbrev pub invariant-loop-i : goal.invariant-loop-i
-invariant-loop-i l = All IsRange l.ranges.items
+invariant-loop-i g l = All IsRange l.ranges.items

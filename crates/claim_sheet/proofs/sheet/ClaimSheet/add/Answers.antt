@@ -56,4 +56,5 @@ invariant_of-self-2 c = record {
   numbered = c.push_wrapped.ensures.numbered;
   used = c.push_wrapped.ensures.used c.self.inside.first c.self.invariant.used;
   few = let one = c.push_wrapped.ensures.few in omega arith;
+  full = λ over. absurd (let full = c.self.invariant.full over in omega arith);
 }

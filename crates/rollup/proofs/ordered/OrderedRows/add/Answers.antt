@@ -11,8 +11,8 @@ nothing : {X : Type 0} (xs : List X) → length xs ≡ 0 → xs ≡ []
 nothing [] e = refl
 nothing (x ∷ xs) e = absurd (omega (arith, e))
 
-pub returns-then-len-2-clause-ok : goal.returns-then-len-2-clause-ok
-returns-then-len-2-clause-ok c =
+pub returns-then-is_cheap-clause-ok : goal.returns-then-is_cheap-clause-ok
+returns-then-is_cheap-clause-ok c =
     let list = c.self.inside.list.items in
     let none : rows_in c.self.inside.tree ≡ [] = nothing (rows_in c.self.inside.tree) (omega (arith, c.if-len-eq0.true, c.len-3.ensures)) in
     let old : list ≡ c.args.self.now = sym (append-nil list) ∙ (ap (λ l. list ++ l) (sym none) ∙ c.self.view_is) in

@@ -7,7 +7,7 @@ pub grow-requires-clause-within : goal.grow-requires-clause-within
 grow-requires-clause-within c = (c.in-Some.ensures c.in-Some.i refl).within
 
 pub returns-in-Some : goal.returns-in-Some
-returns-in-Some c = rw (← c.self.view_is) (grows-before c.args.part c.args.label c.args.size c.self.inside.labels c.self.inside.lists c.grow.new.self c.in-Some.i (c.in-Some.ensures c.in-Some.i refl) c.grow.ensures)
+returns-in-Some c = rw (← c.self.view_is) (grows-before c.args.part (c.args.label ∷ []) c.args.size c.self.inside.labels c.self.inside.lists c.grow.new.self c.in-Some.i (c.in-Some.ensures c.in-Some.i refl) c.grow.ensures)
 
 pub add-requires : goal.add-requires
 add-requires c = fits-later c.args.part c.args.size c.self.inside.labels c.self.inside.lists (rw c.self.view_is c.requires)

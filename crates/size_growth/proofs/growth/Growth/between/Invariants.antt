@@ -1,5 +1,5 @@
 use Rattle.std.proofs.Common.{◌≡◌, ◌+◌, ◌-◌, ◌++◌, length}
-use Rattle.size_growth.specs.Between.{Stands}
+use Rattle.size_growth.specs.Between.{IsWithin}
 use Rattle.size_growth.specs.Merged.{left, merged}
 use Rattle.size_growth.proofs.growth.Growth.between.Given as goal
 
@@ -7,7 +7,7 @@ use Rattle.size_growth.proofs.growth.Growth.between.Given as goal
 abbrev pub invariant-loop-at : goal.invariant-loop-at
 invariant-loop-at l = record {
   all : l.paths.items ++ left l.new.rows l.base.rows l.at ≡ merged l.new.rows l.base.rows;
-  stands : Stands l.new.rows l.base.rows l.at;
+  within : IsWithin l.new.rows l.base.rows l.at;
 }
 
 abbrev pub decreases-loop-at : goal.decreases-loop-at

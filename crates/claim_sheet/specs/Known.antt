@@ -1,0 +1,35 @@
+-- Claims of a sheet by their positions, in the order in which they were added.
+use Rattle.std.specs.Prelude.{◌≡◌, ℕ, ◌-◌, ◌<◌, ◌≤◌, false, List, [], Option, None, Some, drop, get_or, length, map, take}
+use Rattle.std.specs.List.{filter}
+use Rattle.size_model.specs.declared.view.LabelledClaim.{LabelledClaim}
+use Rattle.claim_sheet.specs.declared.known.KnownLabel.{KnownLabel}
+use Rattle.claim_sheet.specs.Sheets.{Sheet, is_taken}
+
+-- The label of the claim at a position. It is empty if there is no such claim.
+abbrev pub label_at : List LabelledClaim → ℕ → List ℕ
+label_at made i = get_or (map (λ c. c.label) made) i []
+
+-- There is a claim at this position, and it has this label.
+pub record HasLabel (made : List LabelledClaim) (label : List ℕ) (i : ℕ) : Type 0 where
+  pub within : i < length made
+  pub is : label_at made i ≡ label
+
+-- The position, if there is one, is that of a claim with this label.
+abbrev pub IsKnownBy : List LabelledClaim → List ℕ → Option ℕ → Type 0
+IsKnownBy made label None = Unit {0}
+IsKnownBy made label (Some i) = HasLabel made label i
+
+-- The claim of a known label, if it has one, has this label.
+abbrev pub IsKnown : List LabelledClaim → KnownLabel → Type 0
+IsKnown made known = IsKnownBy made known.text.now known.claim
+
+-- The claims from one position up to another.
+abbrev pub claims_between : List LabelledClaim → ℕ → ℕ → List LabelledClaim
+claims_between made first end = take (end - first) (drop first made)
+
+-- These claims were added, and those that the sheet takes are at these positions. If there were more than the limit,
+-- nothing is known of the positions.
+pub record AreAdded (s : Sheet) (first end : ℕ) (claims : List LabelledClaim) : Type 0 where
+  pub order : first ≤ end
+  pub within : end ≤ length s.made
+  pub are : s.over ≡ false → claims_between s.made first end ≡ filter (λ c. is_taken s.addresses_only c.side) claims

@@ -1,0 +1,50 @@
+//! Labels that are known by a claim of a sheet.
+
+ghost use Rattle.std.specs.Prelude.{◌≡◌, IfOk, OnOk};
+ghost use Rattle.claim_sheet.specs.Adds.{Adds};
+ghost use Rattle.claim_sheet.specs.Known.{IsKnown, IsKnownBy};
+ghost use Rattle.claim_sheet.specs.Reaches.{claim_on};
+
+use crate::labels::Wrap;
+use crate::reach::Reach;
+use crate::sheet::ClaimSheet;
+use size_core::NoMemory;
+
+/// A label, and the position of a claim with this label on a sheet, if one is known. Such a label isn't looked up
+/// again, which takes as long as the label.
+#[derive(Clone, Copy)]
+pub struct KnownLabel<'a> {
+    pub text: &'a [u8],
+    pub claim: Option<usize>,
+}
+
+impl ClaimSheet {
+    /// Adds a claim, and returns its position. The position is None if no claim was kept.
+    pub fn add_noted(&mut self, reach: Reach, label: &[u8]) -> Result<Option<usize>, NoMemory>
+        ensures adds { Adds result self.old self.new (claim_on reach label.now) }
+        ensures known { IfOk result (λ claim. IsKnownBy self.new.made label.now claim) }
+    {
+        let next = self.len();
+        self.add(reach, Wrap::Plain, label)?;
+        if self.len() > next {
+            return Ok(Some(next));
+        }
+        Ok(None)
+    }
+
+    /// Adds a claim under a label that may be known. Then it is known, if a claim was kept.
+    pub fn add_known(&mut self, reach: Reach, label: &mut KnownLabel<'_>) -> Result<(), NoMemory>
+        requires { IsKnown self.old.made label.old }
+        ensures adds { Adds result self.old self.new (claim_on reach label.old.text.now) }
+        ensures known { OnOk result (IsKnown self.new.made label.new) }
+        ensures text { label.new.text.now ≡ label.old.text.now }
+    {
+        match label.claim {
+            Some(claim) => self.add_like(reach, claim),
+            None => {
+                label.claim = self.add_noted(reach, label.text)?;
+                Ok(())
+            }
+        }
+    }
+}

@@ -1,0 +1,89 @@
+//! The labels of rows that have a claim. Rows come back to the lines of a function and to those of inlined functions,
+//! and a label that is known needn't be written and looked up again.
+
+ghost use Rattle.std.specs.Prelude.{List, IfOk};
+ghost use Rattle.size_model.specs.declared.view.LabelledClaim.{LabelledClaim};
+ghost use Rattle.claim_sheet.specs.Known.{IsKnownBy};
+ghost use Rattle.dwarf_lines.specs.Header.{LineHeader};
+ghost use Rattle.dwarf_claims.specs.LineClaims.{row_label};
+ghost use Rattle.dwarf_claims.specs.RowSteps.{AreKnownRows};
+
+use dwarf_lines::LineRow;
+use size_core::NoMemory;
+use std::alloc::Global;
+
+/// A file and a line, and the position of a claim that has their label, if one is known.
+#[derive(Clone, Copy)]
+pub struct KnownRow {
+    pub file: u64,
+    pub line: u32,
+    pub claim: Option<usize>,
+}
+
+const NO_ROW: KnownRow = KnownRow {
+    file: 0,
+    line: 0,
+    claim: None,
+};
+
+// How many rows are known at most.
+const ROWS: usize = 256;
+
+/// Known rows of one line program. The position of a row follows from its file and line; a new row replaces the one that
+/// has its position.
+#[derive(Drop)]
+pub struct KnownRows {
+    pub rows: Vec<KnownRow>,
+}
+
+// Returns the position of a row in the table.
+fn slot_of(row: &LineRow) -> usize {
+    let line = row.line as usize % ROWS;
+    let file = (row.file % ROWS as u64) as usize;
+    (line + 37 * file) % ROWS
+}
+
+impl KnownRows {
+    /// Returns an empty table.
+    pub fn new(alloc: Global) -> Result<KnownRows, NoMemory>
+        ensures { IfOk result (λ known. (made : List LabelledClaim) (h : LineHeader)
+            → AreKnownRows made h known.rows.items) }
+    {
+        let rows = vec![in alloc; NO_ROW; ROWS]?;
+        Ok(KnownRows { rows })
+    }
+
+    /// Returns the position of a claim that has the label of a row, if one is known.
+    pub fn claim_of(&self, row: &LineRow) -> Option<usize>
+        ensures { (made : List LabelledClaim) (h : LineHeader)
+            → AreKnownRows made h self.now.rows.items → IsKnownBy made (row_label h row.now) result }
+    {
+        let slot = slot_of(row);
+        if slot >= self.rows.len() {
+            return None;
+        }
+        let known = &self.rows[slot];
+        if known.file == row.file && known.line == row.line {
+            known.claim
+        } else {
+            None
+        }
+    }
+
+    /// Stores the position of a claim that has the label of a row.
+    pub fn keep(&mut self, row: &LineRow, claim: Option<usize>)
+        ensures { (made : List LabelledClaim) (h : LineHeader)
+            → AreKnownRows made h self.old.rows.items
+            → IsKnownBy made (row_label h row.now) claim
+            → AreKnownRows made h self.new.rows.items }
+    {
+        let slot = slot_of(row);
+        if slot < self.rows.len() {
+            self.rows[slot] = KnownRow {
+                file: row.file,
+                line: row.line,
+                claim,
+            };
+        }
+    }
+}

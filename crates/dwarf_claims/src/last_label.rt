@@ -1,0 +1,61 @@
+//! The label of the unit that was read last. Units in a row may have one name, which may be long.
+
+ghost use Rattle.std.specs.Prelude.{◌≡◌, true, List, Ok, Err, IfOk, IsErrOf};
+ghost use Rattle.size_core.specs.declared.fault.BadFile.{BadFile as BadFileSpec};
+ghost use Rattle.size_model.specs.declared.view.LabelledClaim.{LabelledClaim};
+ghost use Rattle.claim_sheet.specs.Known.{IsKnown};
+ghost use Rattle.dwarf_units.specs.Roots.{shown_root};
+ghost use Rattle.dwarf_claims.specs.KnownLabels.{AreSameNames, IsLabelOf};
+ghost use Rattle.dwarf_claims.specs.UnitClaims.{label_of};
+
+use crate::label::label_of;
+use claim_sheet::KnownLabel;
+use dwarf_units::{Root, Sections, StringAt};
+use size_core::BadFile;
+
+/// The label of the unit that was read last, and the section and offset of its name, if it is in a section of strings.
+#[derive(Clone, Copy)]
+pub struct LastLabel<'a> {
+    pub name: Option<StringAt>,
+    pub label: KnownLabel<'a>,
+}
+
+// Returns whether there is a name and it is the same as the last one.
+fn is_last(last: Option<StringAt>, name: Option<StringAt>) -> bool
+    ensures { result ≡ true → AreSameNames last name }
+{
+    match (last, name) {
+        (Some(last), Some(name)) => last == name,
+        _ => false,
+    }
+}
+
+impl<'a> LastLabel<'a> {
+    /// Returns the label of a unit, and keeps it. A name that the unit before had isn't read again. The fault is that
+    /// of the name.
+    #[tactic(auto, using(crate::proofs::LabelLemmas::label_again, crate::proofs::LabelLemmas::label_new))]
+    pub fn read(
+        &mut self,
+        root: &Root<'a>,
+        sections: &Sections<'a>,
+    ) -> Result<KnownLabel<'a>, BadFile>
+        requires { IsLabelOf sections.now self.old }
+        ensures made { IfOk result
+            (λ l. label_of sections.now (shown_root root.now) ≡ Ok l.text.now) }
+        ensures bad { (bad : BadFileSpec) → IsErrOf result bad
+            → label_of sections.now (shown_root root.now) ≡ Err bad }
+        ensures last { IsLabelOf sections.now self.new }
+        ensures same { IfOk result (λ l. l ≡ self.new.label) }
+        ensures known { (made : List LabelledClaim) → IsKnown made self.old.label
+            → IfOk result (λ l. IsKnown made l) }
+    {
+        let name = root.name_at(sections);
+        if is_last(self.name, name) {
+            return Ok(self.label);
+        }
+        let text = label_of(root, sections)?;
+        let label = KnownLabel { text, claim: None };
+        *self = LastLabel { name, label };
+        Ok(label)
+    }
+}

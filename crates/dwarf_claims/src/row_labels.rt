@@ -1,0 +1,73 @@
+//! Claims under the labels of rows.
+
+ghost use Rattle.std.specs.Prelude.{List, IfOk, OnOk};
+ghost use Rattle.size_model.specs.declared.view.LabelledClaim.{LabelledClaim};
+ghost use Rattle.claim_sheet.specs.Adds.{Adds};
+ghost use Rattle.claim_sheet.specs.Reaches.{claim_on};
+ghost use Rattle.dwarf_claims.specs.LineClaims.{row_label};
+ghost use Rattle.dwarf_claims.specs.RowSteps.{AreRowLabels};
+
+use crate::known_rows::KnownRows;
+use crate::row_label::RowLabel;
+use claim_sheet::{ClaimSheet, Reach};
+use dwarf_lines::{LineProgram, LineRow};
+use size_core::NoMemory;
+use std::alloc::Global;
+
+/// The label that was written last, and the rows whose labels have a claim.
+#[derive(Drop)]
+pub struct RowLabels {
+    pub last: RowLabel,
+    pub known: KnownRows,
+}
+
+impl RowLabels {
+    /// Returns labels for the rows of a program. None is known yet.
+    pub fn new(alloc: Global, program: &LineProgram<'_>) -> Result<RowLabels, NoMemory>
+        ensures { IfOk result (λ labels.
+            (made : List LabelledClaim) → AreRowLabels made program.now labels) }
+    {
+        let mut last = RowLabel::new(alloc);
+        last.set_file(program, 1)?;
+        let known = KnownRows::new(alloc)?;
+        Ok(RowLabels { last, known })
+    }
+
+    // Adds a claim under the label of a row, and stores its position.
+    fn add_new(
+        &mut self,
+        program: &LineProgram<'_>,
+        row: &LineRow,
+        reach: Reach,
+        sheet: &mut ClaimSheet,
+    ) -> Result<(), NoMemory>
+        requires { AreRowLabels sheet.old.made program.now self.old }
+        ensures adds { Adds result sheet.old sheet.new
+            (claim_on reach (row_label program.now row.now)) }
+        ensures labels { OnOk result (AreRowLabels sheet.new.made program.now self.new) }
+    {
+        self.last.set(program, row)?;
+        let claim = sheet.add_noted(reach, &self.last.text)?;
+        self.known.keep(row, claim);
+        Ok(())
+    }
+
+    /// Adds a claim under the label of a row. A label that is known isn't written again.
+    pub fn add(
+        &mut self,
+        program: &LineProgram<'_>,
+        row: &LineRow,
+        reach: Reach,
+        sheet: &mut ClaimSheet,
+    ) -> Result<(), NoMemory>
+        requires { AreRowLabels sheet.old.made program.now self.old }
+        ensures adds { Adds result sheet.old sheet.new
+            (claim_on reach (row_label program.now row.now)) }
+        ensures labels { OnOk result (AreRowLabels sheet.new.made program.now self.new) }
+    {
+        match self.known.claim_of(row) {
+            Some(claim) => sheet.add_like(reach, claim),
+            None => self.add_new(program, row, reach, sheet),
+        }
+    }
+}

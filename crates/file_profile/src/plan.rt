@@ -1,0 +1,134 @@
+//! The plan of a run: its data sources and its filter.
+
+ghost use Rattle.std.specs.Prelude.{◌≡◌, ◌<◌, ◌≤◌, [], None, All, length, map, slice_get, IfSome};
+ghost use Rattle.std.specs.Option.{option_copied};
+ghost use Rattle.file_profile.specs.Choices.{IsChoice, chosen_in};
+
+use custom_rewrites::{LabelPattern, Rewrites};
+use size_core::Source;
+use std::alloc::AllocFailed;
+use std::marker::Model;
+use thiserror::Error;
+
+/// Why there is no plan of a run.
+#[derive(Clone, Copy, Debug, PartialEq, Eq, Hash, Error)]
+pub enum PlanAnswer {
+    /// A name in `-d` is not the name of a data source. The names are numbered from 1.
+    #[error("unknown source {0}")]
+    UnknownSource(usize),
+    /// A pattern isn't a regular expression, or it nests too deep. The filter is pattern 0, rewrites have the numbers
+    /// from 1 on.
+    #[error("pattern {0}: bad syntax")]
+    PatternSyntax(usize),
+    /// A compiled pattern would be too large.
+    #[error("pattern {0}: too big")]
+    PatternTooBig(usize),
+    /// There was not enough memory.
+    #[error("out of memory")]
+    NoMemory,
+}
+
+impl<T: Drop> From<AllocFailed<T>> for PlanAnswer {
+    ghost use Rattle.file_profile.specs.declared.plan.PlanAnswer.TheVariants.{NoMemory as OutOfMemory};
+
+    ghost from_gives = { λ _ e. e ≡ OutOfMemory };
+
+    fn from(_: AllocFailed<T>) -> PlanAnswer {
+        PlanAnswer::NoMemory
+    }
+}
+
+/// A data source of a run: the built-in source that makes its claims, and the position of its rewrites in the plan's
+/// list.
+#[derive(Clone, Copy, Debug)]
+pub struct Choice {
+    pub base: Source,
+    pub rewrites: Option<usize>,
+}
+
+/// What a run counts in each file. Contracts see the data sources, each with its rewrites, the rewrites of all custom
+/// data sources, and the filter's pattern.
+#[derive(Drop)]
+pub struct Plan {
+    choices: Vec<Choice>,
+    rewrites: Vec<Rewrites>,
+    filter: Option<LabelPattern>,
+}
+
+impl Model for Plan {
+    ghost use Rattle.std.specs.Prelude.{map, All, length};
+    ghost use Rattle.file_profile.specs.Plans.{Plans};
+    ghost use Rattle.file_profile.specs.Choices.{chosen_in, IsChoice};
+
+    ghost Value = { Plans };
+
+    ghost view = { λ p. record {
+      sources = map (chosen_in p.rewrites.items) p.choices.items;
+      customs = p.rewrites.items;
+      filter = p.filter;
+    } };
+
+    ghost invariant = { λ p. All (IsChoice (length p.rewrites.items)) p.choices.items };
+}
+
+impl Plan {
+    /// The plan with these data sources. `rewrites` are those of all custom data sources.
+    pub fn of(choices: Vec<Choice>, rewrites: Vec<Rewrites>, filter: Option<LabelPattern>) -> Plan
+        requires { All (IsChoice (length rewrites.items)) choices.items }
+        ensures { result ≡ record {
+          sources = map (chosen_in rewrites.items) choices.items;
+          customs = rewrites.items;
+          filter = filter;
+        } }
+    {
+        Plan {
+            choices,
+            rewrites,
+            filter,
+        }
+    }
+
+    /// The number of data sources in `-d`.
+    pub fn len(&self) -> usize
+        ensures { result ≡ length self.now.sources }
+    {
+        self.choices.len()
+    }
+
+    /// The number of labels in a path, which is the depth of the rollup.
+    pub fn depth(&self) -> u32
+        requires { length self.now.sources ≤ 8 }
+        ensures { result ≡ length self.now.sources }
+    {
+        self.choices.len() as u32
+    }
+
+    // The built-in source that makes the claims of data source `i`.
+    pub(crate) fn base(&self, i: usize) -> Source
+        requires { i < length self.now.sources }
+        ensures { IfSome (slice_get self.now.sources i) (λ chosen. chosen.base ≡ result) }
+    {
+        self.choices[i].base
+    }
+
+    // The rewrites of data source `i`, if it is a custom one.
+    pub(crate) fn rewrites(&self, i: usize) -> Option<&Rewrites>
+        requires { i < length self.now.sources }
+        ensures none { result ≡ None
+            → IfSome (slice_get self.now.sources i) (λ chosen. chosen.rewrites ≡ []) }
+        ensures some { IfSome result
+            (λ r. IfSome (slice_get self.now.sources i) (λ chosen. chosen.rewrites ≡ r.now)) }
+    {
+        match self.choices[i].rewrites {
+            None => None,
+            Some(k) => Some(&self.rewrites[k]),
+        }
+    }
+
+    // The filter's pattern.
+    pub(crate) fn filter(&self) -> Option<&LabelPattern>
+        ensures { option_copied result ≡ self.now.filter }
+    {
+        self.filter.as_ref()
+    }
+}
