@@ -3,7 +3,7 @@ use Rattle.std.proofs.Common.{◌≡◌, ℕ, zero, suc, ◌+◌, ◌-◌, ◌<�
 use Rattle.std.specs.Prelude.{IsOk, if◌then◌else◌, slice_get}
 use Rattle.std.specs.List.{sum_by}
 use Rattle.std.proofs.lemmas.Bool.Decides.{nat_tests}
-use Rattle.std.proofs.lemmas.List.{take-append-drop, take_all}
+use Rattle.std.proofs.lemmas.List.{append-nil, take-append-drop, take_all}
 use Rattle.std.proofs.lemmas.List.Sums.{sum_by-append, sum_by-cons}
 use Rattle.size_core.specs.declared.fault.BadFile.{BadFile}
 use Rattle.size_core.specs.declared.limits.Limits.{Limits}
@@ -21,6 +21,7 @@ use Rattle.file_profile.specs.declared.answer.ProfileAnswer.TheVariants as profi
 use Rattle.run_outcome.specs.declared.outcome.Outcome.{Outcome}
 use Rattle.run_outcome.specs.declared.outcome.Outcome.TheVariants.{Done, Usage, ReadFailed, TooLong, Config, UnknownSource, PatternSyntax, PatternTooBig, Bad, TooManyClaims, MappedTooLarge, NoMatch, PlaceOutside, WriteFailed, NoMemory}
 use Rattle.file_profile.specs.Counts.{file_size_where, vm_size_where}
+use Rattle.bloaty_engine.specs.Given.{Gives, pairs_from}
 use Rattle.bloaty_engine.specs.Named.{AreHeld}
 use Rattle.file_profile.specs.Sources.{Chosen}
 use Rattle.bloaty_engine.specs.Steps.{Batch, EndsAs, EndsFiles, Finds, HasCounted, IsFileOf, Nowhere, batch_of, counted_batch}
@@ -30,6 +31,7 @@ use Rattle.file_profile.specs.Views.{Answers, alone, if_opened, opened_viewed, v
 use Rattle.file_profile.proofs.AloneLemmas.{ok-before}
 use Rattle.file_profile.proofs.LawLemmas.{of-viewed}
 use Rattle.bloaty_engine.proofs.EndLemmas.{ends-read, ends-so}
+use Rattle.bloaty_engine.proofs.GivenLemmas.{given-all, gives-all, gives-as, gives-behind, gives-stops, pairs-append, pairs-same}
 use Rattle.bloaty_engine.proofs.ReadLemmas.{take-length, take-next, take-none}
 
 -- One file.
@@ -216,26 +218,33 @@ extended None first names old k name b are at is =
     record { bytes = set-at old (first + k) b; are = tt; here = set-same old (first + k) b; before = λ j lt. sym (set-other old (first + k) j b lt) }
 extended (Some pairs) first names old k name b are at is = record { bytes = old; are = are; here = are k name at ∙ sym is; before = λ j lt. refl }
 
--- The files of a batch before position k are counted.
-pub record AreCountedTo (held : Option Pairs) (limits : Limits) (sources : List Chosen) (filter : Option (List ℕ → Bool)) (batch : Batch) (k lengths : ℕ) (t : Totals) : Type 0 where
+-- The files of a batch before position k are counted. `given` is what reads had returned before the batch, and `now` after
+-- these files.
+pub record AreCountedTo (held : Option Pairs) (limits : Limits) (sources : List Chosen) (filter : Option (List ℕ → Bool)) (batch : Batch) (k lengths : ℕ) (t : Totals) (given now : Pairs) : Type 0 where
   pub bytes : ℕ → List ℕ
   pub are : AreHeld held batch.first batch.names bytes
   pub files : List FileView
   pub counted : counted_from limits sources bytes batch.first batch.before 0 (take k batch.names) ≡ Ok files
   pub has : HasCounted filter (length sources) files t
   pub lengths_are : lengths ≡ batch.before + t.lengths
+  pub gave : now ≡ given ++ pairs_from batch.first (take k batch.names) bytes
 
 take-rest : (names : List (List ℕ)) (k : ℕ) (name : List ℕ) → slice_get names k ≡ Some name → take k names ++ name ∷ drop (suc k) names ≡ names
 take-rest names k name at = ap (λ ms. take k names ++ ms) (sym (drop-get names k name at)) ∙ take-append-drop k names
 
-module _ (held : Option Pairs) (limits : Limits) (sources : List Chosen) (filter : Option (List ℕ → Bool)) (batch : Batch) where
+module _ (held : Option Pairs) (limits : Limits) (sources : List Chosen) (filter : Option (List ℕ → Bool)) (batch : Batch) (given : Pairs) where
+  -- Files with some bytes were counted, or the run ended at one of them. `after` is what reads had returned then.
+  abbrev pub EndsBatch : Pairs → Result Totals Outcome → Type 0
+  EndsBatch after r =
+      (bytes : ℕ → List ℕ) × AreHeld held batch.first batch.names bytes × EndsFiles limits sources filter batch bytes r × Gives r given after (pairs_from batch.first batch.names bytes)
+
   -- The files so far, with the bytes of one more.
-  pub recounted : (k lengths : ℕ) (t : Totals) (b : List ℕ) (to : AreCountedTo held limits sources filter batch k lengths t) (more : Extends held batch.first batch.names to.bytes (batch.first + k) b)
+  pub recounted : {now : Pairs} (k lengths : ℕ) (t : Totals) (b : List ℕ) (to : AreCountedTo held limits sources filter batch k lengths t given now) (more : Extends held batch.first batch.names to.bytes (batch.first + k) b)
       → k ≤ length batch.names → counted_from limits sources more.bytes batch.first batch.before 0 (take k batch.names) ≡ Ok to.files
   recounted k lengths t b to more le =
       sym (same-counted limits sources to.bytes more.bytes batch.first batch.before 0 (take k batch.names) (λ j low high. more.before j (omega (arith, take-length batch.names k le)))) ∙ to.counted
 
-  behind : (k lengths : ℕ) (t : Totals) (b : List ℕ) (rest : List (List ℕ)) (to : AreCountedTo held limits sources filter batch k lengths t) (more : Extends held batch.first batch.names to.bytes (batch.first + k) b)
+  behind : {now : Pairs} (k lengths : ℕ) (t : Totals) (b : List ℕ) (rest : List (List ℕ)) (to : AreCountedTo held limits sources filter batch k lengths t given now) (more : Extends held batch.first batch.names to.bytes (batch.first + k) b)
       → k ≤ length batch.names
       → counted_from limits sources more.bytes batch.first batch.before 0 (take k batch.names ++ rest) ≡ (counted_from limits sources more.bytes (batch.first + k) lengths t.mapped rest >>= λ gs. Ok (to.files ++ gs))
   behind k lengths t b rest to more le =
@@ -247,12 +256,38 @@ module _ (held : Option Pairs) (limits : Limits) (sources : List Chosen) (filter
       ∙ (ap (λ n. counted_from limits sources more.bytes (batch.first + k) n (0 + maps to.files) rest >>= λ gs. Ok (to.files ++ gs)) q
       ∙ ap (λ n. counted_from limits sources more.bytes (batch.first + k) lengths n rest >>= λ gs. Ok (to.files ++ gs)) r))
 
+  -- What reads gave up to one more file.
+  gave-next : {X : Type 0} {now : Pairs} (r : Result X Outcome) (after : Pairs) (k lengths : ℕ) (t : Totals) (name b : List ℕ) (to : AreCountedTo held limits sources filter batch k lengths t given now)
+      (more : Extends held batch.first batch.names to.bytes (batch.first + k) b) → slice_get batch.names k ≡ Some name → k ≤ length batch.names → Gives r now after ((name, b) ∷ [])
+      → Gives r given after (pairs_from batch.first (take (k + 1) batch.names) more.bytes)
+  gave-next {now = now} r after k lengths t name b to more at le g =
+      let len : length (take k batch.names) ≡ k = take-length batch.names k le in
+      let same : pairs_from batch.first (take k batch.names) to.bytes ≡ pairs_from batch.first (take k batch.names) more.bytes
+      = pairs-same batch.first (take k batch.names) to.bytes more.bytes (λ j low high. more.before j (omega (arith, high, len))) in
+      let here : more.bytes (batch.first + length (take k batch.names)) ≡ b = ap (λ i. more.bytes (batch.first + i)) len ∙ more.here in
+      let front : pairs_from batch.first (take (k + 1) batch.names) more.bytes ≡ pairs_from batch.first (take k batch.names) to.bytes ++ (name, b) ∷ [] =
+      ap (λ ns. pairs_from batch.first ns more.bytes) (take-next batch.names k name at)
+      ∙ (pairs-append batch.first (take k batch.names) (name ∷ []) more.bytes
+      ∙ (ap (λ bs. pairs_from batch.first (take k batch.names) more.bytes ++ (name, bs) ∷ []) here ∙ ap (λ ps. ps ++ (name, b) ∷ []) (sym same))) in
+      rw front (gives-behind r given now after (pairs_from batch.first (take k batch.names) to.bytes) ((name, b) ∷ []) to.gave g)
+
+  -- The run ends after one more read.
+  gave-end : {X Y : Type 0} {now : Pairs} (end : Outcome) (after : Pairs) (k lengths : ℕ) (t : Totals) (name b : List ℕ) (to : AreCountedTo held limits sources filter batch k lengths t given now)
+      (more : Extends held batch.first batch.names to.bytes (batch.first + k) b) → slice_get batch.names k ≡ Some name → k ≤ length batch.names → Gives {X = X} (Err end) now after ((name, b) ∷ [])
+      → Gives {X = Y} (Err end) given after (pairs_from batch.first batch.names more.bytes)
+  gave-end {X} {Y} end after k lengths t name b to more at le g =
+      let rest = pairs_from (batch.first + length (take (k + 1) batch.names)) (drop (k + 1) batch.names) more.bytes in
+      let all : pairs_from batch.first batch.names more.bytes ≡ pairs_from batch.first (take (k + 1) batch.names) more.bytes ++ rest =
+      ap (λ ns. pairs_from batch.first ns more.bytes) (sym (take-append-drop (k + 1) batch.names)) ∙ pairs-append batch.first (take (k + 1) batch.names) (drop (k + 1) batch.names) more.bytes in
+      rw all (gives-stops {X = X} {Y = Y} end given after (pairs_from batch.first (take (k + 1) batch.names) more.bytes) rest (gave-next (Err end) after k lengths t name b to more at le g))
+
   -- One more file is counted.
-  pub counted-next : (k lengths more_lengths : ℕ) (old new : Totals) (name b : List ℕ) (f : FileView) (to : AreCountedTo held limits sources filter batch k lengths old)
+  pub counted-next : {X : Type 0} {now : Pairs} (x : X) (after : Pairs) (k lengths more_lengths : ℕ) (old new : Totals) (name b : List ℕ) (f : FileView) (to : AreCountedTo held limits sources filter batch k lengths old given now)
       (more : Extends held batch.first batch.names to.bytes (batch.first + k) b)
       → slice_get batch.names k ≡ Some name → k ≤ length batch.names → counted_file limits sources (batch.first + k) lengths old.mapped name b ≡ Ok f
-      → HasCounted filter (length sources) (to.files ++ f ∷ []) new → more_lengths ≡ batch.before + new.lengths → AreCountedTo held limits sources filter batch (k + 1) more_lengths new
-  counted-next k lengths more_lengths old new name b f to more at le is has lengths_are =
+      → HasCounted filter (length sources) (to.files ++ f ∷ []) new → more_lengths ≡ batch.before + new.lengths → Gives (Ok x) now after ((name, b) ∷ [])
+      → AreCountedTo held limits sources filter batch (k + 1) more_lengths new given after
+  counted-next x after k lengths more_lengths old new name b f to more at le is has lengths_are gave =
       let file : counted_file limits sources (batch.first + k) lengths old.mapped name (more.bytes (batch.first + k)) ≡ Ok f = rw more.here is in
       record {
         bytes = more.bytes;
@@ -261,10 +296,11 @@ module _ (held : Option Pairs) (limits : Limits) (sources : List Chosen) (filter
         counted = ap (counted_from limits sources more.bytes batch.first batch.before 0) (take-next batch.names k name at) ∙ (behind k lengths old b (name ∷ []) to more le ∙ rw file refl);
         has = has;
         lengths_are = lengths_are;
+        gave = given-all x given after (pairs_from batch.first (take (k + 1) batch.names) more.bytes) (gave-next (Ok x) after k lengths old name b to more at le gave);
       }
 
   -- The run ends at one file.
-  pub counted-stop : (k lengths : ℕ) (t : Totals) (name b : List ℕ) (end : Outcome) (to : AreCountedTo held limits sources filter batch k lengths t)
+  pub counted-stop : {now : Pairs} (k lengths : ℕ) (t : Totals) (name b : List ℕ) (end : Outcome) (to : AreCountedTo held limits sources filter batch k lengths t given now)
       (more : Extends held batch.first batch.names to.bytes (batch.first + k) b)
       → slice_get batch.names k ≡ Some name → k ≤ length batch.names → counted_file limits sources (batch.first + k) lengths t.mapped name b ≡ Err end
       → counted_from limits sources more.bytes batch.first batch.before 0 batch.names ≡ Err end
@@ -277,37 +313,42 @@ module _ (held : Option Pairs) (limits : Limits) (sources : List Chosen) (filter
   ok-is (Err y) x e = cc
 
   -- The run ends at a read.
-  pub read-ends : (k lengths limit : ℕ) (t : Totals) (name b : List ℕ) (end : Outcome) (to : AreCountedTo held limits sources filter batch k lengths t)
+  pub read-ends : {X : Type 0} {now : Pairs} (after : Pairs) (k lengths limit : ℕ) (t : Totals) (name b : List ℕ) (end : Outcome) (to : AreCountedTo held limits sources filter batch k lengths t given now)
       (more : Extends held batch.first batch.names to.bytes (batch.first + k) b)
       → slice_get batch.names k ≡ Some name → k < length batch.names → lengths ≤ total_limit limits → limit ≡ min (file_limit limits) (total_limit limits - lengths) → Finds (batch.first + k) limit b (Err end)
-      → (bytes : ℕ → List ℕ) × AreHeld held batch.first batch.names bytes × EndsFiles limits sources filter batch bytes (Err end)
-  read-ends k lengths limit t name b end to more at lt le is e = (
+      → Gives {X = X} (Err end) now after ((name, b) ∷ []) → EndsBatch after (Err end)
+  read-ends after k lengths limit t name b end to more at lt le is e gave = (
     more.bytes,
     more.are,
     ends-read (IsFileOf limits sources batch more.bytes) (counted_batch limits sources more.bytes batch) (batch.first + k) limit b end (λ i same number. (k, number, lt, ok-is _ to.files (recounted k lengths t b to more (omega arith))))
         (λ over. counted-stop k lengths t name b (TooLong (batch.first + k)) to more at (omega arith) (counted-long limits sources (batch.first + k) lengths t.mapped name b (rw (← is) over) le)) e,
+    gave-end end after k lengths t name b to more at (omega (arith, lt)) gave,
   )
 
   -- The run ends at a file after reading it.
-  pub count-ends : (k lengths : ℕ) (t : Totals) (name b : List ℕ) (end : Outcome) (to : AreCountedTo held limits sources filter batch k lengths t)
+  pub count-ends : {X : Type 0} {now : Pairs} (x : X) (after : Pairs) (k lengths : ℕ) (t : Totals) (name b : List ℕ) (end : Outcome) (to : AreCountedTo held limits sources filter batch k lengths t given now)
       (more : Extends held batch.first batch.names to.bytes (batch.first + k) b)
       → slice_get batch.names k ≡ Some name → k < length batch.names → EndsAs {X = FileView} (Err end) (counted_file limits sources (batch.first + k) lengths t.mapped name b)
-      → (bytes : ℕ → List ℕ) × AreHeld held batch.first batch.names bytes × EndsFiles limits sources filter batch bytes (Err end)
-  count-ends k lengths t name b end to more at lt e = (
+      → Gives (Ok x) now after ((name, b) ∷ []) → EndsBatch after (Err end)
+  count-ends {X} {now = now} x after k lengths t name b end to more at lt e gave = (
     more.bytes,
     more.are,
     ends-so Nowhere (IsFileOf limits sources batch more.bytes) (counted_file limits sources (batch.first + k) lengths t.mapped name b) (counted_batch limits sources more.bytes batch) end (λ i same never. absurd never)
         (λ is. counted-stop k lengths t name b end to more at (omega arith) is) e,
+    gave-end {X = X} end after k lengths t name b to more at (omega (arith, lt)) (gives-as x (Err end) now after ((name, b) ∷ []) gave),
   )
 
   -- all files
-  pub all-counted : (k lengths : ℕ) (t : Totals) → AreCountedTo held limits sources filter batch k lengths t → length batch.names ≤ k
-      → (bytes : ℕ → List ℕ) × AreHeld held batch.first batch.names bytes × EndsFiles limits sources filter batch bytes (Ok t)
-  all-counted k lengths t to le =
-      (to.bytes, to.are, (to.files, ap (counted_from limits sources to.bytes batch.first batch.before 0) (sym (take_all k batch.names le)) ∙ to.counted, to.has))
+  pub all-counted : {now : Pairs} (k lengths : ℕ) (t : Totals) → AreCountedTo held limits sources filter batch k lengths t given now → length batch.names ≤ k → EndsBatch now (Ok t)
+  all-counted {now} k lengths t to le = (
+    to.bytes,
+    to.are,
+    (to.files, ap (counted_from limits sources to.bytes batch.first batch.before 0) (sym (take_all k batch.names le)) ∙ to.counted, to.has),
+    gives-all (Ok t) given now (pairs_from batch.first batch.names to.bytes) (to.gave ∙ ap (λ ns. given ++ pairs_from batch.first ns to.bytes) (take_all k batch.names le)),
+  )
 
   -- no file yet
-  pub counted-none : (depth : ℕ) → depth ≡ length sources → AreCountedTo held limits sources filter batch 0 batch.before (record { depth = depth; rows = []; lengths = 0; mapped = 0 })
+  pub counted-none : (depth : ℕ) → depth ≡ length sources → AreCountedTo held limits sources filter batch 0 batch.before (record { depth = depth; rows = []; lengths = 0; mapped = 0 }) given given
   counted-none depth is = record {
     bytes = (some-held held batch.first batch.names).0;
     are = (some-held held batch.first batch.names).1;
@@ -315,6 +356,7 @@ module _ (held : Option Pairs) (limits : Limits) (sources : List Chosen) (filter
     counted = ap (counted_from limits sources (some-held held batch.first batch.names).0 batch.first batch.before 0) (take-none batch.names);
     has = none-counted filter (length sources) depth is;
     lengths_are = omega arith;
+    gave = sym (ap (λ ns. given ++ pairs_from batch.first ns (some-held held batch.first batch.names).0) (take-none batch.names) ∙ append-nil given);
   }
 
 -- A step that succeeded has a value.

@@ -1,11 +1,15 @@
+pub mod BuildLemmas
 pub mod EndLemmas
 pub mod FileLemmas
+pub mod GivenLemmas
 pub mod HeldLemmas
 pub mod KindLemmas
 pub mod LineLemmas
+pub mod LocationLemmas
 pub mod PairLemmas
 pub mod PlaceLemmas
 pub mod PlanLemmas
+pub mod ReadBackLemmas
 pub mod ReadLemmas
 pub mod ReportLemmas
 pub mod RunLemmas

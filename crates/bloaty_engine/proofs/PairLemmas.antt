@@ -22,6 +22,7 @@ use Rattle.file_profile.proofs.MapLemmas.{err-same}
 use Rattle.size_options.specs.declared.run_options.Options.{Options}
 use Rattle.run_outcome.specs.declared.outcome.Outcome.{Outcome}
 use Rattle.run_outcome.specs.declared.outcome.Outcome.TheVariants.{Done, Usage, ReadFailed, TooLong, Config, UnknownSource, PatternSyntax, PatternTooBig, Bad, TooManyClaims, MappedTooLarge, NoMatch, PlaceOutside, WriteFailed, NoMemory}
+use Rattle.bloaty_engine.specs.Given.{input_pairs, pairs_from}
 use Rattle.bloaty_engine.specs.Named.{AreFiles, AreHeld}
 use Rattle.run_outcome.specs.Names.{all_names, debug_names, file_names, name_at, names_of, other_names}
 use Rattle.bloaty_engine.specs.PairSteps.{EndsFirst, EndsPair, EndsPaired, IsOfPair}
@@ -231,6 +232,19 @@ module _ (o : Options) (name debug : List ℕ) (is : IsPair o) (asked : o.debug 
     pub debug-held : IsHeld held debug other → AreHeld held (length (file_names o) + 1) (other_names o) (two own other)
     unfolding two beyond
     debug-held h = rw (front-is, others-are) (one-held held 2 debug other (two own other) refl h)
+
+  -- What reads gave of the two files.
+  first-pair : (own other : List ℕ) → pairs_from 1 (unmade_names o.synth o.files) (two own other) ≡ (name, own) ∷ []
+  unfolding two beyond
+  first-pair own other = rw (is.not_made, files-are) refl
+
+  second-pair : (own other : List ℕ) → pairs_from (length (file_names o) + 1) (other_names o) (two own other) ≡ (debug, other) ∷ []
+  unfolding two beyond
+  second-pair own other = rw (front-is, others-are) refl
+
+  pub pair-pairs : (own other : List ℕ) → input_pairs o (other_names o) (two own other) ≡ (name, own) ∷ (debug, other) ∷ []
+  pair-pairs own other =
+      ap (λ ps. ps ++ pairs_from (length (file_names o) + 1) (other_names o) (two own other)) (first-pair own other) ∙ ap (λ ps. (name, own) ∷ ps) (second-pair own other)
 
   module _ (limits : Limits) (sources : List Chosen) (filter : Option (List ℕ)) (same : filter ≡ o.filter) (depth : length o.sources ≡ length sources) (no_place : o.place ≡ None) (own other : List ℕ) where
     found-pair : (r : Result Sides Outcome) → counted_pair limits sources name own other ≡ r → found limits sources (two own other) o ≡ as_counted r

@@ -1,16 +1,16 @@
 -- How a plan finds its data sources, name by name, and compiles its patterns, data source by data source.
-use Rattle.std.proofs.Common.{◌≡◌, ◌+◌, ◌<◌, ◌≤◌, ℕ, zero, suc, true, false, cond, List, [], ◌∷◌, ◌++◌, length, map, take, drop, get_or, Option, None, Some, IfSome, option_map, slice_get, Result, Ok, Err, IsOk, refl, sym, ap, ◌∙◌, append_assoc, arith}
+use Rattle.std.proofs.Common.{◌≡◌, ◌+◌, ◌-◌, ◌<◌, ◌≤◌, ℕ, zero, suc, true, false, cond, List, [], ◌∷◌, ◌++◌, length, map, take, drop, get_or, Option, None, Some, IfSome, option_map, slice_get, Result, Ok, Err, IsOk, refl, sym, ap, ◌∙◌, append_assoc, arith}
 use Rattle.std.specs.Str.{bytes_eq}
 use Rattle.std.proofs.Math.Seq.{take-append-add}
 use Rattle.std.proofs.lemmas.Grind.{flat_map-append}
-use Rattle.std.proofs.lemmas.List.{append-nil, length-append, map-append, take-append-drop, take-append-le, take_more}
+use Rattle.std.proofs.lemmas.List.{append-nil, length-append, length-map, map-append, take-append-drop, take-append-le, take_all, take_more}
 use Rattle.std.proofs.lemmas.List.Elements.{All-append}
 use Rattle.std.proofs.lemmas.Option.{get_or_from_slice_get, none-some, same_Some, slice_get_within}
 use Rattle.size_model.proofs.Firsts.{drop-get, drop-end, map_more}
 use Rattle.config_text.specs.declared.config.CustomSource.{CustomSource}
 use Rattle.config_text.specs.declared.config.Rewrite.{Rewrite}
 use Rattle.custom_rewrites.specs.Pattern.{IsNoPattern, IsPattern}
-use Rattle.custom_rewrites.specs.Rewriting.{StopsAt as StopsIn}
+use Rattle.custom_rewrites.specs.Rewriting.{StopsAt as StopsIn, patterns_in}
 use Rattle.file_profile.specs.declared.plan.Choice.{Choice}
 use Rattle.file_profile.specs.declared.plan.PlanAnswer.{PlanAnswer}
 use Rattle.file_profile.specs.declared.plan.PlanAnswer.TheVariants.{UnknownSource, PatternSyntax, PatternTooBig, NoMemory}
@@ -18,6 +18,9 @@ use Rattle.file_profile.specs.Choices.{as_chosen, chosen_in, rewrite_lists}
 use Rattle.file_profile.specs.Patterns.{ArePatterns, ArePatternsBelow, AreRead, StopsAt, rewrites_of}
 use Rattle.file_profile.specs.Plans.{HasCause, HasRewriteCause}
 use Rattle.file_profile.specs.Sources.{Chosen, chosen_before, chosen_from, chosen_named, chosen_sources, custom_named}
+use Rattle.bloaty_engine.specs.PatternLists.{rewrite_patterns}
+use Rattle.bloaty_engine.specs.Devices.{BuildsBefore, BuildsFirst}
+use Rattle.bloaty_engine.proofs.ReadLemmas.{reads-as-many, reads-behind, reads-more}
 
 -- a custom data source that has another name, and one that has this name
 module _ (customs : List CustomSource) (i : ℕ) (c : CustomSource) (name : List ℕ) (at : slice_get customs i ≡ Some c) where
@@ -138,6 +141,49 @@ module _ (customs : List CustomSource) (i : ℕ) (c : CustomSource) (at : slice_
       let s = stops-more first n h.0 (λ pattern. last ≡ pattern) now read h.1 h.2 in
       (s.0, s.1, s.2, omega (arith, le, h.3))
   cause-more first start before after last now read le NoMemory h = h
+
+  -- The patterns of the data sources before this one were built, and then patterns of this one.
+  module _ (old middle new : List (List ℕ)) (were : middle ≡ old ++ patterns_in (rewrites_of (take i customs))) where
+    pub built-more : new ≡ middle ++ patterns_in c.rewrites → new ≡ old ++ patterns_in (rewrites_of (take (i + 1) customs))
+    built-more one =
+        let pattern : Rewrite → List ℕ = λ r. r.pattern in
+        let front = patterns_in (rewrites_of (take i customs)) in
+        one
+        ∙ (ap (λ ps. ps ++ patterns_in c.rewrites) were
+        ∙ (append_assoc old front (patterns_in c.rewrites) ∙ ap (λ ps. old ++ ps) (sym (ap patterns_in front-more ∙ map-append pattern (rewrites_of (take i customs)) c.rewrites))))
+
+    within-all : (count many : ℕ) → many ≡ length (rewrites_of (take i customs)) + count → BuildsFirst count middle new (patterns_in c.rewrites) → BuildsFirst many old new (patterns_in (rewrites_of customs))
+    within-all count many same built =
+        let pattern : Rewrite → List ℕ = λ r. r.pattern in
+        let front = patterns_in (rewrites_of (take i customs)) in
+        let rest = rewrites_of (drop (suc i) customs) in
+        let whole : patterns_in (rewrites_of customs) ≡ front ++ (patterns_in c.rewrites ++ patterns_in rest) =
+        ap patterns_in parts ∙ (map-append pattern (rewrites_of (take i customs)) (c.rewrites ++ rest) ∙ ap (λ ps. front ++ ps) (map-append pattern c.rewrites rest)) in
+        let number : many ≡ length front + count = omega (arith, same, length-map (rewrites_of (take i customs)) pattern) in
+        rw whole
+        (reads-as-many (length front + count) many old new (front ++ (patterns_in c.rewrites ++ patterns_in rest)) number
+        (reads-behind old middle front (patterns_in c.rewrites ++ patterns_in rest) were count new (reads-more count middle new (patterns_in c.rewrites) (patterns_in rest) built)))
+
+    -- An answer about one data source, among all of them.
+    pub built-within : (first before after : ℕ) (last : List ℕ) → first ≡ 1 + length (rewrites_of (take i customs)) → (e : PlanAnswer) → HasRewriteCause first c.rewrites before after last e
+        → BuildsBefore (rewrite_patterns first c.rewrites) last e middle new → BuildsBefore (rewrite_patterns 1 (rewrites_of customs)) last e old new
+    built-within first before after last now (UnknownSource n) h built = absurd h
+    built-within first before after last now (PatternSyntax n) h built = within-all (n + 1 - first) (n + 1 - 1) (omega (arith, now, h.1)) built
+    built-within first before after last now (PatternTooBig n) h built = (within-all (n + 1 - first) (n + 1 - 1) (omega (arith, now, h.1)) built.0, built.1)
+    built-within first before after last now NoMemory h built =
+        (length (rewrites_of (take i customs)) + built.0, within-all built.0 (length (rewrites_of (take i customs)) + built.0) refl built.1)
+
+-- The patterns of the first data sources were built.
+pub built-part : (customs : List CustomSource) (i : ℕ) (old new : List (List ℕ)) → new ≡ old ++ patterns_in (rewrites_of (take i customs)) → (count : ℕ) × BuildsFirst count old new (patterns_in (rewrites_of customs))
+built-part customs i old new are =
+    let pattern : Rewrite → List ℕ = λ r. r.pattern in
+    let front = patterns_in (rewrites_of (take i customs)) in
+    let rest = patterns_in (rewrites_of (drop i customs)) in
+    let whole : patterns_in (rewrites_of customs) ≡ front ++ rest =
+    ap (λ cs. patterns_in (rewrites_of cs)) (sym (take-append-drop i customs))
+    ∙ (ap patterns_in (flat_map-append (λ (c : CustomSource). c.rewrites) (take i customs) (drop i customs)) ∙ map-append pattern (rewrites_of (take i customs)) (rewrites_of (drop i customs))) in
+    let all = take_all (length front) front (omega arith) in
+    (length front, rw whole (reads-more (length front) old new front rest (record { within = omega arith; are = are ∙ ap (λ ps. old ++ ps) (sym all) })))
 
 -- The pattern of a number, if the filter is a regular expression of the grammar.
 module _ (names : List (List ℕ)) (filter : Option (List ℕ)) (customs : List CustomSource) where

@@ -25,6 +25,7 @@ use Rattle.run_outcome.specs.declared.outcome.Outcome.TheVariants.{Done, Usage, 
 use Rattle.size_options.specs.Answers.{IsUsageOf, are_taken}
 use Rattle.size_options.specs.Asked.{asked as options_of}
 use Rattle.bloaty_engine.specs.Answers.{CountsFile, EndsReport, HasReport, IsAnswer, IsAsked, IsFinished, IsReached, IsRun, Writes, is_end}
+use Rattle.bloaty_engine.specs.Given.{Gives, SeenFiles, config_pairs, input_pairs, run_pairs}
 use Rattle.bloaty_engine.specs.Named.{AreContents, AreFiles, AreHeld, Contents, IsText}
 use Rattle.run_outcome.specs.Names.{debug_names, file_name, file_names, name_at, other_names}
 use Rattle.file_profile.specs.Laws.{IsOfFile}
@@ -36,6 +37,7 @@ use Rattle.file_profile.specs.Plans.{IsPlan, Plans}
 use Rattle.bloaty_engine.specs.Reports.{EndsFinding}
 use Rattle.file_profile.specs.Sources.{Chosen, chosen_before, chosen_from, chosen_named, chosen_sources}
 use Rattle.bloaty_engine.specs.Steps.{EndsConfig, EndsPlan}
+use Rattle.bloaty_engine.specs.Stages.{Patterns, is_past}
 use Rattle.bloaty_engine.specs.Verdict.{◌>>=◌, Counted, Explained, Finding, Request, Sides, as_counted, as_explained, asked, config_limit, counted_file, counted_from, counted_pair, counted_sides, customs_in, end_at, end_of_pair, end_of_place, explained_file, file_limit, first_name, found, one_file, found_by, if_config, if_explained, if_paired, if_sound, if_unknown, if_viewed, lengths_of, opened_first, total_limit, verdict}
 use Rattle.file_profile.specs.declared.answer.PairAnswer.{PairAnswer}
 use Rattle.file_profile.specs.declared.answer.PairAnswer.TheVariants as pair
@@ -45,8 +47,12 @@ use Rattle.file_profile.specs.PairViews.{pair_viewed}
 use Rattle.file_profile.specs.Explanations.{explained_place, named_sources}
 use Rattle.file_profile.specs.Views.{viewed}
 use Rattle.bloaty_engine.proofs.FileLemmas.{some-held}
+use Rattle.bloaty_engine.proofs.GivenLemmas.{given-all, gives-as, gives-behind, gives-ended, gives-none, gives-stops, gives-then}
 use Rattle.bloaty_engine.proofs.HeldLemmas.{held-some}
+use Rattle.bloaty_engine.proofs.LocationLemmas.{explains-file}
+use Rattle.bloaty_engine.proofs.ReadLemmas.{done-is-no-end}
 use Rattle.bloaty_engine.proofs.SidesLemmas.{behind-held, beyond, front-files}
+use Rattle.bloaty_engine.proofs.StepLemmas.{not-done}
 
 ok-same : {X E : Type 0} (x y : X) → ◌≡◌ {A = Result X E} (Ok x) (Ok y) → x ≡ y
 ok-same x y e = cc
@@ -277,6 +283,31 @@ pub config-never-big : (limits : Limits) (name : Option (List ℕ)) (text : List
 unfolding IsConfigEnd
 config-never-big limits name text i e = customs-error limits name text (PatternTooBig i) e
 
+pub config-never-bad : (limits : Limits) (name : Option (List ℕ)) (text : List ℕ) (i : ℕ) → EndsConfig limits name text (Err (PatternSyntax i)) → ⊥
+unfolding IsConfigEnd
+config-never-bad limits name text i e = customs-error limits name text (PatternSyntax i) e
+
+-- It never ends a run past the patterns.
+pub config-never-past : (limits : Limits) (name : Option (List ℕ)) (text : List ℕ) (end : Outcome) → EndsConfig limits name text (Err end) → is_past Patterns end ≡ true → ⊥
+unfolding IsConfigEnd
+config-never-past limits name text (ReadFailed zero) e past = cc
+config-never-past limits name text (ReadFailed (suc k)) e past = omega (arith, e.0)
+config-never-past limits name text NoMemory e past = cc
+config-never-past limits name text (TooLong zero) e past = cc
+config-never-past limits name text (TooLong (suc k)) e past = customs-error limits name text (TooLong (suc k)) e
+config-never-past limits name text (Config kind offset) e past = cc
+config-never-past limits name text Done e past = customs-error limits name text Done e
+config-never-past limits name text (Usage kind) e past = cc
+config-never-past limits name text (UnknownSource i) e past = cc
+config-never-past limits name text (PatternSyntax i) e past = cc
+config-never-past limits name text (PatternTooBig i) e past = cc
+config-never-past limits name text (Bad i fault offset) e past = customs-error limits name text (Bad i fault offset) e
+config-never-past limits name text (TooManyClaims i) e past = customs-error limits name text (TooManyClaims i) e
+config-never-past limits name text MappedTooLarge e past = customs-error limits name text MappedTooLarge e
+config-never-past limits name text NoMatch e past = customs-error limits name text NoMatch e
+config-never-past limits name text PlaceOutside e past = customs-error limits name text PlaceOutside e
+config-never-past limits name text WriteFailed e past = customs-error limits name text WriteFailed e
+
 -- With a debug file the sizes are those of the file alone.
 
 pair-file : (limits : Limits) (sources : List Chosen) (name file debug : List ℕ) (s : Sides) → counted_pair limits sources name file debug ≡ Ok s → All (IsOfFile file) s.files
@@ -321,6 +352,10 @@ pub never-big : (limits : Limits) (sources : List Chosen) (files : ℕ → List 
 unfolding IsFileEnd
 never-big limits sources files o i e = found-error limits sources files o (PatternTooBig i) e
 
+pub never-bad : (limits : Limits) (sources : List Chosen) (files : ℕ → List ℕ) (o : Options) (i : ℕ) → EndsFinding limits sources files o (Err (PatternSyntax i)) → ⊥
+unfolding IsFileEnd
+never-bad limits sources files o i e = found-error limits sources files o (PatternSyntax i) e
+
 -- The result of the run from its steps.
 
 -- Bytes of files, if they aren't read.
@@ -336,8 +371,9 @@ some-bytes held o others =
     (beyond (length (file_names o)) front.0 behind.0, front-files held o.synth o.files front.0 behind.0 front.1, behind-held held (length (file_names o)) others front.0 behind.0 behind.1)
 
 -- A run ends with this result over some bytes of its files.
-abbrev pub RunsTo : Option Pairs → Limits → Options → List ℕ → Result (Vec ℕ Global) Outcome → Type 0
-RunsTo held limits o last result = (contents : Contents) × AreContents held o contents × EndsReport limits o last contents result
+abbrev pub RunsTo : SeenFiles → Limits → Options → List ℕ → Result (Vec ℕ Global) Outcome → Type 0
+RunsTo seen limits o last result = (contents : Contents) × AreContents seen.held o contents × EndsReport limits o last contents result
+    × Gives result seen.before seen.after (run_pairs (Ok o) contents)
 
 contents-of : List ℕ → (ℕ → List ℕ) → Contents
 contents-of text files = record { config = text; files = files }
@@ -359,25 +395,31 @@ module _ (held : Option Pairs) (limits : Limits) (o : Options) (last text : List
   unfolding contents-of unread
   from-verdict end e = verdict-asked limits o unread end (asked-config limits o unread end e)
 
-  pub ends-config : (end : Outcome) → EndsConfig limits o.config text (Err end) → RunsTo held limits o last (Err end)
+  config-ended : (end : Outcome) → EndsConfig limits o.config text (Err end) → EndsReport limits o last unread (Err end)
   unfolding IsConfigEnd
-  ends-config (ReadFailed zero) e = (unread, unread-are, ((o, refl, e.1), (λ p. cc), refl))
-  ends-config (ReadFailed (suc k)) e = absurd (omega (arith, e.0))
-  ends-config NoMemory e = (unread, unread-are, (tt, (λ p. cc), refl))
-  ends-config (TooLong zero) e = (unread, unread-are, (from-verdict (TooLong zero) e, (λ p. cc), refl))
-  ends-config (Config kind offset) e = (unread, unread-are, (from-verdict (Config kind offset) e, (λ p. cc), refl))
-  ends-config (TooLong (suc k)) e = absurd (customs-error limits o.config text (TooLong (suc k)) e)
-  ends-config Done e = absurd (customs-error limits o.config text Done e)
-  ends-config (Usage kind) e = absurd (customs-error limits o.config text (Usage kind) e)
-  ends-config (UnknownSource i) e = absurd (customs-error limits o.config text (UnknownSource i) e)
-  ends-config (PatternSyntax i) e = absurd (customs-error limits o.config text (PatternSyntax i) e)
-  ends-config (PatternTooBig i) e = absurd (customs-error limits o.config text (PatternTooBig i) e)
-  ends-config (Bad i fault offset) e = absurd (customs-error limits o.config text (Bad i fault offset) e)
-  ends-config (TooManyClaims i) e = absurd (customs-error limits o.config text (TooManyClaims i) e)
-  ends-config MappedTooLarge e = absurd (customs-error limits o.config text MappedTooLarge e)
-  ends-config NoMatch e = absurd (customs-error limits o.config text NoMatch e)
-  ends-config PlaceOutside e = absurd (customs-error limits o.config text PlaceOutside e)
-  ends-config WriteFailed e = absurd (customs-error limits o.config text WriteFailed e)
+  config-ended (ReadFailed zero) e = ((o, refl, e.1), (λ p. cc), refl)
+  config-ended (ReadFailed (suc k)) e = absurd (omega (arith, e.0))
+  config-ended NoMemory e = (tt, (λ p. cc), refl)
+  config-ended (TooLong zero) e = (from-verdict (TooLong zero) e, (λ p. cc), refl)
+  config-ended (Config kind offset) e = (from-verdict (Config kind offset) e, (λ p. cc), refl)
+  config-ended (TooLong (suc k)) e = absurd (customs-error limits o.config text (TooLong (suc k)) e)
+  config-ended Done e = absurd (customs-error limits o.config text Done e)
+  config-ended (Usage kind) e = absurd (customs-error limits o.config text (Usage kind) e)
+  config-ended (UnknownSource i) e = absurd (customs-error limits o.config text (UnknownSource i) e)
+  config-ended (PatternSyntax i) e = absurd (customs-error limits o.config text (PatternSyntax i) e)
+  config-ended (PatternTooBig i) e = absurd (customs-error limits o.config text (PatternTooBig i) e)
+  config-ended (Bad i fault offset) e = absurd (customs-error limits o.config text (Bad i fault offset) e)
+  config-ended (TooManyClaims i) e = absurd (customs-error limits o.config text (TooManyClaims i) e)
+  config-ended MappedTooLarge e = absurd (customs-error limits o.config text MappedTooLarge e)
+  config-ended NoMatch e = absurd (customs-error limits o.config text NoMatch e)
+  config-ended PlaceOutside e = absurd (customs-error limits o.config text PlaceOutside e)
+  config-ended WriteFailed e = absurd (customs-error limits o.config text WriteFailed e)
+
+  -- The run ends at its configuration.
+  pub ends-config : (before after : Pairs) (end : Outcome) → EndsConfig limits o.config text (Err end) → Gives {X = Vec CustomSource Global} (Err end) before after (config_pairs o.config text)
+      → RunsTo (record { held = held; before = before; after = after }) limits o last (Err end)
+  unfolding contents-of unread
+  ends-config before after end e gave = (unread, unread-are, config-ended end e, gives-stops end before after (config_pairs o.config text) (input_pairs o (other_names o) unread.files) gave)
 
   module _ (customs : List CustomSource) (configured : customs_in limits o.config text ≡ Ok customs) where
     unknown-verdict : (i : ℕ) → chosen_sources customs o.sources ≡ Err i → verdict limits (Ok o) unread ≡ Err (UnknownSource i)
@@ -389,23 +431,29 @@ module _ (held : Option Pairs) (limits : Limits) (o : Options) (last text : List
     is-asked (Ok known) P e ok p = (request-of o customs known, asked-known limits o unread customs known configured e, p known)
     is-asked (Err i) P e ok p = cc
 
-    pub ends-plan : (end : Outcome) → EndsPlan o.sources o.filter customs last end → RunsTo held limits o last (Err end)
+    plan-ended : (end : Outcome) → EndsPlan o.sources o.filter customs last end → EndsReport limits o last unread (Err end)
     unfolding request-of
-    ends-plan (UnknownSource i) e = (unread, unread-are, (unknown-verdict i e, (λ p. cc), refl))
-    ends-plan (PatternSyntax i) e = (unread, unread-are, (is-asked (chosen_sources customs o.sources) _ refl e.0 (λ known. e.1), (λ p. cc), refl))
-    ends-plan (PatternTooBig i) e = (unread, unread-are, (is-asked (chosen_sources customs o.sources) _ refl e.0 (λ known. e.1), (λ p. cc), refl))
-    ends-plan NoMemory e = (unread, unread-are, (tt, (λ p. cc), refl))
-    ends-plan Done e = absurd e
-    ends-plan (Usage kind) e = absurd e
-    ends-plan (ReadFailed i) e = absurd e
-    ends-plan (TooLong i) e = absurd e
-    ends-plan (Config kind offset) e = absurd e
-    ends-plan (Bad i fault offset) e = absurd e
-    ends-plan (TooManyClaims i) e = absurd e
-    ends-plan MappedTooLarge e = absurd e
-    ends-plan NoMatch e = absurd e
-    ends-plan PlaceOutside e = absurd e
-    ends-plan WriteFailed e = absurd e
+    plan-ended (UnknownSource i) e = (unknown-verdict i e, (λ p. cc), refl)
+    plan-ended (PatternSyntax i) e = (is-asked (chosen_sources customs o.sources) _ refl e.0 (λ known. e.1), (λ p. cc), refl)
+    plan-ended (PatternTooBig i) e = (is-asked (chosen_sources customs o.sources) _ refl e.0 (λ known. e.1), (λ p. cc), refl)
+    plan-ended NoMemory e = (tt, (λ p. cc), refl)
+    plan-ended Done e = absurd e
+    plan-ended (Usage kind) e = absurd e
+    plan-ended (ReadFailed i) e = absurd e
+    plan-ended (TooLong i) e = absurd e
+    plan-ended (Config kind offset) e = absurd e
+    plan-ended (Bad i fault offset) e = absurd e
+    plan-ended (TooManyClaims i) e = absurd e
+    plan-ended MappedTooLarge e = absurd e
+    plan-ended NoMatch e = absurd e
+    plan-ended PlaceOutside e = absurd e
+    plan-ended WriteFailed e = absurd e
+
+    -- The run ends at its plan.
+    pub ends-plan : {X : Type 0} (x : X) (before after : Pairs) (end : Outcome) → EndsPlan o.sources o.filter customs last end → Gives (Ok x) before after (config_pairs o.config text)
+        → RunsTo (record { held = held; before = before; after = after }) limits o last (Err end)
+    unfolding contents-of unread
+    ends-plan x before after end e gave = (unread, unread-are, plan-ended end e, gives-then x (Err end) before after (config_pairs o.config text) (input_pairs o (other_names o) unread.files) tt gave)
 
     module _ (p : Plans) (planned : IsPlan o.sources o.filter customs p) (files : ℕ → List ℕ) (are : AreFiles held o.synth o.files files)
         (others-are : AreHeld held (length (file_names o) + 1) (other_names o) files) where
@@ -439,46 +487,53 @@ module _ (held : Option Pairs) (limits : Limits) (o : Options) (last text : List
       not-end end e = found-error limits p.sources files o end e
 
       -- The run ends at its files, or it has a report.
-      pub ends-finding : (r : Result (Vec ℕ Global) Outcome) → EndsFinding limits p.sources files o r → RunsTo held limits o last r
+      finding-ended : (r : Result (Vec ℕ Global) Outcome) → EndsFinding limits p.sources files o r → EndsReport limits o last read r
       unfolding IsFileEnd found-read contents-of read request-of
-      ends-finding (Ok out) e = (
-        read,
-        read-are,
-        (
-          record {
-            found = record { request = request-of o customs p.sources; finding = e.0 };
-            text = out.items;
-            decided = verdict-read (Ok e.0) e.1;
-            report = e.2;
-            stripped = λ debug is. counts-stripped limits p.sources files o e.0 e.1 debug is;
-            so = refl;
-          },
-          patterns-read,
-        ),
+      finding-ended (Ok out) e = (
+        record {
+          found = record { request = request-of o customs p.sources; finding = e.0 };
+          text = out.items;
+          decided = verdict-read (Ok e.0) e.1;
+          report = e.2;
+          stripped = λ debug is. counts-stripped limits p.sources files o e.0 e.1 debug is;
+          explained = explains-file limits (request-of o customs p.sources) files e.0 (planned-count customs o.sources p.sources planned.sources) e.1;
+          so = refl;
+        },
+        patterns-read,
       )
-      ends-finding (Err (ReadFailed i)) e =
+      finding-ended (Err (ReadFailed i)) e =
           let i-is : i ≡ suc e.0 = omega (arith, e.1) in
           let reached : IsReached limits (Ok o) read (suc e.0) = (request-of o customs p.sources, asked-read, (e.2, e.3, e.4)) in
-          (read, read-are, (rw i-is reached, (λ q. patterns-read), refl))
-      ends-finding (Err NoMemory) e = (read, read-are, (tt, (λ q. cc), refl))
-      ends-finding (Err (TooLong i)) e = (read, read-are, (verdict-end (TooLong i) e, (λ q. patterns-read), refl))
-      ends-finding (Err (Bad i fault offset)) e = (read, read-are, (verdict-end (Bad i fault offset) e, (λ q. patterns-read), refl))
-      ends-finding (Err (TooManyClaims i)) e = (read, read-are, (verdict-end (TooManyClaims i) e, (λ q. patterns-read), refl))
-      ends-finding (Err MappedTooLarge) e = (read, read-are, (verdict-end MappedTooLarge e, (λ q. patterns-read), refl))
-      ends-finding (Err NoMatch) e = (read, read-are, (verdict-end NoMatch e, (λ q. patterns-read), refl))
-      ends-finding (Err PlaceOutside) e = (read, read-are, (verdict-end PlaceOutside e, (λ q. patterns-read), refl))
-      ends-finding (Err Done) e = absurd (not-end Done e)
-      ends-finding (Err (Usage kind)) e = absurd (not-end (Usage kind) e)
-      ends-finding (Err (Config kind offset)) e = absurd (not-end (Config kind offset) e)
-      ends-finding (Err (UnknownSource i)) e = absurd (not-end (UnknownSource i) e)
-      ends-finding (Err (PatternSyntax i)) e = absurd (not-end (PatternSyntax i) e)
-      ends-finding (Err (PatternTooBig i)) e = absurd (not-end (PatternTooBig i) e)
-      ends-finding (Err WriteFailed) e = absurd (not-end WriteFailed e)
+          (rw i-is reached, (λ q. patterns-read), refl)
+      finding-ended (Err NoMemory) e = (tt, (λ q. cc), refl)
+      finding-ended (Err (TooLong i)) e = (verdict-end (TooLong i) e, (λ q. patterns-read), refl)
+      finding-ended (Err (Bad i fault offset)) e = (verdict-end (Bad i fault offset) e, (λ q. patterns-read), refl)
+      finding-ended (Err (TooManyClaims i)) e = (verdict-end (TooManyClaims i) e, (λ q. patterns-read), refl)
+      finding-ended (Err MappedTooLarge) e = (verdict-end MappedTooLarge e, (λ q. patterns-read), refl)
+      finding-ended (Err NoMatch) e = (verdict-end NoMatch e, (λ q. patterns-read), refl)
+      finding-ended (Err PlaceOutside) e = (verdict-end PlaceOutside e, (λ q. patterns-read), refl)
+      finding-ended (Err Done) e = absurd (not-end Done e)
+      finding-ended (Err (Usage kind)) e = absurd (not-end (Usage kind) e)
+      finding-ended (Err (Config kind offset)) e = absurd (not-end (Config kind offset) e)
+      finding-ended (Err (UnknownSource i)) e = absurd (not-end (UnknownSource i) e)
+      finding-ended (Err (PatternSyntax i)) e = absurd (not-end (PatternSyntax i) e)
+      finding-ended (Err (PatternTooBig i)) e = absurd (not-end (PatternTooBig i) e)
+      finding-ended (Err WriteFailed) e = absurd (not-end WriteFailed e)
+
+      pub ends-finding : {X : Type 0} (x : X) (before middle after : Pairs) (r : Result (Vec ℕ Global) Outcome) → EndsFinding limits p.sources files o r → Gives (Ok x) before middle (config_pairs o.config text)
+          → Gives r middle after (input_pairs o (other_names o) files) → RunsTo (record { held = held; before = before; after = after }) limits o last r
+      unfolding contents-of read
+      ends-finding x before middle after r e config gave = (
+        read,
+        read-are,
+        finding-ended r e,
+        gives-behind r before middle after (config_pairs o.config text) (input_pairs o (other_names o) files) (given-all x before middle (config_pairs o.config text) config) gave,
+      )
 
 -- The end of a run with an outcome.
 
 -- Bytes that the files of options hold, or any bytes if there are no options.
-some-contents : (held : Option Pairs) (given : Result Options UsageKind) → (contents : Contents) × ((o : Options) → given ≡ Ok o → AreContents held o contents)
+pub some-contents : (held : Option Pairs) (given : Result Options UsageKind) → (contents : Contents) × ((o : Options) → given ≡ Ok o → AreContents held o contents)
 unfolding contents-of
 some-contents held (Err kind) = (contents-of [] (λ i. []), λ o e. cc)
 some-contents held (Ok o) = (contents-of (some-text held o.config).0 (some-bytes held o (other_names o)).0, λ p e. of-options held o p (ok-same o p e))
@@ -563,15 +618,17 @@ module _ (limits : Limits) (given : Result Options UsageKind) (contents : Conten
   unwritten out PlaceOutside is = refl
   unwritten out NoMemory is = refl
 
-module _ (held : Option Pairs) (limits : Limits) (last : List ℕ) (o : Options) (contents : Contents) (are : AreContents held o contents) where
-  own-bytes : (p : Options) → ◌≡◌ {A = Result Options UsageKind} (Ok o) (Ok p) → AreContents held p contents
+module _ (seen : SeenFiles) (limits : Limits) (last : List ℕ) (o : Options) (contents : Contents) (are : AreContents seen.held o contents) where
+  own-bytes : (p : Options) → ◌≡◌ {A = Result Options UsageKind} (Ok o) (Ok p) → AreContents seen.held p contents
   own-bytes p same = rw (← ok-same o p same) are
 
   -- a run that ends before its report
-  pub run-ends : (out : Option (List ℕ)) (end : Outcome) → EndsReport limits o last contents (Err end) → IsRun held limits (Ok o) last out out end
-  run-ends out end e = record {
+  pub run-ends : {X : Type 0} (out : Option (List ℕ)) (end : Outcome) → EndsReport limits o last contents (Err end) → Gives {X = X} (Err end) seen.before seen.after (run_pairs (Ok o) contents)
+      → IsRun seen limits (Ok o) last out out end
+  run-ends out end e gave = record {
     contents = contents;
     bytes = own-bytes;
+    gave = rw (not-done end (λ q. done-is-no-end end q e.2)) (gives-ended end seen.before seen.after (run_pairs (Ok o) contents) gave);
     answer = e.0;
     patterns = e.1;
     written = unwritten limits (Ok o) contents last out end e.2;
@@ -580,26 +637,30 @@ module _ (held : Option Pairs) (limits : Limits) (last : List ℕ) (o : Options)
 
   reported : (P : List ℕ → Type 0) (text : List ℕ) → HasReport limits (Ok o) contents (λ t. t ≡ text) → P text → HasReport limits (Ok o) contents P
   reported P text has so =
-      record { found = has.found; text = has.text; decided = has.decided; report = has.report; stripped = has.stripped; so = rw has.so so }
+      record { found = has.found; text = has.text; decided = has.decided; report = has.report; stripped = has.stripped; explained = has.explained; so = rw has.so so }
 
   decided-ok : {X : Type 0} (r : Result X Outcome) (x : X) → r ≡ Ok x → IsOk r
   decided-ok (Ok y) x e = refl
   decided-ok (Err y) x e = cc
 
-  wrote-all : (old new : Option (List ℕ)) (text : Vec ℕ Global) → EndsReport limits o last contents (Ok text) → Grew old new text.items → IsRun held limits (Ok o) last old new Done
-  wrote-all old new text e grew = record {
+  wrote-all : (old new : Option (List ℕ)) (text : Vec ℕ Global) → EndsReport limits o last contents (Ok text) → Gives (Ok text) seen.before seen.after (run_pairs (Ok o) contents) → Grew old new text.items
+      → IsRun seen limits (Ok o) last old new Done
+  wrote-all old new text e gave grew = record {
     contents = contents;
     bytes = own-bytes;
+    gave = gives-as text (Ok tt) seen.before seen.after (run_pairs (Ok o) contents) gave;
     answer = decided-ok _ e.0.found e.0.decided;
     patterns = λ q. e.1;
     written = reported (Grew old new) text.items e.0 grew;
     complete = λ ok. tt;
   }
 
-  wrote-part : (old new : Option (List ℕ)) (text : Vec ℕ Global) → EndsReport limits o last contents (Ok text) → GrewByPart old new text.items → IsRun held limits (Ok o) last old new WriteFailed
-  wrote-part old new text e grew = record {
+  wrote-part : (old new : Option (List ℕ)) (text : Vec ℕ Global) → EndsReport limits o last contents (Ok text) → Gives (Ok text) seen.before seen.after (run_pairs (Ok o) contents) → GrewByPart old new text.items
+      → IsRun seen limits (Ok o) last old new WriteFailed
+  wrote-part old new text e gave grew = record {
     contents = contents;
     bytes = own-bytes;
+    gave = gives-as text (Err WriteFailed) seen.before seen.after (run_pairs (Ok o) contents) gave;
     answer = decided-ok _ e.0.found e.0.decided;
     patterns = λ q. e.1;
     written = reported (GrewByPart old new) text.items e.0 grew;
@@ -607,20 +668,38 @@ module _ (held : Option Pairs) (limits : Limits) (last : List ℕ) (o : Options)
   }
 
   -- a run that writes its report
-  pub run-writes : (old new : Option (List ℕ)) (text : Vec ℕ Global) (outcome : Outcome) → EndsReport limits o last contents (Ok text) → (outcome ≡ Done) ⊎ (outcome ≡ WriteFailed)
-      → (outcome ≡ Done → Grew old new text.items) → (outcome ≡ WriteFailed → GrewByPart old new text.items) → IsRun held limits (Ok o) last old new outcome
-  run-writes old new text outcome e (inl is) done part = rw is (wrote-all old new text e (done is))
-  run-writes old new text outcome e (inr is) done part = rw is (wrote-part old new text e (part is))
+  pub run-writes : (old new : Option (List ℕ)) (text : Vec ℕ Global) (outcome : Outcome) → EndsReport limits o last contents (Ok text) → Gives (Ok text) seen.before seen.after (run_pairs (Ok o) contents)
+      → (outcome ≡ Done) ⊎ (outcome ≡ WriteFailed)
+      → (outcome ≡ Done → Grew old new text.items) → (outcome ≡ WriteFailed → GrewByPart old new text.items) → IsRun seen limits (Ok o) last old new outcome
+  run-writes old new text outcome e gave (inl is) done part = rw is (wrote-all old new text e gave (done is))
+  run-writes old new text outcome e gave (inr is) done part = rw is (wrote-part old new text e gave (part is))
 
 -- a run whose arguments are misused
-pub usage-run : (held : Option Pairs) (limits : Limits) (words : List (List ℕ)) (last : List ℕ) (out : Option (List ℕ)) (kind : UsageKind) → IsUsageOf words kind
-    → IsRun held limits (options_of words) last out out (Usage kind)
-usage-run held limits words last out kind is =
+pub usage-run : (held : Option Pairs) (before : Pairs) (limits : Limits) (words : List (List ℕ)) (last : List ℕ) (out : Option (List ℕ)) (kind : UsageKind) → IsUsageOf words kind
+    → IsRun (record { held = held; before = before; after = before }) limits (options_of words) last out out (Usage kind)
+usage-run held before limits words last out kind is =
     let some = some-contents held (options_of words) in
     let answer = usage-answer limits words some.0 last kind is in
-    record { contents = some.0; bytes = some.1; answer = answer; patterns = λ e. cc; written = refl; complete = finished limits (options_of words) some.0 last (Usage kind) answer }
+    record {
+      contents = some.0;
+      bytes = some.1;
+      gave = gives-none (Err (Usage kind)) before (run_pairs (options_of words) some.0) tt;
+      answer = answer;
+      patterns = λ e. cc;
+      written = refl;
+      complete = finished limits (options_of words) some.0 last (Usage kind) answer;
+    }
 
-pub no-memory-run : (held : Option Pairs) (limits : Limits) (given : Result Options UsageKind) (last : List ℕ) (out : Option (List ℕ)) → IsRun held limits given last out out NoMemory
-no-memory-run held limits given last out =
+pub no-memory-run : (held : Option Pairs) (before : Pairs) (limits : Limits) (given : Result Options UsageKind) (last : List ℕ) (out : Option (List ℕ))
+    → IsRun (record { held = held; before = before; after = before }) limits given last out out NoMemory
+no-memory-run held before limits given last out =
     let some = some-contents held given in
-    record { contents = some.0; bytes = some.1; answer = tt; patterns = λ e. cc; written = refl; complete = λ ok. tt }
+    record {
+      contents = some.0;
+      bytes = some.1;
+      gave = gives-none (Err NoMemory) before (run_pairs given some.0) tt;
+      answer = tt;
+      patterns = λ e. cc;
+      written = refl;
+      complete = λ ok. tt;
+    }

@@ -16,19 +16,22 @@ use Rattle.run_outcome.specs.declared.outcome.Outcome.{Outcome}
 use Rattle.run_outcome.specs.declared.outcome.Outcome.TheVariants.{Done, Usage, ReadFailed, TooLong, Config, UnknownSource, PatternSyntax, PatternTooBig, Bad, TooManyClaims, MappedTooLarge, NoMatch, PlaceOutside, WriteFailed, NoMemory}
 use Rattle.file_profile.specs.Counts.{filter_test}
 use Rattle.bloaty_engine.specs.GrowthReport.{AreGrowths, EndsGrowth, IsGrowthReport, PrintsGrowth}
+use Rattle.bloaty_engine.specs.Given.{pairs_from}
 use Rattle.bloaty_engine.specs.Named.{AreFiles, AreHeld}
 use Rattle.run_outcome.specs.Names.{file_names, names_of}
+use Rattle.bloaty_engine.specs.Reading.{unmade_names}
 use Rattle.bloaty_engine.specs.Report.{AreSizes, IsSizeReport, depth_of, printed, report_tree, row_options}
 use Rattle.bloaty_engine.specs.Reports.{EndsCounting, IsCountedFile, IsReportFor, IsUnmade}
 use Rattle.file_profile.specs.Sources.{Chosen}
 use Rattle.bloaty_engine.specs.Steps.{EndsFiles, HasCounted, IsFileOf, batch_of, counted_batch}
 use Rattle.bloaty_engine.specs.Verdict.{◌>>=◌, Sides, counted_from, counted_sides, lengths_of}
-use Rattle.report_rows.proofs.TreeLemmas.{adds-up}
-use Rattle.size_growth.proofs.TreeLemmas.{grows}
+use Rattle.report_rows.proofs.TreeLemmas.{adds-up, is-tree}
+use Rattle.size_growth.proofs.TreeLemmas.{grows, is-tree as growth-tree}
 use Rattle.size_growth.specs.Rows.{growth_tree}
 use Rattle.size_model.proofs.Paths.{counts_for-unique}
 use Rattle.bloaty_engine.proofs.EndLemmas.{ends-so}
 use Rattle.bloaty_engine.proofs.FileLemmas.{same-counted}
+use Rattle.bloaty_engine.proofs.GivenLemmas.{pairs-same}
 use Rattle.bloaty_engine.proofs.ReportLemmas.{growth-order, rows-show, size-order, totals-whole}
 use Rattle.bloaty_engine.proofs.ReadLemmas.{take-none}
 
@@ -54,6 +57,15 @@ front-files (Some pairs) (Some n) names a b are = beyond-front 1 a b 1 (omega ar
 pub behind-held : (held : Option Pairs) (count : ℕ) (names : List (List ℕ)) (a b : ℕ → List ℕ) → AreHeld held (count + 1) names b → AreHeld held (count + 1) names (beyond count a b)
 behind-held None count names a b are = tt
 behind-held (Some pairs) count names a b are = λ k name at. beyond-behind count a b (count + 1 + k) (omega arith) ∙ are k name at
+
+-- What reads gave of the files, and of the base files.
+pub front-pairs : (synth : Option ℕ) (names : List (List ℕ)) (a b : ℕ → List ℕ)
+    → pairs_from 1 (unmade_names synth names) (beyond (length (names_of synth names)) a b) ≡ pairs_from 1 (unmade_names synth names) a
+front-pairs None names a b = pairs-same 1 names (beyond (length names) a b) a (λ j low high. beyond-front (length names) a b j (omega (arith, high)))
+front-pairs (Some n) names a b = refl
+
+pub behind-pairs : (count : ℕ) (names : List (List ℕ)) (a b : ℕ → List ℕ) → pairs_from (count + 1) names (beyond count a b) ≡ pairs_from (count + 1) names b
+behind-pairs count names a b = pairs-same (count + 1) names (beyond count a b) b (λ j low high. beyond-behind count a b j (omega (arith, low)))
 
 front-counted : (limits : Limits) (sources : List Chosen) (count : ℕ) (a b : ℕ → List ℕ) (names : List (List ℕ)) → length names ≤ count
     → counted_from limits sources (beyond count a b) 1 0 0 names ≡ counted_from limits sources a 1 0 0 names
@@ -98,6 +110,7 @@ size-report sources o filter same depth t files has totals text is =
     record {
       tree = report_tree o t.rows;
       order = size-order o files t.rows sizes;
+      levels = is-tree (row_options o) (depth_of o) t.rows sizes.deep;
       each = rows-show o files t.rows sizes;
       once = counts_for-unique (filter_test o.filter);
       sums = adds-up (row_options o) (depth_of o) t.rows sizes.deep;
@@ -193,6 +206,7 @@ module _ (limits : Limits) (sources : List Chosen) (o : Options) (filter : Optio
         record {
           tree = growth_tree (row_options o) (depth_of o) prints.paths;
           order = growth-order o e.0 bs prints.paths growths;
+          levels = growth-tree (row_options o) (depth_of o) prints.paths prints.are.deep;
           once = counts_for-unique (filter_test o.filter);
           sums = grows (row_options o) (depth_of o) prints.paths prints.are.deep;
           is = prints.is;

@@ -7,22 +7,18 @@ use Rattle.std.proofs.lemmas.Option.{none-some, same_Some}
 use Rattle.outside.specs.declared.files.Files.{Ghosts as FilesGhosts}
 use Rattle.outside.specs.Causes.{Rose}
 use Rattle.outside.specs.Held.{IsTaken, IsTakenAtLeast}
-use Rattle.custom_rewrites.specs.declared.pattern.Patterns.{Ghosts as PatternsGhosts}
 use Rattle.file_profile.proofs.MapLemmas.{err-same}
-use Rattle.file_profile.specs.declared.plan.PlanAnswer.{PlanAnswer}
-use Rattle.file_profile.specs.declared.plan.PlanAnswer.TheVariants as plan
-use Rattle.file_profile.specs.Plans.{KeepsLast}
 use Rattle.run_outcome.specs.declared.outcome.Outcome.{Outcome}
 use Rattle.run_outcome.specs.declared.outcome.Outcome.TheVariants.{Done, Usage, ReadFailed, TooLong, Config, UnknownSource, PatternSyntax, PatternTooBig, Bad, TooManyClaims, MappedTooLarge, NoMatch, PlaceOutside, WriteFailed, NoMemory}
 use Rattle.size_core.specs.declared.limits.Limits.{Limits}
 use Rattle.size_options.specs.declared.run_options.Options.{Options}
 use Rattle.size_options.specs.declared.errors.UsageKind.{UsageKind}
 use Rattle.run_outcome.specs.Names.{file_names, name_at, names_of, other_names}
-use Rattle.bloaty_engine.specs.Devices.{Builds, Plans, Reads, ReadsFirst, ended}
+use Rattle.bloaty_engine.specs.Devices.{Reads, ReadsFirst, ended}
 use Rattle.bloaty_engine.specs.Reading.{Reading, config_most, config_names, config_reading, file_reading, least_taken, made_len, numbered, read_upto, reading_for, reading_from, run_reading, unmade_names}
 use Rattle.bloaty_engine.specs.Steps.{Batch, batch_of, batch_reading}
 use Rattle.bloaty_engine.specs.Verdict.{config_limit, file_limit, total_limit}
-use Rattle.bloaty_engine.specs.Stages.{ends_without, is_failed_read, is_refused_pattern}
+use Rattle.bloaty_engine.specs.Stages.{ends_without, is_failed_read}
 use Rattle.bloaty_engine.proofs.ReadLemmas.{OnOk-any, OnOk-then, base-name, get-front, reads-as-many, reads-behind, reads-more, reads-none, reads-whole}
 use Rattle.bloaty_engine.proofs.TakenLemmas.{at-least-any, at-least-behind, at-least-less, left-over, most-over, rose-later, some-limit, some-most}
 
@@ -391,41 +387,3 @@ not-done NoMatch is = refl
 not-done PlaceOutside is = refl
 not-done WriteFailed is = refl
 not-done NoMemory is = refl
-
--- Patterns.
-
-module _ {P : Type 0} (p : PatternsGhosts P) where
-  -- A step that compiles none.
-  pub unbuilt : {X : Type 0} (r : Result X Outcome) (s : P) → ((i : ℕ) → r ≡ Err (PatternTooBig i) → ⊥) → Builds p r s s
-  unbuilt r s none = record { refused = λ i e. absurd (none i e); sound = λ e. refl }
-
-  -- a step that ends the run
-  pub build-stops : {X Y : Type 0} (e : Outcome) (s t : P) → Builds {X = X} p (Err e) s t → Builds {X = Y} p (Err e) s t
-  build-stops e s t a = record { refused = λ i is. a.refused i (ap Err (err-same _ _ is)); sound = a.sound }
-
-  -- A step that compiles none, after one that succeeded.
-  pub built : {X Y : Type 0} (x : X) (r : Result Y Outcome) (s t : P) → ((i : ℕ) → r ≡ Err (PatternTooBig i) → ⊥) → Builds p (Ok x) s t → Builds p r s t
-  built x r s t none a = record { refused = λ i e. absurd (none i e); sound = λ e. a.sound refl }
-
-  -- a run that ended before it was done
-  pub builds-ended : {X : Type 0} (e : Outcome) (s t : P) → ended e ≡ Err e → Builds {X = X} p (Err e) s t → Builds p (ended e) s t
-  builds-ended e s t is a = rw is (build-stops e s t a)
-
-  -- a run that wrote its report, or a part of it
-  pub written-builds : {X : Type 0} (x : X) (outcome : Outcome) (s t : P) → (outcome ≡ Done) ⊎ (outcome ≡ WriteFailed) → Builds p (Ok x) s t → Builds p (ended outcome) s t
-  written-builds x outcome s t (inl is) a = rw is (built {Y = ⊤} x (Ok tt) s t (λ i e. cc) a)
-  written-builds x outcome s t (inr is) a = rw is (built {Y = ⊤} x (Err WriteFailed) s t (λ i e. cc) a)
-
-  kept-from : (X Y : Type 0) (e : PlanAnswer) (old same new : List ℕ) → same ≡ old → KeepsLast {X = X} same new (Err e) → KeepsLast {X = Y} old new (Err e)
-  kept-from X Y (plan.UnknownSource i) old same new is kept = kept ∙ is
-  kept-from X Y (plan.PatternSyntax i) old same new is kept = kept ∙ is
-  kept-from X Y (plan.PatternTooBig i) old same new is kept = tt
-  kept-from X Y plan.NoMemory old same new is kept = kept ∙ is
-
-  -- a step that ends the planning, after steps that refused no pattern
-  pub plan-stops : {X Y : Type 0} (e : PlanAnswer) (s t u : P) → p.last_refused t ≡ p.last_refused s → p.refused t ≡ p.refused s → Plans {X = X} p (Err e) t u → Plans {X = Y} p (Err e) s u
-  plan-stops {X} {Y} e s t u last count a = record {
-    kept = kept-from X Y e (p.last_refused s) (p.last_refused t) (p.last_refused u) last a.kept;
-    rises = omega (arith, count, a.rises);
-    sound = λ q. a.sound q ∙ count;
-  }

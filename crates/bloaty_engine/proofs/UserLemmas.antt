@@ -51,6 +51,7 @@ any-order o files others text same report =
       tree = report.tree;
       order = subst (λ v. IsTreeOfSizes (row_options o) v (file_size filter others) (depth_of o) report.tree) vm
           (subst (λ f. IsTreeOfSizes (row_options o) (vm_size filter files) f (depth_of o) report.tree) file report.order);
+      levels = report.levels;
       each = subst (λ v. ShowsPaths (row_options o) v (file_size filter others) (depth_of o) report.tree.rows) vm
           (subst (λ f. ShowsPaths (row_options o) (vm_size filter files) f (depth_of o) report.tree.rows) file report.each);
       once = report.once;

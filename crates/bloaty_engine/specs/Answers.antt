@@ -3,13 +3,15 @@ use Rattle.std.specs.Prelude.{⊤, ◌≡◌, ℕ, zero, suc, ◌<◌, Bool, tru
 use Rattle.std.specs.declared.alloc.Global.{Global}
 use Rattle.size_core.specs.declared.limits.Limits.{Limits}
 use Rattle.outside.specs.Grown.{Grew, GrewByPart}
-use Rattle.outside.specs.Held.{Pairs}
 use Rattle.custom_rewrites.specs.Pattern.{IsNoPattern}
 use Rattle.size_options.specs.declared.run_options.Options.{Options}
 use Rattle.size_options.specs.declared.errors.UsageKind.{UsageKind}
 use Rattle.size_options.specs.declared.errors.UsageKind.TheVariants as usage
 use Rattle.run_outcome.specs.declared.outcome.Outcome.{Outcome}
 use Rattle.run_outcome.specs.declared.outcome.Outcome.TheVariants.{Done, Usage, ReadFailed, TooLong, Config, UnknownSource, PatternSyntax, PatternTooBig, Bad, TooManyClaims, MappedTooLarge, NoMatch, PlaceOutside, WriteFailed, NoMemory}
+use Rattle.bloaty_engine.specs.Devices.{ended}
+use Rattle.bloaty_engine.specs.Given.{Gives, SeenFiles, run_pairs}
+use Rattle.bloaty_engine.specs.LocationReport.{ExplainsFile}
 use Rattle.bloaty_engine.specs.Named.{AreContents, Contents}
 use Rattle.run_outcome.specs.Names.{all_names}
 use Rattle.file_profile.specs.Laws.{IsOfFile}
@@ -70,6 +72,7 @@ CountsFile file (Explained place sources) = ⊤
 --
 -- report: `text` is the text of the report on what was found.
 -- stripped: With a debug file the sizes are those of the first file alone, which may be stripped of debug information.
+-- explained: With a location the labels are the path by which a report of sizes counts the byte.
 -- so: `P` holds of this text.
 pub record HasReport (limits : Limits) (given : Result Options UsageKind) (contents : Contents) (P : List ℕ → Type 0) : Type 0 where
   pub found : Found
@@ -77,6 +80,7 @@ pub record HasReport (limits : Limits) (given : Result Options UsageKind) (conte
   pub decided : verdict limits given contents ≡ Ok found
   pub report : IsReport found.request.options found.finding text
   pub stripped : (debug : List ℕ) → found.request.options.debug ≡ Some debug → CountsFile (contents.files 1) found.finding
+  pub explained : ExplainsFile limits found.request (contents.files 1) found.finding
   pub so : P text
 
 -- What was written to the output: the whole report, a proper prefix of it, or nothing.
@@ -85,20 +89,22 @@ Writes limits given contents old new Done = HasReport limits given contents (Gre
 Writes limits given contents old new WriteFailed = HasReport limits given contents (GrewByPart old new)
 Writes limits given contents old new answer = new ≡ old
 
--- A run, by what it read and wrote. `held` is what the files hold, if the implementation of `Files` reports it; `given` is
--- the result of parsing the arguments; `last` is the last pattern that was refused for its size; `old` and `new` are
--- what the output held before and after.
+-- A run, by what it read and wrote. `seen` is what the run saw of the files; `given` is the result of parsing the arguments;
+-- `last` is the last pattern that was refused for its size; `old` and `new` are what the output held before and after.
 --
 -- contents: The bytes of the configuration and of the files.
 -- bytes: They are those that the files hold, if that is reported.
+-- gave: They are those that the reads of this run returned: of the configuration first and then of the files, in the order
+--     in which they are read. A run that is done has read all of them, and any other run the first ones.
 -- answer: The outcome is what the arguments and these bytes decide, or an interruption at a stage that the run reached.
 -- patterns: A run that got past the patterns had no bad one.
 -- written: Done has written the report, WriteFailed a part of it, and any other outcome nothing.
 -- complete: If the verdict over these bytes is a report, the run is done, or it was interrupted.
-pub record IsRun (held : Option Pairs) (limits : Limits) (given : Result Options UsageKind) (last : List ℕ)
+pub record IsRun (seen : SeenFiles) (limits : Limits) (given : Result Options UsageKind) (last : List ℕ)
     (old new : Option (List ℕ)) (outcome : Outcome) : Type 0 where
   pub contents : Contents
-  pub bytes : (o : Options) → given ≡ Ok o → AreContents held o contents
+  pub bytes : (o : Options) → given ≡ Ok o → AreContents seen.held o contents
+  pub gave : Gives (ended outcome) seen.before seen.after (run_pairs given contents)
   pub answer : IsAnswer limits given contents last outcome
   pub patterns : is_past Patterns outcome ≡ true → HasGoodPatterns limits given contents
   pub written : Writes limits given contents old new outcome

@@ -1,17 +1,24 @@
 -- What a step of a run did to the files, the patterns, the output and the error output: each is seen before and after the step.
-use Rattle.std.specs.Prelude.{◌≡◌, ◌≢◌, ℕ, ◌+◌, ◌<◌, ◌≤◌, ◌++◌, List, length, take, true, Option, Some, Result, Ok, Err, OnOk, IsErrOf, IfSome, ⊤}
+use Rattle.std.specs.Prelude.{◌≡◌, ◌≢◌, ℕ, ◌+◌, ◌<◌, ◌≤◌, [], ◌∷◌, ◌++◌, List, length, take, true, Option, Some, Result, Ok, Err, OnOk, IsErrOf, IfSome, ⊤}
 use Rattle.outside.specs.declared.files.Files.{Ghosts as FilesGhosts}
 use Rattle.outside.specs.declared.sink.Sink.{Ghosts as SinkGhosts}
 use Rattle.custom_rewrites.specs.declared.pattern.Patterns.{Ghosts as PatternsGhosts}
 use Rattle.outside.specs.Causes.{Rose}
 use Rattle.outside.specs.Grown.{Grew}
-use Rattle.outside.specs.Held.{IsTakenAtLeast}
+use Rattle.outside.specs.Held.{IsTakenAtLeast, Pairs}
+use Rattle.size_core.specs.declared.limits.Limits.{Limits}
+use Rattle.size_options.specs.declared.run_options.Options.{Options}
+use Rattle.size_options.specs.declared.errors.UsageKind.{UsageKind}
 use Rattle.file_profile.specs.declared.plan.PlanAnswer.{PlanAnswer}
+use Rattle.file_profile.specs.declared.plan.PlanAnswer.TheVariants as plan
 use Rattle.file_profile.specs.Plans.{KeepsLast, answers_without_refusal}
 use Rattle.run_outcome.specs.declared.outcome.Outcome.{Outcome}
-use Rattle.run_outcome.specs.declared.outcome.Outcome.TheVariants.{Done, ReadFailed, TooLong, PatternTooBig, WriteFailed}
+use Rattle.run_outcome.specs.declared.outcome.Outcome.TheVariants.{Done, ReadFailed, TooLong, PatternSyntax, PatternTooBig, WriteFailed}
+use Rattle.bloaty_engine.specs.PatternLists.{PatternList, run_patterns}
+use Rattle.bloaty_engine.specs.Named.{Contents, IsText}
 use Rattle.bloaty_engine.specs.Reading.{Reading}
-use Rattle.bloaty_engine.specs.Stages.{ends_without, is_failed_read, is_refused_pattern}
+use Rattle.bloaty_engine.specs.Stages.{Patterns, ends_without, goes_past, is_failed_read, is_refused_pattern}
+use Rattle.bloaty_engine.specs.Verdict.{asked as asked_by}
 
 -- The outcome of a run as the result of a step: `Ok` if the run is done.
 abbrev pub ended : Outcome → Result ⊤ Outcome
@@ -50,20 +57,69 @@ pub record Reads {F X : Type 0} (f : FilesGhosts F) (reading : Reading) (result 
       × IsTakenAtLeast (f.held before) (reading.least i) (f.taken before) (f.taken after)
   pub most : f.taken after ≤ f.taken before + reading.most
 
--- The effect of a step on the patterns.
+-- The patterns that were built before, and then the first `count` of these patterns, each once and in order.
+abbrev pub BuildsFirst : ℕ → List (List ℕ) → List (List ℕ) → List (List ℕ) → Type 0
+BuildsFirst count before after patterns = ReadsFirst count before after patterns
+
+-- The patterns that were built before, and then those of a list up to pattern i.
+abbrev pub BuildsUpTo : PatternList → ℕ → List (List ℕ) → List (List ℕ) → Type 0
+BuildsUpTo list i before after = BuildsFirst (list.upto i) before after list.patterns
+
+-- This is the last of these patterns.
+abbrev pub IsLast : List ℕ → List (List ℕ) → Type 0
+IsLast pattern patterns = (others : List (List ℕ)) × (patterns ≡ others ++ pattern ∷ [])
+
+-- The effect of a step on the patterns. It builds the patterns of a list, one after the other, and no others.
 --
--- refused: If the step ended because a pattern was refused for its size, the count of refused patterns rose.
+-- built: The patterns that were built are the first ones of the list, each once and in order.
+-- all: If the step succeeded, or ended past the patterns, all patterns were built.
+-- bad: If it ended because pattern i is no regular expression, the patterns that were built are those up to pattern i.
+-- refused: If it ended because pattern i was refused for its size, the patterns that were built are those up to pattern i, the
+--     last of them is the one that was refused, and the count of refused patterns rose.
 -- sound: Otherwise no pattern was refused.
-pub record Builds {P X : Type 0} (p : PatternsGhosts P) (result : Result X Outcome) (before after : P) : Type 0 where
-  pub refused : (i : ℕ) → IsErrOf result (PatternTooBig i) → p.refused before < p.refused after
+pub record Builds {P X : Type 0} (p : PatternsGhosts P) (list : PatternList) (result : Result X Outcome)
+    (before after : P) : Type 0 where
+  pub built : (count : ℕ) × BuildsFirst count (p.built before) (p.built after) list.patterns
+  pub all : goes_past Patterns result ≡ true → p.built after ≡ p.built before ++ list.patterns
+  pub bad : (i : ℕ) → IsErrOf result (PatternSyntax i) → BuildsUpTo list i (p.built before) (p.built after)
+  pub refused : (i : ℕ) → IsErrOf result (PatternTooBig i) → BuildsUpTo list i (p.built before) (p.built after)
+      × IsLast (p.last_refused after) (p.built after) × (p.refused before < p.refused after)
   pub sound : ends_without is_refused_pattern result ≡ true → p.refused after ≡ p.refused before
+
+-- The effect of a run on the patterns. It builds those of its request. `held` is what the files hold, if the implementation
+-- of `Files` reports it; `given` is the result of parsing the arguments.
+--
+-- contents: The configuration of the request has these bytes.
+-- config: They are those that its name holds, if that is reported.
+-- builds: The run builds the patterns of the request, or those up to the one at which it stopped.
+pub record BuildsAsked {P X : Type 0} (p : PatternsGhosts P) (held : Option Pairs) (limits : Limits) (given : Result Options UsageKind)
+    (result : Result X Outcome) (before after : P) : Type 0 where
+  pub contents : Contents
+  pub config : (o : Options) → given ≡ Ok o → IsText held o.config contents.config
+  pub builds : Builds p (run_patterns (asked_by limits given contents)) result before after
+
+-- A step of planning that isn't done built the patterns of a list up to the one that isn't compiled. `last` is the last pattern
+-- that was refused for its size.
+abbrev pub BuildsBefore : PatternList → List ℕ → PlanAnswer → List (List ℕ) → List (List ℕ) → Type 0
+BuildsBefore list last (plan.UnknownSource i) before after = after ≡ before
+BuildsBefore list last (plan.PatternSyntax i) before after = BuildsUpTo list i before after
+BuildsBefore list last (plan.PatternTooBig i) before after = BuildsUpTo list i before after × IsLast last after
+BuildsBefore list last plan.NoMemory before after = (count : ℕ) × BuildsFirst count before after list.patterns
+
+-- A step of planning with this result built the patterns of a list.
+abbrev pub BuildsTo : {X : Type 0} → PatternList → List ℕ → Result X PlanAnswer → List (List ℕ) → List (List ℕ) → Type 0
+BuildsTo list last (Ok x) before after = after ≡ before ++ list.patterns
+BuildsTo list last (Err answer) before after = BuildsBefore list last answer before after
 
 -- The effect of a step of planning on the patterns.
 --
+-- built: The patterns that were built are those of the list, up to the one at which the step stopped.
 -- kept: The last pattern refused for its size is the same, unless the step ended because one was refused.
 -- rises: The count of refused patterns never falls.
 -- sound: If the step didn't end because a pattern was refused, none was.
-pub record Plans {P X : Type 0} (p : PatternsGhosts P) (result : Result X PlanAnswer) (before after : P) : Type 0 where
+pub record Plans {P X : Type 0} (p : PatternsGhosts P) (list : PatternList) (result : Result X PlanAnswer)
+    (before after : P) : Type 0 where
+  pub built : BuildsTo list (p.last_refused after) result (p.built before) (p.built after)
   pub kept : KeepsLast (p.last_refused before) (p.last_refused after) result
   pub rises : p.refused before ≤ p.refused after
   pub sound : answers_without_refusal result ≡ true → p.refused after ≡ p.refused before

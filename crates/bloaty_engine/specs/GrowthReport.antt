@@ -17,7 +17,7 @@ use Rattle.size_growth.specs.Between.{IsBetween, size_where}
 use Rattle.size_growth.specs.GrowthTrees.{IsTreeOfGrowths}
 use Rattle.size_growth.specs.Paths.{IsGrowth}
 use Rattle.size_growth.specs.Rows.{growth_tree}
-use Rattle.size_growth.specs.Trees.{GrowsAlike}
+use Rattle.size_growth.specs.Trees.{GrowsAlike, IsGrowthTree}
 use Rattle.report_text.specs.Growth.{growth_csv_text, growth_report_text, growth_tsv_text}
 use Rattle.size_options.specs.declared.run_options.Options.{Options}
 use Rattle.file_profile.specs.Counts.{file_size_where, filter_test, vm_size_where}
@@ -105,12 +105,15 @@ growth_sizes filter files bases path = record {
 --     level the larger key comes first, and for equal keys the lesser label; the rows under a label follow its row. With `-n`
 --     at most that many labels stay, and none that is left out precedes one that stays. One Others row has the sums of those
 --     left out. Its own key gives its position, before an equal label.
+-- levels: The rows form a tree with a level for each data source: a row has rows below it unless it is of the last level or
+--     an Others row.
 -- once: Each byte is counted once in a level.
 -- sums: The growths of the children of a row, Others included, add up to that row's, and those of the first level to the total growth.
 -- is: The text is the printed tree.
 pub record IsGrowthReport (o : Options) (files bases : List FileView) (text : List ℕ) : Type 0 where
   pub tree : GrowthTree
   pub order : IsTreeOfGrowths (row_options o) (growth_sizes (filter_test o.filter) files bases) (depth_of o) tree
+  pub levels : IsGrowthTree (depth_of o) tree.rows
   pub once : CountsOnce (filter_test o.filter)
   pub sums : GrowsAlike o.domain tree
   pub is : text ≡ growth_printed o tree

@@ -1,8 +1,11 @@
 pub mod Answers
 pub mod Devices
+pub mod Given
 pub mod GrowthReport
+pub mod LocationReport
 pub mod Named
 pub mod PairSteps
+pub mod PatternLists
 pub mod PlaceSteps
 pub mod Reading
 pub mod Report

@@ -16,7 +16,7 @@ use Rattle.report_rows.specs.Paths.{ShowsPaths}
 use Rattle.report_rows.specs.Rows.{row_tree}
 use Rattle.report_rows.specs.SizeTrees.{IsTreeOfSizes}
 use Rattle.report_rows.specs.Tables.{file_sum, under_path, vm_sum}
-use Rattle.report_rows.specs.Trees.{AddsUp}
+use Rattle.report_rows.specs.Trees.{AddsUp, IsTree}
 use Rattle.report_text.specs.Lines.{report_text}
 use Rattle.report_text.specs.Records.{csv_text, tsv_text}
 use Rattle.size_options.specs.declared.run_options.Options.{Options}
@@ -99,6 +99,8 @@ CountsOnce filter = (path p q : List (List ℕ)) → length p ≡ length q → c
 --     equal keys the lesser label; the rows under a label follow its row. With `-n` at most that many labels stay, and none
 --     that is left out precedes one that stays. One Others row has the sums of those left out. Its own key gives its
 --     position, before an equal label.
+-- levels: The rows form a tree with a level for each data source: a row has rows below it unless it is of the last level or
+--     an Others row.
 -- each: The sizes of a row are those of its path, which is read off the rows above it; an Others row has the sums of the
 --     labels that are left out.
 -- once: Each byte is counted once in a level.
@@ -109,6 +111,7 @@ pub record IsSizeReport (o : Options) (files : List FileView) (text : List ℕ) 
   pub tree : RowTree
   pub order : IsTreeOfSizes (row_options o) (vm_size (filter_test o.filter) files) (file_size (filter_test o.filter) files)
       (depth_of o) tree
+  pub levels : IsTree (depth_of o) tree.rows
   pub each : ShowsPaths (row_options o) (vm_size (filter_test o.filter) files) (file_size (filter_test o.filter) files)
       (depth_of o) tree.rows
   pub once : CountsOnce (filter_test o.filter)

@@ -1,12 +1,23 @@
 -- What users rely on in reports.
-use Rattle.std.specs.Prelude.{◌≡◌, ◌<◌, ℕ, List, [], None, map, take}
+use Rattle.std.specs.Prelude.{◌≡◌, ◌<◌, ◌++◌, ℕ, List, [], Option, None, Some, Result, Ok, map, take}
 use Rattle.std.specs.List.Sorted.{IsPermutation}
+use Rattle.size_core.specs.declared.choices.Format.TheVariants.{Csv, Tsv}
+use Rattle.size_core.specs.declared.limits.Limits.{Limits}
 use Rattle.size_model.specs.declared.view.FileView.{FileView}
+use Rattle.size_model.specs.Sizes.{file_size, vm_size}
 use Rattle.report_rows.specs.SizeTrees.{first_level}
 use Rattle.size_growth.specs.GrowthTrees.{turned_tree}
+use Rattle.report_text.specs.PathRecords.{ReadsGrowths, ReadsSizes}
+use Rattle.report_text.specs.Reading.{read_csv, read_tsv}
 use Rattle.size_options.specs.declared.run_options.Options.{Options}
-use Rattle.bloaty_engine.specs.GrowthReport.{IsGrowthReport}
-use Rattle.bloaty_engine.specs.Report.{IsSizeReport, depth_of}
+use Rattle.size_options.specs.declared.errors.UsageKind.{UsageKind}
+use Rattle.file_profile.specs.Counts.{filter_test}
+use Rattle.run_outcome.specs.declared.outcome.Outcome.TheVariants.{Done}
+use Rattle.bloaty_engine.specs.Answers.{HasReport, IsRun}
+use Rattle.bloaty_engine.specs.Given.{SeenFiles, run_pairs}
+use Rattle.bloaty_engine.specs.GrowthReport.{IsGrowthReport, growth_sizes}
+use Rattle.bloaty_engine.specs.Named.{AreContents, Contents}
+use Rattle.bloaty_engine.specs.Report.{IsSizeReport, depth_of, row_options}
 
 -- One text alone is the report of the sizes of files. This is the contract of `one_report_of_sizes`.
 abbrev pub OneReportOfSizes : Type 0
@@ -33,6 +44,16 @@ abbrev pub GrowthTheOtherWay : Type 0
 GrowthTheOtherWay = (o : Options) (files bases : List FileView) (a b : List ℕ)
     (forth : IsGrowthReport o files bases a) (back : IsGrowthReport o bases files b) → back.tree ≡ turned_tree forth.tree
 
+-- A run that is done has added to its output the report of the bytes that its reads returned, if the output reports what it
+-- holds, as that of the host does. A synthetic file isn't read: its bytes are known. This is the contract of
+-- `done_runs_report_what_they_read`.
+abbrev pub DoneReportsWhatItRead : Type 0
+DoneReportsWhatItRead = (seen : SeenFiles) (limits : Limits) (given : Result Options UsageKind) (last old new : List ℕ)
+    → IsRun seen limits given last (Some old) (Some new) Done
+    → (contents : Contents) × (seen.after ≡ seen.before ++ run_pairs given contents)
+    × ((o : Options) → given ≡ Ok o → AreContents seen.held o contents)
+    × HasReport limits given contents (λ text. new ≡ old ++ text)
+
 -- The options with the first of their data sources alone, as `-d a` of `-d a,b`.
 abbrev pub with_first_source : Options → Options
 with_first_source o = record o { sources = take 1 o.sources }
@@ -47,3 +68,35 @@ abbrev pub FirstLevelIsKept : Type 0
 FirstLevelIsKept = (o : Options) (files : List FileView) (a b : List ℕ) → o.filter ≡ None → 0 < depth_of o
     → (one : IsSizeReport (with_first_source o) (map by_first_source files) a) (more : IsSizeReport o files b)
     → one.tree.rows ≡ first_level more.tree.rows
+
+-- What was read is one record for each full path with a shown size, with its numbers of bytes and of mapped addresses over
+-- all files.
+abbrev pub ReadsFiles : Options → List FileView → Option (List (List (List ℕ))) → Type 0
+ReadsFiles o files read =
+    ReadsSizes (row_options o) (vm_size (filter_test o.filter) files) (file_size (filter_test o.filter) files) (depth_of o) o.sources read
+
+-- A report as CSV or as TSV is read as these records.
+pub record IsReadBack (o : Options) (files : List FileView) (text : List ℕ) : Type 0 where
+  pub csv : o.format ≡ Csv → ReadsFiles o files (read_csv text)
+  pub tsv : o.format ≡ Tsv → ReadsFiles o files (read_tsv text)
+
+-- Reading the CSV or the TSV of a report without a limit gives one record for each full path with a shown size, with its
+-- sizes, and no other record. This is the contract of `each_path_is_read_back`.
+abbrev pub EachPathIsReadBack : Type 0
+EachPathIsReadBack = (o : Options) (files : List FileView) (text : List ℕ)
+    → o.limit ≡ 0 → 0 < depth_of o → IsSizeReport o files text → IsReadBack o files text
+
+-- What was read is one record for each full path that has changed, with each path that it begins with, with its growths.
+abbrev pub ReadsChanges : Options → List FileView → List FileView → Option (List (List (List ℕ))) → Type 0
+ReadsChanges o files bases read =
+    ReadsGrowths (row_options o) (growth_sizes (filter_test o.filter) files bases) (depth_of o) o.sources read
+
+-- A report of growth as CSV or as TSV is read as these records.
+pub record IsGrowthReadBack (o : Options) (files bases : List FileView) (text : List ℕ) : Type 0 where
+  pub csv : o.format ≡ Csv → ReadsChanges o files bases (read_csv text)
+  pub tsv : o.format ≡ Tsv → ReadsChanges o files bases (read_tsv text)
+
+-- The same for a report of growth. This is the contract of `each_growth_is_read_back`.
+abbrev pub EachGrowthIsReadBack : Type 0
+EachGrowthIsReadBack = (o : Options) (files bases : List FileView) (text : List ℕ)
+    → o.limit ≡ 0 → 0 < depth_of o → IsGrowthReport o files bases text → IsGrowthReadBack o files bases text

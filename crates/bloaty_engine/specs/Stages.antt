@@ -41,6 +41,11 @@ stage_of outcome = Files
 abbrev pub is_past : Stage → Outcome → Bool
 is_past stage outcome = nat_lt (rank stage) (rank (stage_of outcome))
 
+-- A step succeeded, or ended the run past a stage.
+abbrev pub goes_past : {X : Type 0} → Stage → Result X Outcome → Bool
+goes_past stage (Ok x) = true
+goes_past stage (Err end) = is_past stage end
+
 -- The outcome is that a file couldn't be read.
 abbrev pub is_failed_read : Outcome → Bool
 is_failed_read (ReadFailed i) = true

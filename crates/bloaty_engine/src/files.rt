@@ -7,6 +7,7 @@ ghost use Rattle.elf_synth.specs.Made.{made};
 ghost use Rattle.size_options.specs.Answers.{IsOneInput};
 ghost use Rattle.file_profile.specs.Counts.{filter_test};
 ghost use Rattle.bloaty_engine.specs.Devices.{Reads};
+ghost use Rattle.bloaty_engine.specs.Given.{Gives, pairs_from};
 ghost use Rattle.bloaty_engine.specs.Named.{AreHeld};
 ghost use Rattle.run_outcome.specs.Names.{file_names};
 ghost use Rattle.bloaty_engine.specs.Reading.{file_reading};
@@ -56,7 +57,8 @@ pub fn read_file<F: Files>(
     limit: u64,
 ) -> Result<Vec<u8>, Outcome>
     ensures found { (bytes : List ℕ)
-        × IsHeld (F.held files.old) name.now bytes × Finds number limit bytes result }
+        × IsHeld (F.held files.old) name.now bytes × Finds number limit bytes result
+        × Gives result (F.gave files.old) (F.gave files.new) ((name.now, bytes) ∷ []) }
     ensures files { let reading = file_reading number name.now limit in
         Reads F.Files reading result files.old files.new }
     ensures taken { IfOk result (λ v.
@@ -176,7 +178,9 @@ pub fn count_files<F: Files>(
     ensures counted { let batch = batch_of tally.old.files tally.old.bytes names.now in
         (bytes : ℕ → List ℕ) × AreHeld (F.held files.old) batch.first batch.names bytes
         × EndsFiles run.now.limits plan.now.sources (filter_test plan.now.filter)
-        batch bytes result }
+        batch bytes result
+        × Gives result (F.gave files.old) (F.gave files.new)
+        (pairs_from batch.first batch.names bytes) }
     ensures files { let batch = batch_of tally.old.files tally.old.bytes names.now in
         Reads F.Files (batch_reading run.now.limits batch) result files.old files.new }
     ensures tally { IfOk result (λ t. (tally.new.files ≡ tally.old.files + length names.now)

@@ -5,6 +5,7 @@ ghost use Rattle.size_growth.specs.Trees.{IsGrowthTree};
 ghost use Rattle.file_profile.specs.Counts.{filter_test};
 ghost use Rattle.bloaty_engine.specs.Devices.{Reads};
 ghost use Rattle.bloaty_engine.specs.GrowthReport.{EndsGrowth, PrintsGrowth, growth_printed};
+ghost use Rattle.bloaty_engine.specs.Given.{Gives, pairs_from};
 ghost use Rattle.bloaty_engine.specs.Named.{AreHeld};
 ghost use Rattle.bloaty_engine.specs.Steps.{batch_of, batch_reading};
 ghost use Rattle.bloaty_engine.specs.Verdict.{total_limit};
@@ -74,7 +75,9 @@ pub fn growth_report<F: Files>(
     ensures counted { let batch = batch_of tally.old.files tally.old.bytes run.now.options.bases in
         (bytes : ℕ → List ℕ) × AreHeld (F.held files.old) batch.first batch.names bytes
         × EndsGrowth run.now.limits plan.now.sources (filter_test plan.now.filter)
-        batch bytes run.now.options total.now.rows result }
+        batch bytes run.now.options total.now.rows result
+        × Gives result (F.gave files.old) (F.gave files.new)
+        (pairs_from batch.first batch.names bytes) }
     ensures files { let batch = batch_of tally.old.files tally.old.bytes run.now.options.bases in
         Reads F.Files (batch_reading run.now.limits batch) result files.old files.new }
 {

@@ -1,7 +1,8 @@
-//! Laws of a report's rows, of sizes and of growth, and of its totals. Each is the contract of an empty function.
+//! Laws of a report's rows, of sizes and of growth, of its totals, and of what it is made of. Each is the contract of an
+//! empty function.
 
 ghost use Rattle.bloaty_engine.specs.GrowthReport.{GrowthsAddUp, GrowthsCountPaths};
-ghost use Rattle.bloaty_engine.specs.ReportLaws.{FilesInAnyOrder, FirstLevelIsKept, GrowthTheOtherWay, NoGrowthFromItself, OneReportOfGrowth, OneReportOfSizes};
+ghost use Rattle.bloaty_engine.specs.ReportLaws.{DoneReportsWhatItRead, EachGrowthIsReadBack, EachPathIsReadBack, FilesInAnyOrder, FirstLevelIsKept, GrowthTheOtherWay, NoGrowthFromItself, OneReportOfGrowth, OneReportOfSizes};
 ghost use Rattle.bloaty_engine.specs.Report.{RowsCountPaths, RowsShowFiles, SizesAddUp, TotalsAreWhole};
 
 /// The sizes of the row of a path are the numbers of bytes and of mapped addresses whose paths begin with it.
@@ -72,4 +73,22 @@ pub fn growth_the_other_way()
 /// More data sources keep the first level: without a filter, the rows of `-d a` are those of the first level of `-d a,b`.
 pub fn more_sources_keep_the_first_level()
     ensures { FirstLevelIsKept }
+{}
+
+/// A run that is done has written the report of the bytes that its reads returned, and of its synthetic file if it has one.
+pub fn done_runs_report_what_they_read()
+    ensures { DoneReportsWhatItRead }
+{}
+
+/// Reading the CSV or the TSV of a report without a limit, as RFC 4180 defines it, gives the names of the columns and then
+/// one record for each full path with a shown size, and no other record. Its sizes are the numbers of bytes and of mapped
+/// addresses of the path. Labels may have any bytes.
+pub fn each_path_is_read_back()
+    ensures { EachPathIsReadBack }
+{}
+
+/// The same for a report of growth: there is one record for each full path that has changed, with each path that it begins
+/// with, and it has the growths of the path.
+pub fn each_growth_is_read_back()
+    ensures { EachGrowthIsReadBack }
 {}

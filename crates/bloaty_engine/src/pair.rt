@@ -6,6 +6,7 @@ ghost use Rattle.data_sources.specs.Opened.{opened};
 ghost use Rattle.size_options.specs.Answers.{IsOneInput, KeepsLimits};
 ghost use Rattle.file_profile.specs.Counts.{filter_test};
 ghost use Rattle.bloaty_engine.specs.Devices.{Reads};
+ghost use Rattle.bloaty_engine.specs.Given.{Gives, input_pairs};
 ghost use Rattle.bloaty_engine.specs.Named.{AreInputs};
 ghost use Rattle.run_outcome.specs.Names.{other_names};
 ghost use Rattle.bloaty_engine.specs.PairSteps.{EndsFirst, EndsPair, EndsPaired};
@@ -99,7 +100,9 @@ fn count_opened<L: Ledger>(
 fn read_first<F: Files>(run: &Run, files: &mut F) -> Result<Vec<u8>, Outcome>
     requires { IsOneInput run.now.options.synth run.now.options.files }
     ensures found { (bytes : List ℕ) × IsHeld (F.held files.old) (first_name run.now.options) bytes
-        × EndsFirst run.now.limits bytes result }
+        × EndsFirst run.now.limits bytes result
+        × Gives result (F.gave files.old) (F.gave files.new)
+        ((first_name run.now.options, bytes) ∷ []) }
     ensures files { let batch = batch_of 0 0 (first_name run.now.options ∷ []) in
         Reads F.Files (batch_reading run.now.limits batch) result files.old files.new }
     ensures taken { IfOk result (λ v.
@@ -126,7 +129,9 @@ fn count_pair<F: Files>(
         × IsHeld (F.held files.old) (first_name run.now.options) own
         × IsHeld (F.held files.old) debug.now other
         × EndsPair run.now.limits plan.now.sources (filter_test plan.now.filter)
-        (first_name run.now.options) own other result }
+        (first_name run.now.options) own other result
+        × Gives result (F.gave files.old) (F.gave files.new)
+        ((first_name run.now.options, own) ∷ (debug.now, other) ∷ []) }
     ensures files { let batch = batch_of 0 0 (first_name run.now.options ∷ debug.now ∷ []) in
         Reads F.Files (batch_reading run.now.limits batch) result files.old files.new }
 {
@@ -150,7 +155,9 @@ pub fn pair_report<F: Files>(
     requires no_place { run.now.options.place ≡ None }
     ensures found { (bytes : ℕ → List ℕ)
         × AreInputs (F.held files.old) run.now.options (other_names run.now.options) bytes
-        × EndsFinding run.now.limits plan.now.sources bytes run.now.options result }
+        × EndsFinding run.now.limits plan.now.sources bytes run.now.options result
+        × Gives result (F.gave files.old) (F.gave files.new)
+        (input_pairs run.now.options (other_names run.now.options) bytes) }
     ensures files { let o = run.now.options in
         Reads F.Files (reading_for run.now.limits o (files_to_read o)) result files.old files.new }
 {

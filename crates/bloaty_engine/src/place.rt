@@ -5,6 +5,7 @@ ghost use Rattle.elf_synth.specs.Made.{made};
 ghost use Rattle.report_text.specs.Places.{place_report_text};
 ghost use Rattle.size_options.specs.Answers.{IsOneInput, KeepsLimits};
 ghost use Rattle.bloaty_engine.specs.Devices.{Reads};
+ghost use Rattle.bloaty_engine.specs.Given.{Gives, input_pairs, pairs_from};
 ghost use Rattle.bloaty_engine.specs.Named.{AreFiles, AreInputs};
 ghost use Rattle.run_outcome.specs.Names.{other_names};
 ghost use Rattle.bloaty_engine.specs.PlaceSteps.{EndsExplained, explained_within};
@@ -60,7 +61,9 @@ fn only_file<F: Files>(run: &Run, files: &mut F) -> Result<Vec<u8>, Outcome>
     requires one { IsOneInput run.now.options.synth run.now.options.files }
     ensures found { (bytes : ℕ → List ℕ)
         × AreFiles (F.held files.old) run.now.options.synth run.now.options.files bytes
-        × Finds 1 (min (file_limit run.now.limits) (total_limit run.now.limits)) (bytes 1) result }
+        × Finds 1 (min (file_limit run.now.limits) (total_limit run.now.limits)) (bytes 1) result
+        × Gives result (F.gave files.old) (F.gave files.new)
+        (pairs_from 1 (unmade_names run.now.options.synth run.now.options.files) bytes) }
     ensures unmade { (k : ℕ) → IsErrOf result (Outcome.ReadFailed (k + 1))
         → IsUnmade run.now.options.synth k }
     ensures files { let names = unmade_names run.now.options.synth run.now.options.files in
@@ -132,7 +135,9 @@ pub fn place_report<F: Files>(
     requires place { run.now.options.place ≡ Some place.now }
     ensures found { (bytes : ℕ → List ℕ)
         × AreInputs (F.held files.old) run.now.options (other_names run.now.options) bytes
-        × EndsFinding run.now.limits plan.now.sources bytes run.now.options result }
+        × EndsFinding run.now.limits plan.now.sources bytes run.now.options result
+        × Gives result (F.gave files.old) (F.gave files.new)
+        (input_pairs run.now.options (other_names run.now.options) bytes) }
     ensures files { let o = run.now.options in
         Reads F.Files (reading_for run.now.limits o (files_to_read o)) result files.old files.new }
 {

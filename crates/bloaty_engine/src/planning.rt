@@ -4,6 +4,7 @@ ghost use Rattle.std.specs.Prelude.{◌≡◌, ◌<◌, ◌+◌, ◌^◌, None, 
 ghost use Rattle.std.specs.Option.{option_copied};
 ghost use Rattle.custom_rewrites.specs.Pattern.{IsPattern};
 ghost use Rattle.bloaty_engine.specs.Devices.{Plans};
+ghost use Rattle.bloaty_engine.specs.PatternLists.{filter_patterns, plan_patterns, rewrite_patterns};
 ghost use Rattle.file_profile.specs.Choices.{IsChoice, as_chosen, chosen_in, rewrite_lists};
 ghost use Rattle.file_profile.specs.Patterns.{AreRead, rewrites_of};
 ghost use Rattle.file_profile.specs.Plans.{HasCause, HasFilterCause, HasNameCause, HasRewriteCause, IsPlan};
@@ -82,7 +83,8 @@ fn filter_of<P: Patterns>(
     ensures read { IfOk result (λ _. IfSome (option_copied filter.entry) IsPattern) }
     ensures cause { IfErr result (HasFilterCause (option_copied filter.entry)
         (P.refused patterns.old) (P.refused patterns.new) (P.last_refused patterns.new)) }
-    ensures patterns { Plans P.Patterns result patterns.old patterns.new }
+    ensures patterns { let list = filter_patterns (option_copied filter.entry) in
+        Plans P.Patterns list result patterns.old patterns.new }
 {
     let Some(text) = filter else {
         return Ok(None);
@@ -107,7 +109,8 @@ fn rewrites_from<P: Patterns>(
     ensures read { IfOk result (λ _. AreRead source.now.rewrites) }
     ensures cause { IfErr result (HasRewriteCause first source.now.rewrites
         (P.refused patterns.old) (P.refused patterns.new) (P.last_refused patterns.new)) }
-    ensures patterns { Plans P.Patterns result patterns.old patterns.new }
+    ensures patterns { let list = rewrite_patterns first source.now.rewrites in
+        Plans P.Patterns list result patterns.old patterns.new }
 {
     match Rewrites::build(alloc, source, patterns) {
         Ok(made) => Ok(made),
@@ -127,7 +130,8 @@ fn rewrites_of<P: Patterns>(
     ensures read { IfOk result (λ _. AreRead (rewrites_of custom.now)) }
     ensures cause { IfErr result (HasRewriteCause 1 (rewrites_of custom.now)
         (P.refused patterns.old) (P.refused patterns.new) (P.last_refused patterns.new)) }
-    ensures patterns { Plans P.Patterns result patterns.old patterns.new }
+    ensures patterns { let list = rewrite_patterns 1 (rewrites_of custom.now) in
+        Plans P.Patterns list result patterns.old patterns.new }
 {
     let mut all = Vec::new(alloc);
     let mut first = 1usize;
@@ -144,7 +148,7 @@ fn rewrites_of<P: Patterns>(
 
 /// The plan of a run: the data source of each name in `-d`, and the compiled patterns. A name means the built-in data
 /// source of that name, or else the first custom one. The filter is pattern 0, the rewrites of all custom data sources
-/// are the patterns from 1 on.
+/// are the patterns from 1 on. Each pattern is compiled once, in the order of these numbers, up to the first that fails.
 ///
 /// # Errors
 ///
@@ -164,7 +168,9 @@ pub fn plan<P: Patterns>(
     ensures plan { IfOk result (IsPlan options.now.sources options.now.filter custom.now) }
     ensures cause { IfErr result (HasCause options.now.sources options.now.filter custom.now
         (P.refused patterns.old) (P.refused patterns.new) (P.last_refused patterns.new)) }
-    ensures patterns { Plans P.Patterns result patterns.old patterns.new }
+    ensures patterns { let o = options.now in
+        Plans P.Patterns (plan_patterns o.sources o.filter custom.now) result
+        patterns.old patterns.new }
 {
     let choices = choices_of(alloc, &options.sources, custom)?;
     let filter = filter_of(alloc, options.filter.as_ref(), patterns)?;

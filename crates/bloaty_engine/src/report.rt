@@ -4,8 +4,9 @@ ghost use Rattle.std.specs.Prelude.{◌≡◌, ◌+◌, ◌-◌, ◌^◌, ◌<�
 ghost use Rattle.outside.specs.Held.{IsTaken};
 ghost use Rattle.size_options.specs.Answers.{HasInput, KeepsLimits};
 ghost use Rattle.bloaty_engine.specs.Answers.{EndsReport};
-ghost use Rattle.bloaty_engine.specs.Devices.{Builds, Reads};
+ghost use Rattle.bloaty_engine.specs.Devices.{BuildsAsked, Reads};
 ghost use Rattle.file_profile.specs.Counts.{filter_test};
+ghost use Rattle.bloaty_engine.specs.Given.{Gives, input_pairs, pairs_from, run_pairs};
 ghost use Rattle.bloaty_engine.specs.Named.{AreContents, AreFiles, AreInputs, Contents};
 ghost use Rattle.run_outcome.specs.Names.{file_names, other_names};
 ghost use Rattle.bloaty_engine.specs.Reading.{files_to_read, made_len, reading_for, run_reading, unmade_names};
@@ -48,7 +49,9 @@ fn total_of<F: Files>(
         (bytes : ℕ → List ℕ)
         × AreFiles (F.held files.old) run.now.options.synth run.now.options.files bytes
         × EndsFiles run.now.limits plan.now.sources (filter_test plan.now.filter)
-        batch bytes result }
+        batch bytes result
+        × Gives result (F.gave files.old) (F.gave files.new)
+        (pairs_from 1 (unmade_names run.now.options.synth run.now.options.files) bytes) }
     ensures unmade { (k : ℕ) → IsErrOf result (Outcome.ReadFailed (k + 1))
         → IsUnmade run.now.options.synth k }
     ensures files { let names = unmade_names run.now.options.synth run.now.options.files in
@@ -76,7 +79,9 @@ fn report_of_files<F: Files>(run: &Run, plan: &Plan, files: &mut F) -> Result<Ve
     requires no_debug { run.now.options.debug ≡ None }
     ensures counted { (bytes : ℕ → List ℕ)
         × AreInputs (F.held files.old) run.now.options run.now.options.bases bytes
-        × EndsCounting run.now.limits plan.now.sources bytes run.now.options result }
+        × EndsCounting run.now.limits plan.now.sources bytes run.now.options result
+        × Gives result (F.gave files.old) (F.gave files.new)
+        (input_pairs run.now.options run.now.options.bases bytes) }
     ensures files { let o = run.now.options in
         let names = unmade_names o.synth o.files ++ o.bases in
         Reads F.Files (reading_for run.now.limits o names) result files.old files.new }
@@ -99,7 +104,9 @@ fn report_over_files<F: Files>(run: &Run, plan: &Plan, files: &mut F) -> Result<
     requires no_place { run.now.options.place ≡ None }
     ensures found { (bytes : ℕ → List ℕ)
         × AreInputs (F.held files.old) run.now.options (other_names run.now.options) bytes
-        × EndsFinding run.now.limits plan.now.sources bytes run.now.options result }
+        × EndsFinding run.now.limits plan.now.sources bytes run.now.options result
+        × Gives result (F.gave files.old) (F.gave files.new)
+        (input_pairs run.now.options (other_names run.now.options) bytes) }
     ensures files { let o = run.now.options in
         Reads F.Files (reading_for run.now.limits o (files_to_read o)) result files.old files.new }
 {
@@ -115,7 +122,9 @@ fn report_of_kind<F: Files>(run: &Run, plan: &Plan, files: &mut F) -> Result<Vec
     requires planned { IsPlanned run.now.options plan.now }
     ensures found { (bytes : ℕ → List ℕ)
         × AreInputs (F.held files.old) run.now.options (other_names run.now.options) bytes
-        × EndsFinding run.now.limits plan.now.sources bytes run.now.options result }
+        × EndsFinding run.now.limits plan.now.sources bytes run.now.options result
+        × Gives result (F.gave files.old) (F.gave files.new)
+        (input_pairs run.now.options (other_names run.now.options) bytes) }
     ensures files { let o = run.now.options in
         Reads F.Files (reading_for run.now.limits o (files_to_read o)) result files.old files.new }
 {
@@ -133,10 +142,14 @@ pub fn report<F: Files, P: Patterns>(
 ) -> Result<Vec<u8>, Outcome>
     requires { KeepsLimits run.now.options }
     ensures run { (contents : Contents) × AreContents (F.held files.old) run.now.options contents
-        × EndsReport run.now.limits run.now.options (P.last_refused patterns.new) contents result }
+        × EndsReport run.now.limits run.now.options (P.last_refused patterns.new) contents result
+        × Gives result (F.gave files.old) (F.gave files.new)
+        (run_pairs (Ok run.now.options) contents) }
     ensures files { let reading = run_reading run.now.limits (Ok run.now.options) in
         Reads F.Files reading result files.old files.new }
-    ensures patterns { Builds P.Patterns result patterns.old patterns.new }
+    ensures patterns { let given = Ok run.now.options in
+        BuildsAsked P.Patterns (F.held files.old) run.now.limits given result
+        patterns.old patterns.new }
 {
     let customs = customs_of(run, files)?;
     let plan = plan_of(run, &customs, patterns)?;

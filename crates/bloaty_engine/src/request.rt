@@ -2,7 +2,9 @@
 
 ghost use Rattle.std.specs.Prelude.{◌≡◌, ℕ, List, IfOk, IfErr};
 ghost use Rattle.bloaty_engine.specs.Devices.{Builds, Reads};
+ghost use Rattle.bloaty_engine.specs.Given.{Gives, config_pairs};
 ghost use Rattle.bloaty_engine.specs.Named.{IsText};
+ghost use Rattle.bloaty_engine.specs.PatternLists.{plan_patterns};
 ghost use Rattle.file_profile.specs.Plans.{IsPlan};
 ghost use Rattle.bloaty_engine.specs.Reading.{config_reading};
 ghost use Rattle.bloaty_engine.specs.Steps.{EndsConfig, EndsPlan};
@@ -37,7 +39,9 @@ fn config_limit(limits: &Limits) -> u64
 /// Reads and parses the configuration, if the options name one, and returns its custom data sources.
 pub fn customs_of<F: Files>(run: &Run, files: &mut F) -> Result<Vec<CustomSource>, Outcome>
     ensures read { (text : List ℕ) × IsText (F.held files.old) run.now.options.config text
-        × EndsConfig run.now.limits run.now.options.config text result }
+        × EndsConfig run.now.limits run.now.options.config text result
+        × Gives result (F.gave files.old) (F.gave files.new)
+        (config_pairs run.now.options.config text) }
     ensures files { let reading = config_reading run.now.limits run.now.options in
         Reads F.Files reading result files.old files.new }
 {
@@ -67,7 +71,9 @@ pub fn plan_of<P: Patterns>(
     ensures plan { IfOk result (IsPlan run.now.options.sources run.now.options.filter customs.now) }
     ensures ends { let last = P.last_refused patterns.new in
         IfErr result (EndsPlan run.now.options.sources run.now.options.filter customs.now last) }
-    ensures patterns { Builds P.Patterns result patterns.old patterns.new }
+    ensures patterns { let o = run.now.options in
+        Builds P.Patterns (plan_patterns o.sources o.filter customs.now) result
+        patterns.old patterns.new }
 {
     match plan(run.alloc, &run.options, customs, patterns) {
         Ok(plan) => Ok(plan),

@@ -7,7 +7,8 @@ ghost use Rattle.size_options.specs.Asked.{asked as options_of};
 ghost use Rattle.size_options.specs.declared.errors.UsageKind.{UsageKind as UsageKindSpec};
 ghost use Rattle.size_options.specs.Words.{seen_words};
 ghost use Rattle.bloaty_engine.specs.Answers.{IsRun};
-ghost use Rattle.bloaty_engine.specs.Devices.{Builds, CountsWrites, PrintsLine, Reads, ended};
+ghost use Rattle.bloaty_engine.specs.Devices.{BuildsAsked, CountsWrites, PrintsLine, Reads, ended};
+ghost use Rattle.bloaty_engine.specs.Given.{seen_files};
 ghost use Rattle.bloaty_engine.specs.Reading.{run_reading};
 ghost use Rattle.run_outcome.specs.Line.{line_of, usage_text};
 
@@ -44,11 +45,13 @@ fn answer<F: Files, P: Patterns, O: Sink>(
 ) -> Outcome
     requires { KeepsLimits run.now.options }
     ensures run { let given = Ok run.now.options in
-        IsRun (F.held files.old) run.now.limits given (P.last_refused patterns.new)
-        (O.written out.old) (O.written out.new) result }
+        IsRun (seen_files F.Files files.old files.new) run.now.limits given
+        (P.last_refused patterns.new) (O.written out.old) (O.written out.new) result }
     ensures files { let reading = run_reading run.now.limits (Ok run.now.options) in
         Reads F.Files reading (ended result) files.old files.new }
-    ensures patterns { Builds P.Patterns (ended result) patterns.old patterns.new }
+    ensures patterns { let given = Ok run.now.options in
+        BuildsAsked P.Patterns (F.held files.old) run.now.limits given (ended result)
+        patterns.old patterns.new }
     ensures out { CountsWrites O.Sink result out.old out.new }
     ensures parsed { (kind : UsageKindSpec) → (result ≡ Outcome.Usage kind) → ⊥ }
 {
@@ -72,10 +75,10 @@ fn misused<E: Sink>(err: &mut E, kind: UsageKind) -> Outcome
 /// the reason on `err`. File offsets, lengths and sizes are bytes. `patterns` compiles the patterns of the
 /// configuration and the filter.
 ///
-/// A run that returns Done has written the report (`run.written`) in which each row's sizes are the numbers of file
-/// bytes and mapped addresses whose path of labels, by first covering claims, begins with that row's path
-/// (`IsSizeReport.each`), each byte once (`IsSizeReport.once`). Any other outcome names a fault in the arguments or the
-/// files (`run.answer`), in the devices (`files`, `patterns`, `out`), or running out of memory.
+/// A run that returns Done has written the report (`run.written`) of the bytes that its reads returned (`run.gave`). Each
+/// row's sizes are the numbers of file bytes and mapped addresses whose path of labels, by first covering claims, begins
+/// with that row's path (`IsSizeReport.each`), each byte once (`IsSizeReport.once`). Any other outcome names a fault in the
+/// arguments or the files (`run.answer`), in the devices (`files`, `patterns`, `out`), or running out of memory.
 pub fn bloaty<F: Files, P: Patterns, O: Sink, E: Sink>(
     alloc: Global,
     words: &[String],
@@ -87,15 +90,17 @@ pub fn bloaty<F: Files, P: Patterns, O: Sink, E: Sink>(
 ) -> Outcome
     // The arguments and the bytes of the files decide the outcome and what is written, unless the run is interrupted.
     ensures run { let given = options_of (seen_words words.now) in
-        IsRun (F.held files.old) limits.now given (P.last_refused patterns.new)
-        (O.written out.old) (O.written out.new) result }
+        IsRun (seen_files F.Files files.old files.new) limits.now given
+        (P.last_refused patterns.new) (O.written out.old) (O.written out.new) result }
 
     // Each interruption has its cause, and each failure of a device is an interruption.
     ensures words { (result ≡ Outcome.Usage UsageKind.Words)
         → are_taken (seen_words words.now) ≡ false }
     ensures files { let reading = run_reading limits.now (options_of (seen_words words.now)) in
         Reads F.Files reading (ended result) files.old files.new }
-    ensures patterns { Builds P.Patterns (ended result) patterns.old patterns.new }
+    ensures patterns { let given = options_of (seen_words words.now) in
+        BuildsAsked P.Patterns (F.held files.old) limits.now given (ended result)
+        patterns.old patterns.new }
     ensures out { CountsWrites O.Sink result out.old out.new }
 
     // The line of the outcome.

@@ -1,5 +1,5 @@
 -- Rewritten labels, and why rewrites fail to compile.
-use Rattle.std.specs.Prelude.{◌≡◌, ◌<◌, ℕ, Bool, true, false, Result, Ok, Err, List, [], ◌∷◌, Some, take, unwrap_or, slice_get, All}
+use Rattle.std.specs.Prelude.{◌≡◌, ◌<◌, ◌≤◌, ◌+◌, ℕ, Bool, true, false, Result, Ok, Err, List, [], ◌∷◌, ◌++◌, Some, length, map, take, unwrap_or, slice_get, All}
 use Rattle.config_text.specs.declared.config.Rewrite.{Rewrite}
 use Rattle.custom_rewrites.specs.Pattern.{IsPattern, IsNoPattern}
 use Rattle.custom_rewrites.specs.Expand.{replaced}
@@ -37,3 +37,16 @@ abbrev pub HasOneCause : List ℕ → ℕ → ℕ → ℕ → List ℕ → List 
 HasOneCause pattern at before after old new (PatternSyntax place) = (place ≡ at) × IsNoPattern pattern × (new ≡ old)
 HasOneCause pattern at before after old new (PatternTooBig place) = (place ≡ at) × (new ≡ pattern) × (before < after)
 HasOneCause pattern at before after old new NoMemory = new ≡ old
+
+-- The patterns of rewrites in their order.
+abbrev pub patterns_in : List Rewrite → List (List ℕ)
+patterns_in rewrites = map (λ (r : Rewrite). r.pattern) rewrites
+
+-- The patterns that were built go from `before` to `after`. Those of the rewrites are added in their order, each once, up to
+-- the one that failed. If memory ran out, it isn't known at which of them.
+abbrev pub HasBuilt : {X : Type 0} → List Rewrite → Result X RewriteAnswer → List (List ℕ) → List (List ℕ) → Type 0
+HasBuilt rewrites (Ok x) before after = after ≡ before ++ patterns_in rewrites
+HasBuilt rewrites (Err (PatternSyntax place)) before after = after ≡ before ++ take (place + 1) (patterns_in rewrites)
+HasBuilt rewrites (Err (PatternTooBig place)) before after = after ≡ before ++ take (place + 1) (patterns_in rewrites)
+HasBuilt rewrites (Err NoMemory) before after =
+    (count : ℕ) × (count ≤ length rewrites) × (after ≡ before ++ take count (patterns_in rewrites))

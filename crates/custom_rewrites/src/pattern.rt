@@ -1,6 +1,6 @@
 //! Compiled patterns, and the trait that compiles them.
 
-ghost use Rattle.std.specs.Prelude.{◌≡◌, ◌≢◌, ◌<◌, ◌≤◌, Err, IfOk, option_map};
+ghost use Rattle.std.specs.Prelude.{◌≡◌, ◌≢◌, ◌<◌, ◌≤◌, ◌++◌, ◌∷◌, [], Err, IfOk, option_map};
 ghost use Rattle.custom_rewrites.specs.Pattern.{is_found, IsPattern, IsNoPattern};
 ghost use Rattle.custom_rewrites.specs.Expand.{replaced};
 
@@ -153,9 +153,13 @@ pub trait Patterns {
 
     ghost last_refused: { Self → List ℕ };
 
+    // The patterns that `build` was called with, in order, whatever it returned.
+    ghost built: { Self → List (List ℕ) };
+
     /// Compiles a pattern. Syntax only if the text is no regular expression or is nested too deeply. TooBig
     /// only if this call adds to the refusals.
     fn build(&mut self, alloc: Global, pattern: &str) -> Result<LabelPattern, PatternAnswer>
+        ensures built { built self.new ≡ built self.old ++ pattern.now ∷ [] }
         ensures ok { IfOk result (λ p. (p ≡ pattern.now) × IsPattern pattern.now) }
         ensures syntax { result ≡ Err PatternAnswer.Syntax → IsNoPattern pattern.now }
         ensures too_big { result ≡ Err PatternAnswer.TooBig →

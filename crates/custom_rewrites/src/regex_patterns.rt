@@ -1,10 +1,11 @@
 //! Patterns, compiled with the crate `regex`.
 
-ghost use Rattle.std.specs.Prelude.{◌≡◌, ◌≢◌, ◌<◌, ◌≤◌, ◌⊎◌, ◌↔◌, [], Err, IfOk, IsTrue};
+ghost use Rattle.std.specs.Prelude.{◌≡◌, ◌≢◌, ◌<◌, ◌≤◌, ◌⊎◌, ◌↔◌, ◌++◌, ◌∷◌, [], Err, IfOk, IsTrue};
 ghost use Rattle.custom_rewrites.specs.Pattern.{IsPattern, IsNoPattern};
-ghost use Rattle.custom_rewrites.specs.Refusals.{IsListed, with_refused, with_call};
+ghost use Rattle.custom_rewrites.specs.Refusals.{IsListed, with_built, with_call, with_refused};
 
 use crate::pattern::{LabelPattern, PatternAnswer, Patterns};
+use outside::Notes;
 use size_core::Text;
 use std::alloc::Global;
 use std::marker::Model;
@@ -16,6 +17,7 @@ pub struct RegexPatterns {
     calls: u64,
     refused: u64,
     last: Option<Text>,
+    built: Notes,
 }
 
 impl Model for RegexPatterns {
@@ -28,19 +30,22 @@ impl Model for RegexPatterns {
       calls = p.calls;
       refused = p.refused;
       last = text_of p.last;
+      built = p.built.items;
     } };
 }
 
 impl RegexPatterns {
     /// Patterns that refuse the calls with these numbers, counted from 1, for their size.
     pub fn new(refusing: Vec<u64>) -> RegexPatterns
-        ensures { result ≡ record { refusing = refusing.items; calls = 0; refused = 0; last = [] } }
+        ensures { result ≡
+            record { refusing = refusing.items; calls = 0; refused = 0; last = []; built = [] } }
     {
         RegexPatterns {
             refusing,
             calls: 0,
             refused: 0,
             last: None,
+            built: Notes::new(),
         }
     }
 
@@ -81,7 +86,10 @@ impl Patterns for RegexPatterns {
 
     ghost last_refused = { λ p. p.last };
 
+    ghost built = { λ p. p.built };
+
     fn build(&mut self, alloc: Global, pattern: &str) -> Result<LabelPattern, PatternAnswer>
+        ensures built { self.new.built ≡ self.old.built ++ pattern.now ∷ [] }
         ensures ok { IfOk result (λ p. (p ≡ pattern.now) × IsPattern pattern.now) }
         ensures syntax { result ≡ Err PatternAnswer.Syntax → IsNoPattern pattern.now }
         ensures too_big { result ≡ Err PatternAnswer.TooBig →
@@ -94,10 +102,12 @@ impl Patterns for RegexPatterns {
         // maximum of its type. After that no call is in the list.
         ensures listed { IsListed self.old →
             (result ≡ Err PatternAnswer.TooBig) ⊎ (result ≡ Err PatternAnswer.NoMemory) }
-        ensures called { result ≢ Err PatternAnswer.TooBig → self.new ≡ with_call self.old }
+        ensures called { result ≢ Err PatternAnswer.TooBig →
+            self.new ≡ with_call (with_built self.old pattern.now) }
         ensures counted { result ≡ Err PatternAnswer.TooBig →
-            self.new ≡ with_refused (with_call self.old) pattern.now }
+            self.new ≡ with_refused (with_call (with_built self.old pattern.now)) pattern.now }
     {
+        self.built.add(pattern.as_bytes());
         if self.count_call() {
             return Err(self.refuse(alloc, pattern));
         }

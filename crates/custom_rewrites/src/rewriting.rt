@@ -1,9 +1,9 @@
 //! The rewrites of a custom data source.
 
-ghost use Rattle.std.specs.Prelude.{true, ◌≡◌, ◌≤◌, ◌++◌, All, IfOk, IfErr, OnOk, OnErr, map, option_map};
+ghost use Rattle.std.specs.Prelude.{true, ◌≡◌, ◌≤◌, ◌++◌, ◌∷◌, [], All, IfOk, IfErr, OnOk, OnErr, map, option_map};
 ghost use Rattle.custom_rewrites.specs.Pattern.{IsPattern};
 ghost use Rattle.custom_rewrites.specs.Expand.{replaced};
-ghost use Rattle.custom_rewrites.specs.Rewriting.{rewritten, without_refusal, HasCause, HasOneCause};
+ghost use Rattle.custom_rewrites.specs.Rewriting.{rewritten, without_refusal, HasBuilt, HasCause, HasOneCause};
 ghost use Rattle.custom_rewrites.specs.Shown.{shown_compiled, shown_finder};
 
 use crate::pattern::{LabelFinder, LabelPattern, PatternAnswer, Patterns};
@@ -64,6 +64,7 @@ fn build_one<P: Patterns>(
     ensures answer { IfErr result (HasOneCause rewrite.now.pattern place (P.refused patterns.old)
         (P.refused patterns.new) (P.last_refused patterns.old) (P.last_refused patterns.new)) }
     ensures rises { P.refused patterns.old ≤ P.refused patterns.new }
+    ensures built { P.built patterns.new ≡ P.built patterns.old ++ rewrite.now.pattern ∷ [] }
 {
     match patterns.build(alloc, rewrite.pattern.as_str()) {
         Ok(pattern) => match rewrite.replacement.copy() {
@@ -93,6 +94,8 @@ impl Rewrites {
         ensures answer { IfErr result (HasCause source.now.rewrites (P.refused patterns.old)
             (P.refused patterns.new) (P.last_refused patterns.old) (P.last_refused patterns.new)) }
         ensures rises { P.refused patterns.old ≤ P.refused patterns.new }
+        ensures built { HasBuilt source.now.rewrites result
+            (P.built patterns.old) (P.built patterns.new) }
     {
         let rewrites = &source.rewrites;
         let mut made = Vec::new(alloc);

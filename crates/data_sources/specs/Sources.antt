@@ -19,8 +19,8 @@ segments_claims g = g.segments ++ g.headers
 
 -- The claims of the parts of the file: the sections, the link-edit parts, the headers, and then the loads in brackets.
 -- They label the bytes and addresses that no earlier claim covers.
-unfoldable pub behind : Wrap → Groups → List LabelledClaim
-behind wrap g = g.sections wrap ++ g.link_edit ++ g.headers ++ g.loads Brackets
+unfoldable pub parts_claims : Wrap → Groups → List LabelledClaim
+parts_claims wrap g = g.sections wrap ++ g.link_edit ++ g.headers ++ g.loads Brackets
 
 -- The claim of the addresses of slot i, if it is a load, under the name of the file.
 abbrev pub address_claim : List ℕ → Groups → ℕ → List LabelledClaim
@@ -42,12 +42,12 @@ records_of source g = g.symbols
 
 -- The claims of records, and then those of the parts of the file, all in brackets; or the fault of the records.
 unfoldable pub with_tail : Reading → Groups → Reading
-with_tail records g = joined records (Ok (behind Section g))
+with_tail records g = joined records (Ok (parts_claims Section g))
 
 -- The table of the data sources: the claims of a data source on the groups of a file of this name, or the first fault.
 abbrev pub source_claims : Source → List ℕ → Groups → Reading
 source_claims Segments name g = Ok (segments_claims g)
-source_claims Sections name g = Ok (behind Plain g)
+source_claims Sections name g = Ok (parts_claims Plain g)
 source_claims InputFiles name g = Ok (whole_claims name g)
 source_claims Symbols name g = with_tail g.symbols g
 source_claims RawSymbols name g = with_tail g.symbols g

@@ -5,7 +5,7 @@ ghost use Rattle.size_core.specs.declared.fault.BadFile.{BadFile};
 ghost use Rattle.claim_sheet.specs.Adds.{Adds, AddsRead};
 ghost use Rattle.claim_sheet.specs.Made.{AreNumbered, AreUsed, KeepsLabels, texts};
 ghost use Rattle.data_sources.specs.Groups.{groups_of};
-ghost use Rattle.data_sources.specs.Sources.{behind, claims_of, records_of, segments_claims, with_tail};
+ghost use Rattle.data_sources.specs.Sources.{claims_of, parts_claims, records_of, segments_claims, with_tail};
 
 use crate::answer::ClaimAnswer;
 use crate::binary::Binary;
@@ -32,14 +32,14 @@ fn add_segments_and_headers(
 }
 
 // Adds the claims of the sections, the link-edit parts and the headers, and then those of the loads in brackets.
-#[tactic(auto, using(claim_sheet::proofs::SheetLemmas::adding_more), unfolding(crate::specs::Sources::behind))]
+#[tactic(auto, using(claim_sheet::proofs::SheetLemmas::adding_more), unfolding(crate::specs::Sources::parts_claims))]
 fn add_parts(
     alloc: Global,
     binary: &Binary<'_>,
     wrap: Wrap,
     sheet: &mut ClaimSheet,
 ) -> Result<(), NoMemory>
-    ensures { Adds result sheet.old sheet.new (behind wrap (groups_of binary.now)) }
+    ensures { Adds result sheet.old sheet.new (parts_claims wrap (groups_of binary.now)) }
 {
     add_sections(alloc, binary, wrap, sheet)?;
     add_link_edit(binary, sheet)?;

@@ -1,3 +1,4 @@
+pub mod AreaLemmas
 pub mod IdentityLemmas
 pub mod NoteLemmas
 pub mod UuidLemmas

@@ -10,12 +10,12 @@ unfolding has_note after_note
 shorter order area has = grind (arith, common_steps)
 
 -- No note fits into an empty area.
-none_in : (order : Order) (area : List ℕ) → length area ≡ 0 → has_note order area ≡ false
+pub none_in : (order : Order) (area : List ℕ) → length area ≡ 0 → has_note order area ≡ false
 unfolding has_note
 none_in order area none = grind (arith, common_steps)
 
 -- A larger bound changes nothing if the bound is enough.
-same_fuel : (order : Order) (m n : ℕ) (area : List ℕ) → length area ≤ m → length area ≤ n → notes_within m order area ≡ notes_within n order area
+pub same_fuel : (order : Order) (m n : ℕ) (area : List ℕ) → length area ≤ m → length area ≤ n → notes_within m order area ≡ notes_within n order area
 unfolding notes_within
 same_fuel order zero zero area p q = refl
 same_fuel order zero (suc n) area p q = let none = none_in order area (omega arith) in rw none refl

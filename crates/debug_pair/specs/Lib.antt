@@ -1,3 +1,4 @@
+pub mod Areas
 pub mod Identities
 pub mod Laws
 pub mod Notes

@@ -1,50 +1,45 @@
 //! The build ID of an ELF file.
 
-ghost use Rattle.std.specs.Prelude.{◌≡◌, ◌<◌, ◌∷◌, []};
+ghost use Rattle.std.specs.Prelude.{◌≡◌, ◌<◌, None};
 ghost use Rattle.std.specs.Option.{option_copied};
 ghost use Rattle.elf_file.specs.Layout.{encoding_of};
 ghost use Rattle.elf_file.specs.Tables.{section_count, segment_count};
+ghost use Rattle.debug_pair.specs.Areas.{HasNoId};
 ghost use Rattle.debug_pair.specs.Identities.{build_id, elf_identity, section_area, section_areas, segment_area, segment_areas};
 
-use crate::area::notes;
-use byte_cursor::Order;
+use crate::searched::Searched;
 use elf_file::{ElfFile, PT_NOTE, SHT_NOTE};
 
-/// Returns the descriptor of the first build ID note of an area.
-#[tactic(auto, using(crate::proofs::IdentityLemmas::in_area, crate::proofs::IdentityLemmas::found_here, crate::proofs::IdentityLemmas::found_later, crate::proofs::IdentityLemmas::found_none))]
-fn build_id<'a>(area: &'a [u8], order: Order) -> Option<&'a [u8]>
-    ensures { option_copied result ≡ build_id order (area.now ∷ []) }
-{
-    for note in notes(area, order) {
-        if note.is_build_id() {
-            return Some(note.content);
-        }
-    }
-    None
-}
-
 /// Returns the build ID in section `i`, if it has notes.
-#[tactic(auto, unfolding(crate::specs::Identities::section_area), using(crate::proofs::IdentityLemmas::no_area))]
-fn section_build_id<'a>(file: &ElfFile<'a>, i: u32) -> Option<&'a [u8]>
-    requires { i < section_count file.now }
-    ensures { option_copied result ≡ build_id (encoding_of file.now).order (section_area file.now i) }
+#[tactic(auto, unfolding(crate::specs::Identities::section_area), using(crate::proofs::IdentityLemmas::no_area, crate::proofs::AreaLemmas::section_is_area))]
+fn section_build_id<'a>(file: &ElfFile<'a>, i: u32, last: &mut Searched) -> Option<&'a [u8]>
+    requires index { i < section_count file.now }
+    requires last { HasNoId file.now last.old }
+    ensures id { option_copied result
+        ≡ build_id (encoding_of file.now).order (section_area file.now i) }
+    ensures last { result ≡ None → HasNoId file.now last.new }
 {
-    if file.section(i).kind != SHT_NOTE {
+    let section = file.section(i);
+    if section.kind != SHT_NOTE {
         return None;
     }
-    build_id(file.section_bytes(i), file.encoding().order)
+    last.build_id(file, section.offset, file.section_bytes(i))
 }
 
 /// Returns the build ID in segment `i`, if it has notes.
-#[tactic(auto, unfolding(crate::specs::Identities::segment_area), using(crate::proofs::IdentityLemmas::no_area))]
-fn segment_build_id<'a>(file: &ElfFile<'a>, i: u32) -> Option<&'a [u8]>
-    requires { i < segment_count file.now }
-    ensures { option_copied result ≡ build_id (encoding_of file.now).order (segment_area file.now i) }
+#[tactic(auto, unfolding(crate::specs::Identities::segment_area), using(crate::proofs::IdentityLemmas::no_area, crate::proofs::AreaLemmas::segment_is_area))]
+fn segment_build_id<'a>(file: &ElfFile<'a>, i: u32, last: &mut Searched) -> Option<&'a [u8]>
+    requires index { i < segment_count file.now }
+    requires last { HasNoId file.now last.old }
+    ensures id { option_copied result
+        ≡ build_id (encoding_of file.now).order (segment_area file.now i) }
+    ensures last { result ≡ None → HasNoId file.now last.new }
 {
-    if file.segment(i).kind != PT_NOTE {
+    let segment = file.segment(i);
+    if segment.kind != PT_NOTE {
         return None;
     }
-    build_id(file.segment_bytes(i), file.encoding().order)
+    last.build_id(file, segment.offset, file.segment_bytes(i))
 }
 
 /// Returns the first build ID in the notes of sections.
@@ -52,8 +47,9 @@ fn segment_build_id<'a>(file: &ElfFile<'a>, i: u32) -> Option<&'a [u8]>
 fn build_id_in_sections<'a>(file: &ElfFile<'a>) -> Option<&'a [u8]>
     ensures { option_copied result ≡ build_id (encoding_of file.now).order (section_areas file.now) }
 {
+    let mut last = Searched::nothing();
     for i in 0..file.header().sections {
-        if let Some(id) = section_build_id(file, i) {
+        if let Some(id) = section_build_id(file, i, &mut last) {
             return Some(id);
         }
     }
@@ -65,8 +61,9 @@ fn build_id_in_sections<'a>(file: &ElfFile<'a>) -> Option<&'a [u8]>
 fn build_id_in_segments<'a>(file: &ElfFile<'a>) -> Option<&'a [u8]>
     ensures { option_copied result ≡ build_id (encoding_of file.now).order (segment_areas file.now) }
 {
+    let mut last = Searched::nothing();
     for i in 0..file.header().segments {
-        if let Some(id) = segment_build_id(file, i) {
+        if let Some(id) = segment_build_id(file, i, &mut last) {
             return Some(id);
         }
     }

@@ -8,6 +8,7 @@ mod elf;
 mod laws;
 mod macho;
 mod note;
+mod searched;
 mod sequence;
 
 pub use area::notes;

@@ -36,7 +36,7 @@ if_below n true r s h k = h
 if_below n false r s h k = k
 
 -- A number takes at least one byte.
-leb_takes : (ys : List ℕ) (x : ℕ × ℕ) → leb ys ≡ Some x → (0 < x.1) × (0 < length ys)
+pub leb_takes : (ys : List ℕ) (x : ℕ × ℕ) → leb ys ≡ Some x → (0 < x.1) × (0 < length ys)
 unfolding leb
 leb_takes [] x h = cc
 leb_takes (y ∷ ys) x h = (ends (nat_lt y 128) (leb ys) h, omega arith)

@@ -1,4 +1,6 @@
 pub mod Forward
 pub mod Listings
+pub mod NoBytes
 pub mod Specs
 pub mod Tables
+pub mod Within

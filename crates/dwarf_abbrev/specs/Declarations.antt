@@ -1,5 +1,5 @@
 -- Abbreviations: the declarations of entries (DWARF 5, section 7.5.3).
-use Rattle.std.specs.Prelude.{◌≡◌, ℕ, ℤ, pos, ◌-◌, ◌==◌, ◌&&◌, Bool, List, find, Option, Some, None, IsOk, Result, Ok, if◌then◌else◌}
+use Rattle.std.specs.Prelude.{ℕ, ℤ, pos, ◌-◌, ◌==◌, ◌&&◌, Bool, List, find, Option, Some, None, IsOk, Result, Ok, if◌then◌else◌}
 use Rattle.size_core.specs.declared.fault.BadFile.{BadFile}
 use Rattle.size_core.specs.declared.fault.Fault.TheVariants.{OffsetOutside}
 use Rattle.size_core.specs.Checks.{◌>>=◌, bad}
@@ -91,8 +91,3 @@ table_at section offset place = table_in (inside section offset) place
 -- The first declaration with this code (DWARF 5, section 7.5.3).
 abbrev pub declared : List Declaration → ℕ → Option Declaration
 declared declarations code = find (λ d. d.code == code) declarations
-
--- A cached declaration is the first one with its code.
-abbrev pub IsKept : List Declaration → Option Declaration → Type 0
-IsKept declarations None = Unit {0}
-IsKept declarations (Some d) = declared declarations d.code ≡ Some d

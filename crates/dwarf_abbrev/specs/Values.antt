@@ -1,5 +1,5 @@
 -- The values of attributes (DWARF 5, sections 7.5.5 and 7.5.6).
-use Rattle.std.specs.Prelude.{ℕ, ℤ, List, Option, Some, None, Result, Ok}
+use Rattle.std.specs.Prelude.{◌≡◌, ◌≤◌, ℕ, ℤ, List, length, Option, Some, None, Result, Ok}
 use Rattle.std.specs.Option.{option_map}
 use Rattle.size_core.specs.declared.fault.BadFile.{BadFile}
 use Rattle.size_core.specs.declared.fault.Fault.TheVariants.{UnknownForm}
@@ -112,3 +112,7 @@ unfoldable pub value_from : UnitShape → Spec → Window → Result (ValueRecor
 value_from s spec w = faults_at (place_of w) do
   content ← content_by s spec.constant (layout_of_number s spec.form) w
   Ok (record { place = place_of w; content = content.0 }, content.1)
+
+-- A value of this attribute takes no bytes: reading one has no fault, and the window after it is the same.
+abbrev pub TakesNoBytes : Spec → Type 0
+TakesNoBytes spec = (shape : UnitShape) (w : Window) → w.at ≤ length w.bytes → (v : ValueRecord) × (value_from shape spec w ≡ Ok (v, w))

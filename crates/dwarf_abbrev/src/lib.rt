@@ -4,6 +4,7 @@
 
 mod constants;
 mod declaration;
+mod entries;
 mod entry;
 mod form;
 mod laws;
@@ -14,6 +15,7 @@ mod spec;
 mod table;
 mod value;
 
+pub use entries::Entries;
 pub use entry::Entry;
 pub use laws::{one_after_another, standard_numbers};
 pub use length::{InitialLength, initial_length};

@@ -6,6 +6,7 @@ ghost use Rattle.dwarf_abbrev.specs.Listing.{Reaches, left};
 ghost use Rattle.dwarf_abbrev.specs.Declarations.{IsWhole, declarations_from, declared, table_at};
 
 use crate::declaration::{head_from, pass_specs};
+use crate::entries::Entries;
 use crate::entry::Entry;
 use crate::reads::inside;
 use byte_cursor::Cursor;
@@ -28,19 +29,17 @@ fn pass_declarations(cursor: &mut Cursor) -> Result<(), BadFile>
 pub struct Abbrevs<'a> {
     cursor: Cursor<'a>,
     len: u64,
-    // The declaration that `entry_kept` found last.
-    last: Option<Entry<'a>>,
 }
 
 impl<'a> Model for Abbrevs<'a> {
     ghost use Rattle.byte_cursor.specs.Window.{place_of};
-    ghost use Rattle.dwarf_abbrev.specs.Declarations.{IsKept, IsWhole, Table, declarations_from};
+    ghost use Rattle.dwarf_abbrev.specs.Declarations.{IsWhole, Table, declarations_from};
 
     ghost Value = { Table };
 
     ghost view = { λ a. record { place = place_of a.cursor; len = a.len; declarations = (declarations_from a.cursor).items } };
 
-    ghost invariant = { λ a. IsWhole a.cursor × IsKept (declarations_from a.cursor).items a.last };
+    ghost invariant = { λ a. IsWhole a.cursor };
 }
 
 impl<'a> Abbrevs<'a> {
@@ -62,35 +61,26 @@ impl<'a> Abbrevs<'a> {
         let mut end = cursor.fork();
         pass_declarations(&mut end)?;
         let len = cursor.left() - end.left();
-        Ok(Abbrevs {
-            cursor,
-            len,
-            last: None,
-        })
+        Ok(Abbrevs { cursor, len })
+    }
+
+    /// The declarations, in order.
+    pub fn entries(&self) -> Entries<'a>
+        ensures { result ≡ self.now.declarations }
+    {
+        Entries::new(self.cursor.fork())
     }
 
     /// The first declaration with this code.
     pub fn entry(&self, code: u64) -> Option<Entry<'a>>
         ensures { result ≡ declared self.now.declarations code }
     {
-        find_entry(&self.cursor, code)
-    }
-
-    /// The first declaration with this code. The table caches the result: the next call with the same code
-    /// doesn't search again.
-    #[tactic(auto, using(crate::proofs::Tables::is_kept))]
-    pub fn entry_kept(&mut self, code: u64) -> Option<Entry<'a>>
-        ensures found { result ≡ declared self.old.declarations code }
-        ensures same { self.new ≡ self.old }
-    {
-        if let Some(last) = &self.last
-            && last.code() == code
-        {
-            return Some(last.fork());
+        for entry in self.entries() {
+            if entry.code() == code {
+                return Some(entry);
+            }
         }
-        let found = self.entry(code)?;
-        self.last = Some(found.fork());
-        Some(found)
+        None
     }
 
     /// The file offset of the table's first byte.
@@ -106,22 +96,4 @@ impl<'a> Abbrevs<'a> {
     {
         self.len
     }
-}
-
-/// The first declaration with this code at or after the cursor.
-#[tactic(auto, using(crate::proofs::Tables::declarations_more, crate::proofs::Tables::declarations_cut, crate::proofs::Tables::declarations_done, crate::proofs::Tables::declarations_bad, crate::proofs::Tables::declaration_less, crate::proofs::Tables::first_is, crate::proofs::Tables::rest_is_whole))]
-fn find_entry<'a>(table: &Cursor<'a>, code: u64) -> Option<Entry<'a>>
-    requires { IsWhole table.now }
-    ensures { result ≡ declared (declarations_from table.now).items code }
-{
-    let mut cursor = table.fork();
-    while let Ok(Some(head)) = head_from(&mut cursor) {
-        if head.code == code {
-            return Some(Entry::new(head, cursor));
-        }
-        if pass_specs(&mut cursor).is_err() {
-            return None;
-        }
-    }
-    None
 }

@@ -1,4 +1,4 @@
--- The units of `.debug_info` stand one behind the other.
+-- Each unit of `.debug_info` begins after the units before it.
 use Rattle.std.proofs.Common.{◌≡◌, ℕ, zero, suc, ◌+◌, ◌-◌, ◌<◌, ◌≤◌, ◌==◌, Bool, true, false, List, [], ◌∷◌, ◌++◌, Option, Some, None, Result, Ok, Err, refl, arith}
 use Rattle.std.specs.Prelude.{length, nat_le, nat_lt, not, if◌then◌else◌}
 use Rattle.std.specs.Int.{Width, byte_len, w16, w32, w64}
@@ -22,7 +22,7 @@ use Rattle.dwarf_units.specs.Units.{contents_from, handed_out, header_from, head
 use Rattle.dwarf_claims.specs.SetClaims.{labels_of}
 use Rattle.dwarf_claims.specs.Tables.{Ascends}
 
--- what is read has a property
+-- a value that is read has a property
 Every : {X : Type 0} → (X → Type 0) → Result X BadFile → Type 0
 Every P (Ok x) = P x
 Every P (Err e) = Unit {0}
@@ -37,17 +37,17 @@ unfolding Every
 bind_some Q P (Ok x) f q h = h x q
 bind_some Q P (Err e) f q h = tt
 
-behind_every : {B : Type 0} (P : B → Type 0) (c : Check) (r : Result B BadFile) → Every P r → Every P (c >> r)
+after_check_every : {B : Type 0} (P : B → Type 0) (c : Check) (r : Result B BadFile) → Every P r → Every P (c >> r)
 unfolding Every
-behind_every P (Ok x) r h = h
-behind_every P (Err e) r h = tt
+after_check_every P (Ok x) r h = h
+after_check_every P (Err e) r h = tt
 
 faults_every : {X : Type 0} (P : X → Type 0) (place : ℕ) (r : Result X BadFile) → Every P r → Every P (faults_at place r)
 unfolding Every
 faults_every P place (Ok x) h = h
 faults_every P place (Err e) h = tt
 
--- what is read ends behind a place
+-- a value that is read ends after a file offset
 abbrev IsPast : (X : Type 0) → ℕ → X × Window → Type 0
 IsPast X place x = place < place_of x.1
 
@@ -55,9 +55,9 @@ num_past : (width : Width) (order : Order) (w : Window) → 0 < byte_len width �
 unfolding num_from Every
 num_past width order w some = bind_every (IsPast ℕ (place_of w)) (whole (num w.bytes w.at width order) (place_of w)) (λ n. Ok (n, moved w true (byte_len width))) (λ n. omega arith)
 
-behind_past : (order : Order) (place : ℕ) (first : ℕ × Window) → place < place_of first.1 → Every (IsPast InitialLength place) (rest_of_length order first)
+rest_past : (order : Order) (place : ℕ) (first : ℕ × Window) → place < place_of first.1 → Every (IsPast InitialLength place) (rest_of_length order first)
 unfolding Every
-behind_past order place first past = by_width (first.0 == WIDE_LENGTH)
+rest_past order place first past = by_width (first.0 == WIDE_LENGTH)
   where
     by_width : (b : Bool) → Every (IsPast InitialLength place) (if b then num_from w64 order first.1 >>= (λ n. Ok (record { len = n.0; wide = true }, n.1)) else Ok (record { len = first.0; wide = false }, first.1))
     by_width true = bind_some (IsPast ℕ (place_of first.1)) (IsPast InitialLength place) (num_from w64 order first.1) _ (num_past w64 order first.1 (omega arith)) (λ n more. omega (arith, past, more))
@@ -67,49 +67,49 @@ length_past : (order : Order) (w : Window) → Every (IsPast InitialLength (plac
 unfolding initial_length_from checked_length Every
 length_past order w = faults_every (IsPast InitialLength (place_of w)) (place_of w) (checked_length order w)
     (bind_some (IsPast ℕ (place_of w)) (IsPast InitialLength (place_of w)) (num_from w32 order w) _ (num_past w32 order w (omega arith)) (λ first past.
-    behind_every (IsPast InitialLength (place_of w)) (demand (not (is_reserved first.0)) BadUnit (place_of w)) _ (
-    bind_some (IsPast InitialLength (place_of w)) (IsPast InitialLength (place_of w)) (rest_of_length order first) _ (behind_past order (place_of w) first past) (λ initial more.
-    behind_every (IsPast InitialLength (place_of w)) (demand (nat_le (initial.1.at + initial.0.len) (length initial.1.bytes)) BadUnit (place_of w)) (Ok initial) more))))
+    after_check_every (IsPast InitialLength (place_of w)) (demand (not (is_reserved first.0)) BadUnit (place_of w)) _ (
+    bind_some (IsPast InitialLength (place_of w)) (IsPast InitialLength (place_of w)) (rest_of_length order first) _ (rest_past order (place_of w) first past) (λ initial more.
+    after_check_every (IsPast InitialLength (place_of w)) (demand (nat_le (initial.1.at + initial.0.len) (length initial.1.bytes)) BadUnit (place_of w)) (Ok initial) more))))
 
 contents_past : (place len : ℕ) (w : Window) → place < place_of w → Every (IsPast Window place) (contents_from len w)
 unfolding contents_from Every
 contents_past place len w past = bind_every (IsPast Window place) (sub_window w w.at len) (λ contents. Ok (contents, moved w true len)) (λ contents. omega (arith, past))
 
--- a unit stands at this offset
-abbrev StandsAt : ℕ → Option DwarfUnit → Type 0
-StandsAt n None = Unit {0}
-StandsAt n (Some u) = u.offset ≡ n
+-- a unit has this offset in `.debug_info`
+abbrev HasOffset : ℕ → Option DwarfUnit → Type 0
+HasOffset n None = Unit {0}
+HasOffset n (Some u) = u.offset ≡ n
 
-headed_stands : (order : Order) (p : Position) (version : ℕ) (header : Option Header) (body : Window) → Every (StandsAt p.offset) (headed order p version header body)
+unit_with_has_offset : (order : Order) (p : Position) (version : ℕ) (header : Option Header) (body : Window) → Every (HasOffset p.offset) (headed order p version header body)
 unfolding Every
-headed_stands order p version None body = tt
-headed_stands order p version (Some h) body = behind_every (StandsAt p.offset) (demand (is_address_size h.address) BadUnit p.place) (Ok (Some (unit_of order p version h body))) refl
+unit_with_has_offset order p version None body = tt
+unit_with_has_offset order p version (Some h) body = after_check_every (HasOffset p.offset) (demand (is_address_size h.address) BadUnit p.place) (Ok (Some (unit_of order p version h body))) refl
 
-versioned_stands : (order : Order) (p : Position) (version : ℕ) (w : Window) → Every (StandsAt p.offset) (versioned order p version w)
+unit_of_version_has_offset : (order : Order) (p : Position) (version : ℕ) (w : Window) → Every (HasOffset p.offset) (versioned order p version w)
 unfolding versioned Every
-versioned_stands order p version w = by_version (is_version version)
+unit_of_version_has_offset order p version w = by_version (is_version version)
   where
-    by_version : (b : Bool) → Every (StandsAt p.offset) (if b then or_bad_unit p.place (header_from order p.wide version w) >>= (λ header. headed order p version header.0 header.1) else Ok None)
-    by_version true = bind_every (StandsAt p.offset) (or_bad_unit p.place (header_from order p.wide version w)) _ (λ header. headed_stands order p version header.0 header.1)
+    by_version : (b : Bool) → Every (HasOffset p.offset) (if b then or_bad_unit p.place (header_from order p.wide version w) >>= (λ header. headed order p version header.0 header.1) else Ok None)
+    by_version true = bind_every (HasOffset p.offset) (or_bad_unit p.place (header_from order p.wide version w)) _ (λ header. unit_with_has_offset order p version header.0 header.1)
     by_version false = tt
 
-unit_in_stands : (order : Order) (p : Position) (w : Window) → Every (StandsAt p.offset) (unit_in order p w)
+unit_in_has_offset : (order : Order) (p : Position) (w : Window) → Every (HasOffset p.offset) (unit_in order p w)
 unfolding unit_in Every
-unit_in_stands order p w = by_len (nat_lt (left w) 2)
+unit_in_has_offset order p w = by_len (nat_lt (left w) 2)
   where
-    by_len : (b : Bool) → Every (StandsAt p.offset) (if b then Ok None else num_from w16 order w >>= (λ version. versioned order p version.0 version.1))
+    by_len : (b : Bool) → Every (HasOffset p.offset) (if b then Ok None else num_from w16 order w >>= (λ version. versioned order p version.0 version.1))
     by_len true = tt
-    by_len false = bind_every (StandsAt p.offset) (num_from w16 order w) _ (λ version. versioned_stands order p version.0 version.1)
+    by_len false = bind_every (HasOffset p.offset) (num_from w16 order w) _ (λ version. unit_of_version_has_offset order p version.0 version.1)
 
--- a unit at a window's place, and the window behind it
+-- a unit at the beginning of a window, and the window after it
 abbrev IsNext : ℕ → Window → Option DwarfUnit × Window → Type 0
-IsNext start w x = StandsAt (place_of w - start) x.0 × (place_of w < place_of x.1)
+IsNext start w x = HasOffset (place_of w - start) x.0 × (place_of w < place_of x.1)
 
 unit_next : (order : Order) (start : ℕ) (w : Window) → Every (IsNext start w) (unit_from order start w)
 unfolding unit_from Every
 unit_next order start w = bind_some (IsPast InitialLength (place_of w)) (IsNext start w) (initial_length_from order w) _ (length_past order w) (λ initial past.
     bind_some (IsPast Window (place_of w)) (IsNext start w) (contents_from initial.0.len initial.1) _ (contents_past (place_of w) initial.0.len initial.1 past) (λ contents more.
-    bind_some (StandsAt (place_of w - start)) (IsNext start w) (unit_in order (position_of start w initial.0 contents.0) contents.0) (λ unit. Ok (unit, contents.1)) (unit_in_stands order (position_of start w initial.0 contents.0) contents.0) (λ unit stands. (stands, more))))
+    bind_some (HasOffset (place_of w - start)) (IsNext start w) (unit_in order (position_of start w initial.0 contents.0) contents.0) (λ unit. Ok (unit, contents.1)) (unit_in_has_offset order (position_of start w initial.0 contents.0) contents.0) (λ unit offset. (offset, more))))
 
 abbrev IsNextRecord : ℕ → Window → Option (Option DwarfUnit) × Window → Type 0
 IsNextRecord start w (None, next) = Unit {0}
@@ -126,7 +126,7 @@ record_next order start w = by_end (left w == 0)
     by_end true = tt
     by_end false = bind_some (IsNext start w) (IsNextRecord start w) (unit_from order start w) (λ unit. Ok (Some unit.0, unit.1)) (unit_next order start w) (λ unit next. next)
 
--- each unit of these stands behind those before it, and none before this offset
+-- each of these units begins after the units before it, and none begins before this offset
 abbrev ItemsAscend : ℕ → List (Option DwarfUnit) → Type 0
 ItemsAscend n [] = Unit {0}
 ItemsAscend n (None ∷ us) = ItemsAscend n us

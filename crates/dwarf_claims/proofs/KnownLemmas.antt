@@ -18,7 +18,7 @@ use Rattle.dwarf_claims.specs.Tables.{AreKnownUnits, Ascends, shown_unit, shown_
 abbrev Labels : Type 0
 Labels = List (ℕ × List ℕ)
 
--- no unit stands before the first offset
+-- no unit has an offset below the first one
 above : (n : ℕ) (units : Labels) (k : ℕ) (d : ℕ × List ℕ) → Ascends n units → k < length units → n ≤ (get_or units k d).0
 above n [] k d up lt = absurd (omega arith)
 above n (u ∷ us) zero d up lt = up.0

@@ -1,4 +1,5 @@
 pub mod Ascending
+pub mod IndexLemmas
 pub mod KnownLemmas
 pub mod KnownRowLemmas
 pub mod LabelLemmas

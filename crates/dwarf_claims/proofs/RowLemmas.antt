@@ -15,7 +15,7 @@ use Rattle.dwarf_lines.specs.Header.{LineHeader}
 use Rattle.dwarf_ranges.specs.Claims.{claims_nothing}
 use Rattle.dwarf_claims.specs.declared.row.Before.{Before}
 use Rattle.dwarf_claims.specs.LineClaims.{in_front, pair_claim, pair_claims, rows_claims, sequence_claims, sequences_of, whole_rows}
-use Rattle.dwarf_claims.specs.RowSteps.{behind, claim_before, claims_from}
+use Rattle.dwarf_claims.specs.RowSteps.{claim_before, claims_from, previous_of_next}
 
 module _ (h : LineHeader) (size : ℕ) where
   abbrev all : List (List LineRow) → List LabelledClaim
@@ -24,9 +24,9 @@ module _ (h : LineHeader) (size : ℕ) where
   -- the same claims without the fault
   abbrev steps : Option Before → List LineRow → List LabelledClaim
   steps before [] = []
-  steps before (row ∷ rows) = claim_before h before row ++ steps (behind size before row) rows
+  steps before (row ∷ rows) = claim_before h before row ++ steps (previous_of_next size before row) rows
 
-  -- the claims of sequences whose first goes on behind a row
+  -- the claims of sequences, of which the first continues after a row
   abbrev continued : LineRow → Bool → List (List LineRow) → List LabelledClaim
   continued row claims [] = []
   continued row claims (rows ∷ sequences) = (if claims then pair_claims h row rows else []) ++ all sequences
@@ -43,7 +43,7 @@ module _ (h : LineHeader) (size : ℕ) where
   pairs_end true row next zs = rw (append-nil (pair_claim h row next)) refl
   pairs_end false row next zs = refl
 
-  -- a row behind another, before the sequences of the rows that follow
+  -- two rows, and then the sequences of the rows after them
   step_front : (c : Bool) (row next : LineRow) (sequences : List (List LineRow)) → (if c then pair_claim h row next else []) ++ continued next c sequences ≡ continued row c (in_front next sequences)
   unfolding pair_claims
   step_front true row next [] = sym (append-nil (pair_claim h row next ++ []))
@@ -93,9 +93,9 @@ module _ (h : LineHeader) (size : ℕ) where
   with_faults : (before : Option Before) (rows : List (Result LineRow BadFile)) → claims_from h size before rows ≡ (whole_rows rows >>= λ more. Ok (steps before more))
   unfolding claims_from whole_rows joined
   with_faults before [] = refl
-  with_faults before (Ok row ∷ rows) = rw (with_faults (behind size before row) rows) (by_rest (whole_rows rows))
+  with_faults before (Ok row ∷ rows) = rw (with_faults (previous_of_next size before row) rows) (by_rest (whole_rows rows))
     where
-      by_rest : (r : Result (List LineRow) BadFile) → joined (Ok (claim_before h before row)) (r >>= λ more. Ok (steps (behind size before row) more)) ≡ ((r >>= λ more. Ok (row ∷ more)) >>= λ more. Ok (steps before more))
+      by_rest : (r : Result (List LineRow) BadFile) → joined (Ok (claim_before h before row)) (r >>= λ more. Ok (steps (previous_of_next size before row) more)) ≡ ((r >>= λ more. Ok (row ∷ more)) >>= λ more. Ok (steps before more))
       by_rest (Ok more) = refl
       by_rest (Err e) = refl
   with_faults before (Err e ∷ rows) = refl
@@ -110,13 +110,13 @@ module _ (h : LineHeader) (size : ℕ) where
 
   -- the loop over the rows
   pub goes_on : (s t : Sheet) (before : Option Before) (row : LineRow) (rows : List (Result LineRow BadFile)) → t ≡ adding s (claim_before h before row)
-      → adding_read t (claims_from h size (behind size before row) rows) ≡ adding_read s (claims_from h size before (Ok row ∷ rows))
+      → adding_read t (claims_from h size (previous_of_next size before row) rows) ≡ adding_read s (claims_from h size before (Ok row ∷ rows))
   unfolding claims_from
-  goes_on s t before row rows e = sym (read_joined s t (Ok (claim_before h before row)) (claims_from h size (behind size before row) rows) (ap (λ (u : Sheet). Ok u) (sym e)))
+  goes_on s t before row rows e = sym (read_joined s t (Ok (claim_before h before row)) (claims_from h size (previous_of_next size before row) rows) (ap (λ (u : Sheet). Ok u) (sym e)))
 
   -- the same, if the row was read
   pub passes : (s t : Sheet) (before next : Option Before) (row : Result LineRow BadFile) (rows items : List (Result LineRow BadFile)) → items ≡ row ∷ rows
-      → IsOkAnd row (λ r. (t ≡ adding s (claim_before h before r)) × (next ≡ behind size before r)) → adding_read t (claims_from h size next rows) ≡ adding_read s (claims_from h size before items)
+      → IsOkAnd row (λ r. (t ≡ adding s (claim_before h before r)) × (next ≡ previous_of_next size before r)) → adding_read t (claims_from h size next rows) ≡ adding_read s (claims_from h size before items)
   passes s t before next (Ok row) rows items is made = rw (is, made.1) (goes_on s t before row rows made.0)
   passes s t before next (Err e) rows items is made = absurd made
 

@@ -7,7 +7,7 @@ use Rattle.dwarf_units.specs.declared.sections.Sections.{Sections}
 use Rattle.dwarf_units.specs.declared.unit.DwarfUnit.{DwarfUnit}
 use Rattle.dwarf_units.specs.Roots.{root_in, root_of}
 
--- the place of a fault doesn't matter if there is none
+-- if there is no fault, the offset for faults doesn't matter
 pub same_table : (w : Window) (offset p q : ℕ) (t : Table) → table_at w offset p ≡ Ok t → table_at w offset q ≡ Ok t
 unfolding table_at
 same_table w offset p q t is = by_window (inside w offset) is

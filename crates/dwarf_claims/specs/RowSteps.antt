@@ -23,18 +23,18 @@ claim_before h (Some before) row = if before.claims then pair_claim h before.row
 
 -- The sequence of a row makes claims: it starts neither at 0 nor at one of the two greatest addresses, where linkers
 -- leave the lines of dropped functions.
-abbrev pub goes : ℕ → Option Before → LineRow → Bool
-goes size None row = not (claims_nothing size row.address 1)
-goes size (Some before) row = before.claims
+abbrev pub makes_claims : ℕ → Option Before → LineRow → Bool
+makes_claims size None row = not (claims_nothing size row.address 1)
+makes_claims size (Some before) row = before.claims
 
 -- The previous row of the next row: this one, unless it ends its sequence.
-abbrev pub behind : ℕ → Option Before → LineRow → Option Before
-behind size before row = if row.end then None else Some (record { row = row; claims = goes size before row })
+abbrev pub previous_of_next : ℕ → Option Before → LineRow → Option Before
+previous_of_next size before row = if row.end then None else Some (record { row = row; claims = makes_claims size before row })
 
 -- The claims of these rows after a previous row, or the fault among them.
 unfoldable pub claims_from : LineHeader → ℕ → Option Before → List (Result LineRow BadFile) → Reading
 claims_from h size before [] = Ok []
-claims_from h size before (Ok row ∷ rows) = joined (Ok (claim_before h before row)) (claims_from h size (behind size before row) rows)
+claims_from h size before (Ok row ∷ rows) = joined (Ok (claim_before h before row)) (claims_from h size (previous_of_next size before row) rows)
 claims_from h size before (Err e ∷ rows) = Err e
 
 -- The label of a file and a line: the path of the file, a colon and the line.

@@ -1,10 +1,11 @@
 -- What is kept while units are read, and that it is the same as if it were read again.
-use Rattle.std.specs.Prelude.{◌≡◌, ℕ, ◌+◌, ◌≤◌, All, List, [], ◌∷◌, map, Option, None, Some, Ok}
+use Rattle.std.specs.Prelude.{◌≡◌, ℕ, ◌+◌, ◌≤◌, All, List, [], ◌∷◌, map, Option, None, Some, Ok, IfSome}
 use Rattle.size_model.specs.declared.view.LabelledClaim.{LabelledClaim}
 use Rattle.claim_sheet.specs.Known.{AreAdded, IsKnown}
 use Rattle.claim_sheet.specs.Sheets.{Sheet}
 use Rattle.dwarf_abbrev.specs.Declarations.{table_at}
 use Rattle.dwarf_units.specs.declared.sections.Sections.{Sections}
+use Rattle.dwarf_units.specs.Filling.{IsIndexOf}
 use Rattle.dwarf_claims.specs.declared.last_program.LastProgram.{LastProgram}
 use Rattle.dwarf_claims.specs.declared.lines.LastRead.{LastRead}
 use Rattle.dwarf_claims.specs.declared.table.LastTable.{LastTable}
@@ -15,10 +16,19 @@ use Rattle.dwarf_claims.specs.KnownRanges.{AreRangesOf}
 use Rattle.dwarf_claims.specs.KnownLabels.{IsLabelOf}
 use Rattle.dwarf_claims.specs.LineClaims.{reading_at}
 
--- The kept table of abbreviations is the one at its offset in `.debug_abbrev`.
+-- The index of a table, if it has one, is of its declarations.
+abbrev pub HasIndex : LastTable → Type 0
+HasIndex t = IfSome t.index (λ index. IsIndexOf t.table.declarations index)
+
+-- A table of abbreviations is the one at its offset in `.debug_abbrev`.
+pub record IsReadTable (s : Sections) (t : LastTable) : Type 0 where
+  pub table : (place : ℕ) → table_at s.abbrev t.offset place ≡ Ok t.table
+  pub index : HasIndex t
+
+-- The same, if a table is kept.
 abbrev pub IsTableOf : Sections → Option LastTable → Type 0
 IsTableOf s None = Unit {0}
-IsTableOf s (Some t) = (place : ℕ) → table_at s.abbrev t.offset place ≡ Ok t.table
+IsTableOf s (Some t) = IsReadTable s t
 
 -- Both kept tables are those at their offsets.
 abbrev pub AreTablesOf : Sections → LastTables → Type 0

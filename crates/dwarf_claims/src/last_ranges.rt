@@ -4,7 +4,7 @@ ghost use Rattle.std.specs.Prelude.{◌≡◌, true, Ok, Err, IfOk, OnOk, IsErrO
 ghost use Rattle.size_core.specs.declared.fault.BadFile.{BadFile as BadFileSpec};
 ghost use Rattle.dwarf_ranges.specs.Ranges.{ranges_of};
 ghost use Rattle.dwarf_units.specs.Roots.{shown_root};
-ghost use Rattle.dwarf_claims.specs.KnownRanges.{AreRangesOf, AreSameKeys};
+ghost use Rattle.dwarf_claims.specs.KnownRanges.{AreRangesOf, AreSameKeys, HaveSameRanges, IsHollowBy};
 
 use claim_sheet::Stop;
 use dwarf_ranges::{RangeAnswer, RangeKey, range_key, unit_ranges};
@@ -16,15 +16,42 @@ use std::alloc::Global;
 pub struct LastRanges {
     pub key: Option<RangeKey>,
     pub ranges: Vec<(u64, u64)>,
+    /// Whether the list is known to have no ranges, whatever the first address of a unit is.
+    pub is_hollow: bool,
 }
 
-// Returns whether there is a key and it is the same as the last one.
-fn is_last(last: Option<RangeKey>, key: Option<RangeKey>) -> bool
-    ensures { result ≡ true → AreSameKeys last key }
+// Returns whether units with these keys have the same ranges. `is_hollow` is whether the list of the last key is known
+// to have no ranges.
+fn have_same_ranges(is_hollow: bool, last: &RangeKey, key: &RangeKey) -> bool
+    ensures { result ≡ true → HaveSameRanges is_hollow last.now key.now }
+{
+    if is_hollow {
+        last.is_list_of(key)
+    } else {
+        last.is_same(key)
+    }
+}
+
+// Returns whether there is a key and the last ranges are those of this key.
+fn is_last(is_hollow: bool, last: Option<RangeKey>, key: Option<RangeKey>) -> bool
+    ensures { result ≡ true → AreSameKeys is_hollow last key }
 {
     match (last, key) {
-        (Some(last), Some(key)) => last.is_same(&key),
+        (Some(last), Some(key)) => have_same_ranges(is_hollow, &last, &key),
         _ => false,
+    }
+}
+
+// Returns whether the list of a key is known to have no ranges. The list is read only if the unit has no ranges.
+fn is_hollow(sections: &Sections<'_>, key: Option<RangeKey>, ranges: &[(u64, u64)]) -> bool
+    ensures { IsHollowBy sections.now result key }
+{
+    if !ranges.is_empty() {
+        return false;
+    }
+    match key {
+        Some(key) => key.is_hollow(sections),
+        None => false,
     }
 }
 
@@ -47,7 +74,8 @@ fn ranges_of(
 }
 
 /// Makes the last ranges those of a unit, without those that claim nothing. A list that the unit before named is read
-/// again only if the unit differs in what the ranges depend on. Bad is the first fault of the ranges.
+/// again only if the unit differs in what the ranges depend on. A list without ranges doesn't depend on the unit's first
+/// address. Bad is the first fault of the ranges.
 #[tactic(auto, using(crate::proofs::RangeLemmas::known_again, crate::proofs::RangeLemmas::known_new))]
 pub fn read_ranges(
     alloc: Global,
@@ -63,10 +91,15 @@ pub fn read_ranges(
     ensures last { AreRangesOf sections.now last.new }
 {
     let key = range_key(root, sections);
-    if is_last(last.key, key) {
+    if is_last(last.is_hollow, last.key, key) {
         return Ok(());
     }
     let ranges = ranges_of(alloc, sections, root)?;
-    *last = LastRanges { key, ranges };
+    let is_hollow = is_hollow(sections, key, &ranges);
+    *last = LastRanges {
+        key,
+        ranges,
+        is_hollow,
+    };
     Ok(())
 }

@@ -2,6 +2,7 @@
 //! of `.debug_aranges`, and those of the source lines of `.debug_line`. It knows debug sections and no file format.
 #![tactic(auto)]
 
+mod index;
 mod known;
 mod known_rows;
 mod label;

@@ -33,7 +33,7 @@ fn add_unit_lines<'a>(
     ensures last { OnOk result (IsReadOf sections.now sheet.new last.new) }
 {
     let unit = unit?;
-    let root = root_of(sections, &unit, &mut last.tables)?;
+    let root = root_of(alloc, sections, &unit, &mut last.tables)?;
     add_program(alloc, sections, &root, &mut last.program, sheet)
 }
 

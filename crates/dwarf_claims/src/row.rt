@@ -6,7 +6,7 @@ ghost use Rattle.claim_sheet.specs.Adds.{Adds, AddsRead};
 ghost use Rattle.claim_sheet.specs.Sheets.{adding};
 ghost use Rattle.dwarf_lines.specs.Rows.{line_rows};
 ghost use Rattle.dwarf_claims.specs.LineClaims.{pair_claim, rows_claims};
-ghost use Rattle.dwarf_claims.specs.RowSteps.{AreRowLabels, behind, claim_before, goes};
+ghost use Rattle.dwarf_claims.specs.RowSteps.{AreRowLabels, claim_before, makes_claims, previous_of_next};
 
 use crate::row_labels::RowLabels;
 use claim_sheet::{ClaimSheet, Reach, Stop, span};
@@ -23,7 +23,7 @@ pub struct Before {
 }
 
 fn is_claimed(size: u8, before: Option<Before>, row: &LineRow) -> bool
-    ensures { result ≡ goes size before row.now }
+    ensures { result ≡ makes_claims size before row.now }
 {
     match before {
         Some(before) => before.claims,
@@ -32,7 +32,7 @@ fn is_claimed(size: u8, before: Option<Before>, row: &LineRow) -> bool
 }
 
 fn before_next(size: u8, before: Option<Before>, row: LineRow) -> Option<Before>
-    ensures { result ≡ behind size before row }
+    ensures { result ≡ previous_of_next size before row }
 {
     if row.end {
         return None;
@@ -92,7 +92,7 @@ fn add_row(
     requires { AreRowLabels sheet.old.made program.now labels.old }
     ensures made { IfOk result (λ next. IsOkAnd row (λ r.
         (sheet.new ≡ adding sheet.old (claim_before program.now before r))
-        × (next ≡ behind size before r))) }
+        × (next ≡ previous_of_next size before r))) }
     ensures bad { (bad : BadFileSpec) → IsErrOf result (Stop.Bad bad) → row ≡ Err bad }
     ensures labels { OnOk result (AreRowLabels sheet.new.made program.now labels.new) }
     ensures kept { sheet.new.pool ≡ sheet.old.pool }

@@ -132,7 +132,7 @@ pub fn add_unit<'a>(
     ensures known { IfOk result (λ l. IsKnown sheet.new.made l) }
     ensures last { OnOk result (IsUnitOf sections.now sheet.new last.new) }
 {
-    let root = root_of(sections, unit, &mut last.tables)?;
+    let root = root_of(alloc, sections, unit, &mut last.tables)?;
     let mut label = last.label.read(&root, sections)?;
     read_ranges(alloc, sections, &root, &mut last.ranges)?;
     let program = program_bytes(sections, program_of(&root))?;

@@ -78,6 +78,7 @@ fn add_each<'a>(
         ranges: LastRanges {
             key: None,
             ranges: Vec::new(alloc),
+            is_hollow: false,
         },
         label: LastLabel {
             name: None,

@@ -25,7 +25,7 @@ pub pass_out : (kind : TableKind) (n i : ℕ) (w : Window) → n ≤ i → passe
 unfolding plain_from passed_over
 pass_out kind n i w le = let k : n - i ≡ 0 = omega arith in rw k refl
 
--- A table that goes on.
+-- A table that has more entries.
 pub plain_more : (kind : TableKind) (n i : ℕ) (w next : Window) (x : Entry) → i < n → plain_entry kind w ≡ Ok (x, next) → nat_eq (length x.name) 0 ≡ false
     → plain_from kind (n - i) w ≡ before x (plain_from kind (n - (i + 1)) next)
 unfolding plain_from

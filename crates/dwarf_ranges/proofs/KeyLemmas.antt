@@ -45,7 +45,7 @@ entry_any read (Some v) p q n e = by_read (read v) e
     by_read (Ok x) e = e
     by_read (Err b) e = cc e
 
-list_any_place : (s : Sections) (shape : UnitShape) (base p q : ℕ) (name : ListName) (w : Window) → list_at s shape base p name ≡ Ok w → list_at s shape base q name ≡ Ok w
+pub list_any_place : (s : Sections) (shape : UnitShape) (base p q : ℕ) (name : ListName) (w : Window) → list_at s shape base p name ≡ Ok w → list_at s shape base q name ≡ Ok w
 unfolding list_at list_entry
 list_any_place s shape base p q (ListName.Offset n) w e = opened_any _ p q w e
 list_any_place s shape base p q (ListName.Index i) w e = by_entry (list_entry s shape.wide base i p) refl e

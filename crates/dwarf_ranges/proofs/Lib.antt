@@ -1,4 +1,5 @@
 pub mod ClaimLemmas
+pub mod HollowLemmas
 pub mod ItemLemmas
 pub mod KeyLemmas
 pub mod ListLemmas

@@ -1,5 +1,6 @@
 pub mod Claims
 pub mod Entries
+pub mod Hollow
 pub mod Keys
 pub mod Laws
 pub mod Lists

@@ -7,6 +7,7 @@ mod claims;
 mod constants;
 mod entry;
 mod header;
+mod hollow;
 mod item;
 mod laws;
 mod list;

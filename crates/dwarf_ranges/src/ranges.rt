@@ -3,12 +3,14 @@
 ghost use Rattle.std.specs.Prelude.{◌≡◌, true, Ok, IfErr, IfSome, OnErr, OnOk, MatchResult};
 ghost use Rattle.std.specs.Option.{option_to_list};
 ghost use Rattle.dwarf_units.specs.Roots.{shown_root, shown_value};
+ghost use Rattle.dwarf_ranges.specs.Hollow.{AreOneList, IsHollowKey};
 ghost use Rattle.dwarf_ranges.specs.Keys.{IsKeyOf};
 ghost use Rattle.dwarf_ranges.specs.Lists.{Refuses, appended};
 ghost use Rattle.dwarf_ranges.specs.Ranges.{high_of, list_ranges, one_range, range_to, ranges_of, signed_length, table_of, told_address, attribute_ranges};
 
 use crate::answer::RangeAnswer;
 use crate::claims::claims_nothing;
+use crate::hollow::is_hollow_list;
 use crate::list::list_of;
 use crate::list_location::{ListName, list_at, list_name, lists_header};
 use dwarf_abbrev::{Content, UnitShape, Value};
@@ -244,5 +246,27 @@ impl RangeKey {
         ensures { result ≡ true → self.now ≡ other.now }
     {
         self.name == other.name && self.context == other.context
+    }
+
+    /// Returns whether two keys name one list, which units of different bases may do.
+    pub fn is_list_of(&self, other: &RangeKey) -> bool
+        ensures { result ≡ true → AreOneList self.now other.now }
+    {
+        self.name == other.name
+            && self.context.lists == other.context.lists
+            && self.context.shape == other.context.shape
+    }
+
+    /// Returns whether the list has no fault and no range that claims something, whatever the first base and the
+    /// table of addresses are.
+    #[tactic(auto, using(crate::proofs::HollowLemmas::hollow_key))]
+    pub fn is_hollow(&self, sections: &Sections) -> bool
+        ensures { result ≡ true → IsHollowKey sections.now self.now }
+    {
+        let context = &self.context;
+        match list_at(sections, &context.shape, context.lists, 0, self.name) {
+            Ok(list) => is_hollow_list(sections, &context.shape, list),
+            Err(_) => false,
+        }
     }
 }

@@ -52,7 +52,7 @@ fn first_tuple<'a>(wide: bool, address: u8, contents: &Cursor<'a>) -> Cursor<'a>
     cursor
 }
 
-/// The set with this header and these contents. `None` if it is skipped.
+/// The set with this header and these contents, or `None` if the set is skipped (see `is_read`).
 fn set_with<'a>(
     order: Order,
     place: u64,

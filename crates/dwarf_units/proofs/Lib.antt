@@ -1,3 +1,4 @@
 pub mod KnownUnits
 pub mod RootLemmas
+pub mod SameRoots
 pub mod UnitLemmas

@@ -1,12 +1,20 @@
 -- A root while its values are read: the values known so far, and those that are still to come.
-use Rattle.std.specs.Prelude.{ℕ, ◌==◌, List, Option, Some, None, Result, Ok, if◌then◌else◌}
+use Rattle.std.specs.Prelude.{◌≡◌, ◌≤◌, ℕ, ◌==◌, List, length, Option, Some, None, Result, Ok, if◌then◌else◌}
+use Rattle.std.specs.BTreeMap.{BTreeMap, get}
+use Rattle.std.specs.Global.{Vec}
+use Rattle.std.specs.Option.{option_map}
+use Rattle.std.specs.Ordering.{nat_cmp}
 use Rattle.size_core.specs.declared.fault.BadFile.{BadFile}
 use Rattle.size_core.specs.Checks.{◌>>=◌}
 use Rattle.byte_cursor.specs.Window.{Window}
 use Rattle.dwarf_abbrev.specs.declared.shape.UnitShape.{UnitShape}
 use Rattle.dwarf_abbrev.specs.declared.spec.Spec.{Spec}
+use Rattle.dwarf_abbrev.specs.Declarations.{Declaration, declared}
+use Rattle.dwarf_abbrev.specs.Listing.{left}
+use Rattle.dwarf_abbrev.specs.Reads.{uleb_from}
 use Rattle.dwarf_abbrev.specs.Values.{ValueRecord}
 use Rattle.dwarf_units.specs.declared.constants.TheConstants.{DW_AT_NAME, DW_AT_STMT_LIST, DW_AT_LOW_PC, DW_AT_HIGH_PC, DW_AT_RANGES, DW_AT_STR_OFFSETS_BASE, DW_AT_ADDR_BASE, DW_AT_RNGLISTS_BASE}
+use Rattle.dwarf_units.specs.declared.unit.DwarfUnit.{DwarfUnit}
 use Rattle.dwarf_units.specs.Roots.{RootRecord, values_from, first_value}
 
 -- Of two values of an attribute the first one.
@@ -31,6 +39,10 @@ with_value attribute v r = record r {
   list_base = slot DW_AT_RNGLISTS_BASE attribute r.list_base v;
 }
 
+-- A value of this attribute changes no root.
+abbrev pub IsUnread : ℕ → Type 0
+IsUnread attribute = (v : ValueRecord) (r : RootRecord) → with_value attribute v r ≡ r
+
 -- The known value of an attribute, or else the first one in the list.
 abbrev pub known : Option ValueRecord → ℕ → List (ℕ × ValueRecord) → Option ValueRecord
 known None attribute vs = first_value attribute vs
@@ -52,3 +64,28 @@ filled r vs = record r {
 -- A root with the values that are still to be read, or the first fault among them.
 unfoldable pub filled_from : UnitShape → List Spec → Window → RootRecord → Result RootRecord BadFile
 filled_from shape specs w r = values_from shape specs w >>= λ vs. Ok (filled r vs)
+
+-- The code of a unit's root and the window of its values, or none if the root has no values.
+unfoldable pub root_code : DwarfUnit → Result (Option (ℕ × Window)) BadFile
+root_code unit =
+    if left unit.body == 0 then Ok None
+    else uleb_from unit.body >>= (λ code. if code.0 == 0 then Ok None else Ok (Some code))
+
+-- Two lists of attributes give the same roots: the same values of each attribute that a root has, or the same fault.
+abbrev pub GiveSameRoots : List Spec → List Spec → Type 0
+GiveSameRoots some all = (shape : UnitShape) (w : Window) (r : RootRecord) → w.at ≤ length w.bytes
+    → filled_from shape some w r ≡ filled_from shape all w r
+
+-- These attributes give the same roots as those of the declaration, if there is one.
+abbrev pub AreRootsOf : Option Declaration → Option (List Spec) → Type 0
+AreRootsOf None None = Unit {0}
+AreRootsOf (Some d) (Some specs) = GiveSameRoots specs d.specs
+AreRootsOf _ _ = ⊥
+
+-- The attributes that an index has for a code.
+abbrev pub specs_at : BTreeMap ℕ (Vec Spec) → ℕ → Option (List Spec)
+specs_at index code = option_map (λ v. v.items) (get nat_cmp index code)
+
+-- An index of declarations: for the code of each, attributes that give the same roots as its own.
+abbrev pub IsIndexOf : List Declaration → BTreeMap ℕ (Vec Spec) → Type 0
+IsIndexOf declarations index = (code : ℕ) → AreRootsOf (declared declarations code) (specs_at index code)

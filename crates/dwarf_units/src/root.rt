@@ -1,10 +1,10 @@
 //! The roots of units (DWARF 5, section 3.1).
 
-ghost use Rattle.std.specs.Prelude.{◌≡◌, IfSome};
+ghost use Rattle.std.specs.Prelude.{◌≡◌, false, IfSome};
 ghost use Rattle.std.specs.Option.{option_copied};
 ghost use Rattle.size_core.specs.Checks.{Gives};
 ghost use Rattle.dwarf_abbrev.specs.Values.{shown};
-ghost use Rattle.dwarf_units.specs.Filling.{earlier_value, with_value};
+ghost use Rattle.dwarf_units.specs.Filling.{IsUnread, earlier_value, with_value};
 ghost use Rattle.dwarf_units.specs.Roots.{IsNameAt, address_of, name_of, shown_root, shown_value};
 
 use crate::constants::{
@@ -70,6 +70,17 @@ pub fn add_value<'a>(root: &mut Root<'a>, attribute: u64, value: Value<'a>)
         DW_AT_ADDR_BASE => root.addr_base = earlier_value(root.addr_base, value),
         DW_AT_RNGLISTS_BASE => root.list_base = earlier_value(root.list_base, value),
         _ => {}
+    }
+}
+
+/// Whether a root has a value of this attribute.
+pub fn is_read(attribute: u64) -> bool
+    ensures { result ≡ false → IsUnread attribute }
+{
+    match attribute {
+        DW_AT_NAME | DW_AT_LOW_PC | DW_AT_HIGH_PC | DW_AT_RANGES | DW_AT_STMT_LIST => true,
+        DW_AT_STR_OFFSETS_BASE | DW_AT_ADDR_BASE | DW_AT_RNGLISTS_BASE => true,
+        _ => false,
     }
 }
 

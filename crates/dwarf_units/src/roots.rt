@@ -1,16 +1,18 @@
 //! Reading the root of a unit.
 
 ghost use Rattle.std.specs.Prelude.{◌≡◌, []};
-ghost use Rattle.size_core.specs.Checks.{Gives};
-ghost use Rattle.dwarf_units.specs.Filling.{filled_from};
+ghost use Rattle.size_core.specs.Checks.{Gives, bad};
+ghost use Rattle.size_core.specs.declared.fault.Fault.TheVariants.{BadAbbrev};
+ghost use Rattle.dwarf_units.specs.Filling.{IsIndexOf, filled_from, root_code};
 ghost use Rattle.dwarf_units.specs.Roots.{root_in, root_of, root_with, shown_root};
 
 use crate::root::{Root, add_value};
 use crate::sections::Sections;
 use crate::unit::DwarfUnit;
 use byte_cursor::Cursor;
-use dwarf_abbrev::{Abbrevs, Entry, UnitShape, read_form, uleb_from};
+use dwarf_abbrev::{Abbrevs, Entry, Spec, UnitShape, read_form, uleb_from};
 use size_core::{BadFile, Fault};
+use std::collections::BTreeMap;
 
 /// Reads the values of a declaration into the root. The cursor is at the first value.
 #[tactic(auto, using(crate::proofs::RootLemmas::filled_end, crate::proofs::RootLemmas::filled_more, crate::proofs::RootLemmas::filled_bad))]
@@ -25,6 +27,24 @@ fn read_values<'a>(
 {
     for spec in declared {
         let value = read_form(&mut cursor, &spec, shape)?;
+        add_value(&mut root, spec.attribute, value);
+    }
+    Ok(root)
+}
+
+/// Reads the values of these attributes into the root. The cursor is at the first value.
+#[tactic(auto, using(crate::proofs::RootLemmas::listed_end, crate::proofs::RootLemmas::listed_bad))]
+fn read_listed<'a>(
+    specs: &[Spec],
+    shape: &UnitShape,
+    mut cursor: Cursor<'a>,
+    mut root: Root<'a>,
+) -> Result<Root<'a>, BadFile>
+    ensures { Gives shown_root result
+        (filled_from shape.now specs.now cursor.entry (shown_root root.entry)) }
+{
+    for spec in specs {
+        let value = read_form(&mut cursor, spec, shape)?;
         add_value(&mut root, spec.attribute, value);
     }
     Ok(root)
@@ -51,34 +71,72 @@ fn bare_root<'a>(unit: &DwarfUnit<'a>, table: &Abbrevs<'a>) -> Root<'a>
     }
 }
 
+/// The code of the unit's root, and a cursor at the first value. `None` if the root has no values.
+#[tactic(auto, unfolding(crate::specs::Filling::root_code))]
+fn root_code<'a>(unit: &DwarfUnit<'a>) -> Result<Option<(u64, Cursor<'a>)>, BadFile>
+    ensures { result ≡ root_code unit.now }
+{
+    let mut cursor = unit.body.fork();
+    if cursor.left() == 0 {
+        return Ok(None);
+    }
+    let code = uleb_from(&mut cursor)?;
+    if code == 0 {
+        return Ok(None);
+    }
+    Ok(Some((code, cursor)))
+}
+
+/// The fault of a unit whose root has a code that isn't declared.
+fn undeclared<'a>(place: u64) -> Result<Root<'a>, BadFile>
+    ensures { Gives shown_root result (bad BadAbbrev place) }
+{
+    Err(BadFile {
+        fault: Fault::BadAbbrev,
+        offset: place,
+    })
+}
+
 impl<'a> DwarfUnit<'a> {
     /// The root of the unit, with the table of its abbreviations: `Abbrevs::at` of the unit's `abbrev_offset`.
-    /// Units that share a table need it read only once. The table caches the declaration that it found, so
-    /// roots with the same code don't search for it again.
+    /// Units that share a table need it read only once.
     ///
     /// The root has no values if its code is 0, or if no byte follows the header. Truncated or BadLeb at
     /// the code's file offset if the code can't be read. BadAbbrev at the unit's file offset if the table
     /// doesn't declare the code. After those comes the first fault of `read_form` among the values.
-    #[tactic(auto, unfolding(crate::specs::Roots::root_values, crate::specs::Filling::filled_from, crate::specs::Roots::first_value))]
-    pub fn root_in(&self, table: &mut Abbrevs<'a>) -> Result<Root<'a>, BadFile>
-        ensures root { Gives shown_root result (root_in table.old self.now) }
-        ensures same { table.new ≡ table.old }
+    #[tactic(auto, using(crate::proofs::RootLemmas::root_none, crate::proofs::RootLemmas::root_bad, crate::proofs::RootLemmas::root_undeclared, crate::proofs::RootLemmas::root_declared))]
+    pub fn root_in(&self, table: &Abbrevs<'a>) -> Result<Root<'a>, BadFile>
+        ensures { Gives shown_root result (root_in table.now self.now) }
     {
         let root = bare_root(self, table);
-        let mut cursor = self.body.fork();
-        if cursor.left() == 0 {
+        let Some((code, cursor)) = root_code(self)? else {
             return Ok(root);
-        }
-        let code = uleb_from(&mut cursor)?;
-        if code == 0 {
-            return Ok(root);
-        }
-        match table.entry_kept(code) {
+        };
+        match table.entry(code) {
             Some(declared) => read_values(declared, &self.shape, cursor, root),
-            None => Err(BadFile {
-                fault: Fault::BadAbbrev,
-                offset: self.place,
-            }),
+            None => undeclared(self.place),
+        }
+    }
+
+    /// The same root, by an index of the table. For each code that the table declares, the index has attributes that
+    /// give the same roots as all attributes of the declaration. So a root needs no search of the table, and no walk
+    /// over attributes that change nothing.
+    #[tactic(auto, using(crate::proofs::RootLemmas::root_none, crate::proofs::RootLemmas::root_bad, crate::proofs::RootLemmas::root_unlisted, crate::proofs::RootLemmas::root_listed))]
+    pub fn root_by(
+        &self,
+        table: &Abbrevs<'a>,
+        index: &BTreeMap<u64, Vec<Spec>>,
+    ) -> Result<Root<'a>, BadFile>
+        requires { IsIndexOf table.now.declarations index.now }
+        ensures { Gives shown_root result (root_in table.now self.now) }
+    {
+        let root = bare_root(self, table);
+        let Some((code, cursor)) = root_code(self)? else {
+            return Ok(root);
+        };
+        match index.get(&code) {
+            Some(specs) => read_listed(specs, &self.shape, cursor, root),
+            None => undeclared(self.place),
         }
     }
 
@@ -87,7 +145,7 @@ impl<'a> DwarfUnit<'a> {
     pub fn root(&self, sections: &Sections<'a>) -> Result<Root<'a>, BadFile>
         ensures { Gives shown_root result (root_of sections.now self.now) }
     {
-        let mut table = Abbrevs::at(&sections.abbrev, self.abbrev_offset, self.place)?;
-        self.root_in(&mut table)
+        let table = Abbrevs::at(&sections.abbrev, self.abbrev_offset, self.place)?;
+        self.root_in(&table)
     }
 }

@@ -1,2 +1,3 @@
 pub mod DebugLemmas
+pub mod SymbolLemmas
 pub mod TableLemmas

@@ -9,8 +9,8 @@ use Rattle.elf_file.specs.Layout.{encoding_of}
 use Rattle.elf_file.specs.Names.{section_named}
 use Rattle.elf_file.specs.Tables.{section_at, section_bytes}
 use Rattle.dwarf_units.specs.declared.sections.Sections.{Sections}
-use Rattle.elf_claims.specs.declared.debug.DebugSection.{DebugSection}
-use Rattle.elf_claims.specs.declared.debug.DebugSection.TheVariants.{Info, Abbrev, Str, LineStr, StrOffsets, Addr, Ranges, Rnglists, Aranges, Line}
+use Rattle.elf_claims.specs.declared.dwarf_sections.DebugSection.{DebugSection}
+use Rattle.elf_claims.specs.declared.dwarf_sections.DebugSection.TheVariants.{Info, Abbrev, Str, LineStr, StrOffsets, Addr, Ranges, Rnglists, Aranges, Line}
 use Rattle.elf_claims.specs.Loads.{has_flag, is_relocatable}
 
 -- The names of the debug sections (DWARF 5, section 7.1; DWARF 4, section 7.1).

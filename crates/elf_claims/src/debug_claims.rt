@@ -4,7 +4,7 @@ ghost use Rattle.std.specs.Prelude.{◌≡◌};
 ghost use Rattle.claim_sheet.specs.Adds.{AddsRead};
 ghost use Rattle.elf_claims.specs.DebugClaims.{lines_claims, units_claims};
 
-use crate::debug::debug_sections;
+use crate::dwarf_sections::debug_sections;
 use claim_sheet::{ClaimSheet, Stop};
 use elf_file::ElfFile;
 use std::alloc::Global;

@@ -2,16 +2,18 @@
 //! and its debug sections.
 #![tactic(auto)]
 
-mod debug;
 mod debug_claims;
+mod dwarf_sections;
 mod headers;
+mod known_symbols;
+mod last_label;
 mod load_claims;
 mod loads;
 mod sections;
 mod symbols;
 
-pub use debug::debug_sections;
 pub use debug_claims::{add_lines, add_units};
+pub use dwarf_sections::debug_sections;
 pub use headers::add_headers;
 pub use load_claims::add_loads;
 pub use loads::{load_at, load_slots};

@@ -1,19 +1,24 @@
 //! The claims of symbols (ELF gABI, Symbol Table).
 
-ghost use Rattle.std.specs.Prelude.{◌≡◌, ◌<◌};
+ghost use Rattle.std.specs.Prelude.{◌≡◌, ◌<◌, OnOk};
 ghost use Rattle.elf_file.specs.Tables.{section_at, section_count};
 ghost use Rattle.elf_symbols.specs.Symbols.{SymbolRecord, symbol_count};
 ghost use Rattle.elf_symbols.specs.Shown.{shown};
-ghost use Rattle.claim_sheet.specs.Adds.{AddsRead};
+ghost use Rattle.claim_sheet.specs.Adds.{Adds, AddsRead};
+ghost use Rattle.claim_sheet.specs.Known.{IsKnown};
+ghost use Rattle.claim_sheet.specs.Reaches.{claim_on_some};
+ghost use Rattle.elf_claims.specs.KnownSymbols.{AreKnown, IsLastOf};
 ghost use Rattle.elf_claims.specs.SymbolClaims.{IsTableType, claims_of_type, has_space, is_data_or_code, is_in_section, names_bytes, symbol_address, symbol_claim, symbol_list, symbol_reach, symbol_space, symbols_claims, tables_claims};
 
+use crate::known_symbols::KnownSymbols;
+use crate::last_label::LastLabel;
 use crate::loads::{has_addresses, is_relocatable};
-use claim_sheet::{ClaimSheet, Reach, Stop, Wrap, span};
+use claim_sheet::{ClaimSheet, KnownLabel, Reach, Stop, span};
 use elf_file::{EM_ARM, ElfFile, SHN_LORESERVE, SHN_XINDEX};
 use elf_symbols::{
-    NumbersIndex, SHT_DYNSYM, SHT_SYMTAB, STT_FUNC, STT_GNU_IFUNC, STT_NOTYPE, STT_OBJECT, Symbol,
-    SymbolTable,
+    SHT_DYNSYM, SHT_SYMTAB, STT_FUNC, STT_GNU_IFUNC, STT_NOTYPE, STT_OBJECT, Symbol, SymbolTable,
 };
+use size_core::NoMemory;
 use std::alloc::Global;
 
 fn is_data_or_code(kind: u8) -> bool
@@ -83,74 +88,102 @@ fn symbol_reach(file: &ElfFile<'_>, symbol: &Symbol<'_>) -> Option<Reach>
     }
 }
 
-#[tactic(auto, unfolding(crate::specs::SymbolClaims::symbol_claim))]
-fn add_symbol(
+// Adds the claim of a symbol under a label that may be known, if there is something to cover.
+#[tactic(auto, using(claim_sheet::proofs::SheetLemmas::adding_none))]
+fn add_reach(
+    reach: Option<Reach>,
+    label: &mut KnownLabel<'_>,
+    sheet: &mut ClaimSheet,
+) -> Result<(), NoMemory>
+    requires { IsKnown sheet.old.made label.old }
+    ensures adds { Adds result sheet.old sheet.new (claim_on_some reach label.old.text.now) }
+    ensures known { OnOk result (IsKnown sheet.new.made label.new) }
+    ensures text { label.new.text.now ≡ label.old.text.now }
+{
+    match reach {
+        Some(reach) => sheet.add_known(reach, label),
+        None => Ok(()),
+    }
+}
+
+#[tactic(auto, using(crate::proofs::SymbolLemmas::symbol_bad), unfolding(crate::specs::SymbolClaims::symbol_claim))]
+fn add_symbol<'a>(
     file: &ElfFile<'_>,
-    table: &SymbolTable<'_>,
+    table: &SymbolTable<'a>,
     k: u32,
+    last: &mut LastLabel<'a>,
     sheet: &mut ClaimSheet,
 ) -> Result<(), Stop>
     requires file { table.now.file ≡ file.now }
     requires index { k < symbol_count table.now.file table.now.index }
-    ensures { AddsRead result sheet.old sheet.new (symbol_claim file.now table.now.index k) }
+    requires last { IsLastOf file.now sheet.old.made last.old }
+    ensures adds { AddsRead result sheet.old sheet.new
+        (symbol_claim file.now table.now.index k) }
+    ensures last { OnOk result (IsLastOf file.now sheet.new.made last.new) }
 {
-    let symbol = table.symbol(k)?;
-    sheet.add_some(symbol_reach(file, &symbol), Wrap::Plain, symbol.name)?;
+    last.read(table, k)?;
+    let symbol = table.symbol_named(k, last.label.text)?;
+    add_reach(symbol_reach(file, &symbol), &mut last.label, sheet)?;
     Ok(())
 }
 
 // Adds the claims of the symbols of a table, in order.
 #[tactic(auto, using(claim_sheet::proofs::LoopLemmas::read_goes, claim_sheet::proofs::LoopLemmas::read_ends), unfolding(crate::specs::SymbolClaims::symbol_list))]
-fn add_table_symbols(
+fn add_table_symbols<'a>(
     file: &ElfFile<'_>,
-    table: &SymbolTable<'_>,
+    table: &SymbolTable<'a>,
+    last: &mut LastLabel<'a>,
     sheet: &mut ClaimSheet,
 ) -> Result<(), Stop>
     requires file { table.now.file ≡ file.now }
-    ensures { AddsRead result sheet.old sheet.new (symbol_list file.now table.now.index) }
+    requires last { IsLastOf file.now sheet.old.made last.old }
+    ensures adds { AddsRead result sheet.old sheet.new (symbol_list file.now table.now.index) }
+    ensures last { OnOk result (IsLastOf file.now sheet.new.made last.new) }
 {
     for k in 0..table.len() {
-        add_symbol(file, table, k, sheet)?;
+        add_symbol(file, table, k, last, sheet)?;
     }
     Ok(())
 }
 
 // Adds the claims of section i if it is a symbol table of this type.
 #[tactic(auto, using(claim_sheet::proofs::SheetLemmas::adding_none), unfolding(crate::specs::SymbolClaims::claims_of_type, crate::specs::SymbolClaims::table_claims))]
-fn add_table(
-    file: &ElfFile<'_>,
-    numbers: &NumbersIndex<'_>,
+fn add_table<'a>(
+    file: &ElfFile<'a>,
     kind: u32,
     i: u32,
+    known: &mut KnownSymbols<'a>,
     sheet: &mut ClaimSheet,
 ) -> Result<(), Stop>
-    requires numbers { numbers.now ≡ file.now }
     requires kind { IsTableType kind }
     requires above { 0 < i }
     requires index { i < section_count file.now }
-    ensures { AddsRead result sheet.old sheet.new (claims_of_type kind file.now i) }
+    requires known { AreKnown file.now sheet.old.made known.old }
+    ensures adds { AddsRead result sheet.old sheet.new (claims_of_type kind file.now i) }
+    ensures known { OnOk result (AreKnown file.now sheet.new.made known.new) }
 {
     if file.section(i).kind != kind {
         return Ok(());
     }
-    let table = SymbolTable::indexed(file, i, numbers)?;
-    add_table_symbols(file, &table, sheet)
+    let table = SymbolTable::indexed(file, i, &known.numbers)?;
+    add_table_symbols(file, &table, &mut known.last, sheet)
 }
 
 // Adds the claims of the symbol tables of this type, in order.
 #[tactic(auto, using(claim_sheet::proofs::LoopLemmas::read_goes, claim_sheet::proofs::LoopLemmas::read_ends), unfolding(crate::specs::SymbolClaims::tables_claims))]
-fn add_tables(
-    file: &ElfFile<'_>,
-    numbers: &NumbersIndex<'_>,
+fn add_tables<'a>(
+    file: &ElfFile<'a>,
     kind: u32,
+    known: &mut KnownSymbols<'a>,
     sheet: &mut ClaimSheet,
 ) -> Result<(), Stop>
-    requires numbers { numbers.now ≡ file.now }
     requires kind { IsTableType kind }
-    ensures { AddsRead result sheet.old sheet.new (tables_claims kind file.now) }
+    requires known { AreKnown file.now sheet.old.made known.old }
+    ensures adds { AddsRead result sheet.old sheet.new (tables_claims kind file.now) }
+    ensures known { OnOk result (AreKnown file.now sheet.new.made known.new) }
 {
     for i in 1..file.header().sections {
-        add_table(file, numbers, kind, i, sheet)?;
+        add_table(file, kind, i, known, sheet)?;
     }
     Ok(())
 }
@@ -161,7 +194,7 @@ fn add_tables(
 pub fn add_symbols(alloc: Global, file: &ElfFile<'_>, sheet: &mut ClaimSheet) -> Result<(), Stop>
     ensures { AddsRead result sheet.old sheet.new (symbols_claims file.now) }
 {
-    let numbers = NumbersIndex::of(alloc, file)?;
-    add_tables(file, &numbers, SHT_SYMTAB, sheet)?;
-    add_tables(file, &numbers, SHT_DYNSYM, sheet)
+    let mut known = KnownSymbols::of(alloc, file)?;
+    add_tables(file, SHT_SYMTAB, &mut known, sheet)?;
+    add_tables(file, SHT_DYNSYM, &mut known, sheet)
 }

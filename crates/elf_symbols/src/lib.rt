@@ -12,5 +12,5 @@ pub use constants::{
     standard_numbers,
 };
 pub use numbers::NumbersIndex;
-pub use symbol::Symbol;
+pub use symbol::{NameOffset, Symbol};
 pub use table::SymbolTable;

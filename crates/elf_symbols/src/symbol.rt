@@ -29,6 +29,15 @@ pub struct Symbol<'a> {
     pub section: u32,
 }
 
+/// Where the name of a symbol is. Symbols with the same numbers have the same name.
+#[derive(Clone, Copy, Debug, PartialEq, Eq)]
+pub struct NameOffset {
+    /// The number of the section with the names (`sh_link` of the symbol table).
+    pub section: u32,
+    /// The offset in that section (`st_name`), or 0 for no name.
+    pub offset: u32,
+}
+
 /// Returns the size of a symbol in bytes.
 pub fn symbol_len(encoding: Encoding) -> u64
     ensures { result ≡ symbol_len encoding }

@@ -1,15 +1,17 @@
 //! Symbol tables.
 
-ghost use Rattle.std.specs.Prelude.{◌≡◌, ◌+◌, ◌*◌, ◌<◌, ◌≤◌, ◌^◌, length, IfSome};
+ghost use Rattle.std.specs.Prelude.{◌≡◌, ◌+◌, ◌*◌, ◌<◌, ◌≤◌, ◌^◌, length, IfOk, IfSome};
 ghost use Rattle.size_core.specs.Checks.{Gives};
 ghost use Rattle.elf_file.specs.Layout.{encoding_of};
 ghost use Rattle.elf_file.specs.Tables.{section_at, section_count};
-ghost use Rattle.elf_symbols.specs.Symbols.{IsSymbolTable, bytes_of, has_numbers_of, numbers_index, symbol_at, symbol_count, symbol_len, table_at};
+ghost use Rattle.elf_symbols.specs.Symbols.{IsSymbolTable, bytes_of, has_numbers_of, numbers_index, symbol_at, symbol_count, symbol_len, symbol_place, table_at};
+ghost use Rattle.elf_symbols.specs.Names.{IsNameAt, name_offset, symbol_name};
 ghost use Rattle.elf_symbols.specs.Shown.{shown};
+ghost use Rattle.elf_symbols.specs.TableFacts.{HasSymbol};
 
 use crate::constants::SHT_SYMTAB_SHNDX;
 use crate::numbers::NumbersIndex;
-use crate::symbol::{Symbol, name_at, section_number_at, shndx_at, symbol_len};
+use crate::symbol::{NameOffset, Symbol, name_at, section_number_at, shndx_at, symbol_len};
 use elf_file::{ElfFile, Encoding};
 use size_core::{BadFile, Fault};
 use std::marker::Model;
@@ -22,6 +24,7 @@ pub struct SymbolTable<'a> {
     encoding: Encoding,
     offset: u64,
     count: u32,
+    link: u32,
     names: &'a [u8],
     numbers: &'a [u8],
 }
@@ -34,7 +37,7 @@ impl<'a> Model for SymbolTable<'a> {
 
     ghost view = { λ t. record { file = t.file.now; index = t.index } };
 
-    ghost invariant = { λ t. IsTable t.file.now t.index t.encoding t.offset t.count t.names.now t.numbers.now };
+    ghost invariant = { λ t. IsTable t.file.now t.index t.encoding t.offset t.count t.link t.names.now t.numbers.now };
 }
 
 /// Returns whether section `j` has the extended section indexes of the table in section `i`.
@@ -122,6 +125,7 @@ impl<'a> SymbolTable<'a> {
             encoding,
             offset: section.offset,
             count: (section.size / symbol_len(encoding)) as u32,
+            link: section.link,
             names: file.section_bytes(section.link),
             numbers: numbers_in(file, numbers),
         })
@@ -134,16 +138,50 @@ impl<'a> SymbolTable<'a> {
         self.count
     }
 
-    /// Returns symbol `k`. NameOutside if its name has no terminating zero byte in the table's names,
-    /// and BadIndex if it needs an extended section index and has none.
-    #[tactic(auto, unfolding(crate::specs::Symbols::symbol_at))]
-    pub fn symbol(&self, k: u32) -> Result<Symbol<'a>, BadFile>
+    /// Returns the file offset of symbol `k`.
+    fn offset_of(&self, k: u32) -> u64
         requires { k < symbol_count self.now.file self.now.index }
-        ensures { Gives shown result (symbol_at self.now.file self.now.index k) }
+        ensures value { result ≡ symbol_place self.now.file self.now.index k }
+        ensures within { HasSymbol self.now.file result }
+    {
+        self.offset + k as u64 * symbol_len(self.encoding)
+    }
+
+    /// Returns where the name of symbol `k` is.
+    pub fn name_offset(&self, k: u32) -> NameOffset
+        requires { k < symbol_count self.now.file self.now.index }
+        ensures { result ≡ name_offset self.now.file self.now.index k }
+    {
+        NameOffset {
+            section: self.link,
+            offset: self.encoding.four(self.file, self.offset_of(k), 0, 0),
+        }
+    }
+
+    /// Returns the name of symbol `k`. NameOutside if it has no terminating zero byte in the table's names.
+    #[tactic(auto, using(crate::proofs::NameLemmas::name_any))]
+    pub fn name(&self, k: u32) -> Result<&'a [u8], BadFile>
+        requires { k < symbol_count self.now.file self.now.index }
+        ensures name { Gives (λ name. name.now) result
+            (symbol_name self.now.file self.now.index k) }
+        ensures same { IfOk result
+            (λ name. IsNameAt self.now.file (name_offset self.now.file self.now.index k) name.now) }
+    {
+        name_at(self.file, self.encoding, self.names, self.offset_of(k))
+    }
+
+    /// Returns symbol `k`, whose name is known and isn't read again. BadIndex if it needs an extended
+    /// section index and has none.
+    #[tactic(auto, unfolding(crate::specs::Symbols::symbol_at))]
+    pub fn symbol_named(&self, k: u32, name: &'a [u8]) -> Result<Symbol<'a>, BadFile>
+        requires index { k < symbol_count self.now.file self.now.index }
+        requires name { IsNameAt self.now.file
+            (name_offset self.now.file self.now.index k) name.now }
+        ensures symbol { Gives shown result (symbol_at self.now.file self.now.index k) }
+        ensures name { IfOk result (λ s. s.name.now ≡ name.now) }
     {
         let encoding = self.encoding;
-        let place = self.offset + k as u64 * symbol_len(encoding);
-        let name = name_at(self.file, encoding, self.names, place)?;
+        let place = self.offset_of(k);
         let section = section_number_at(self.file, encoding, self.numbers, place, k)?;
         let info = self.file[(place + encoding.pick(12, 4)) as usize];
         Ok(Symbol {
@@ -155,5 +193,16 @@ impl<'a> SymbolTable<'a> {
             shndx: shndx_at(self.file, encoding, place),
             section,
         })
+    }
+
+    /// Returns symbol `k`. NameOutside if its name has no terminating zero byte in the table's names,
+    /// and BadIndex if it needs an extended section index and has none.
+    #[tactic(auto, unfolding(crate::specs::Symbols::symbol_at))]
+    pub fn symbol(&self, k: u32) -> Result<Symbol<'a>, BadFile>
+        requires { k < symbol_count self.now.file self.now.index }
+        ensures { Gives shown result (symbol_at self.now.file self.now.index k) }
+    {
+        let name = self.name(k)?;
+        self.symbol_named(k, name)
     }
 }

@@ -26,7 +26,7 @@ use Rattle.file_profile.specs.declared.answer.PlaceAnswer.{PlaceAnswer}
 use Rattle.file_profile.specs.declared.answer.PlaceAnswer.TheVariants as of_place
 use Rattle.file_profile.specs.declared.explain.CountedExplanation.{CountedExplanation}
 use Rattle.file_profile.specs.Claims.{OpenedFile, claims_within, layout_of}
-use Rattle.file_profile.specs.Explanations.{AreExplanations, Explains, IsExplained, explained_place, if_countable, if_opened_for_place, is_in, named_sources, opened_explained, place_said, places_said}
+use Rattle.file_profile.specs.Explanations.{AreExplanations, Explains, IsExplained, explained_place, if_countable, if_opened_for_place, is_in, named_sources, opened_explained, source_explained, sources_explained}
 use Rattle.file_profile.specs.Answers.{of_file_place, refused_as}
 use Rattle.file_profile.specs.Results.{IsExpected, Refuses}
 use Rattle.file_profile.specs.Sources.{Chosen}
@@ -58,34 +58,34 @@ explained-is binary place shown len layout view whole e of_len of_layout of_view
 -- The walk over the names and data sources of a plan.
 module _ (limit left i : ℕ) (place : Place) (shown : ℕ) (f : OpenedFile) (names : List (List ℕ)) (sources : List Chosen) (xs : List PlaceSource) where
   abbrev pub AreSaidTo : Type 0
-  AreSaidTo = IsRest (λ (a : List ℕ × Chosen). a.1.base) (place_said (view_of f.binary []) place shown) f limit left i (named_sources names sources) xs
+  AreSaidTo = IsRest (λ (a : List ℕ × Chosen). a.1.base) (source_explained (view_of f.binary []) place shown) f limit left i (named_sources names sources) xs
 
   module _ (rest : AreSaidTo) where
     module _ (name : List ℕ) (chosen : Chosen) (base : Source) (named : slice_get names i ≡ Some name) (at : slice_get sources i ≡ Some chosen) (is : chosen.base ≡ base) where
       pub places-more : RewritesTheLabelAlone → (e : CountedExplanation) (source : PlaceSource) (all : List PlaceSource) → IsExpected (IsExplained place shown f) (claims_within left f base) e
           → source ≡ under_name name (λ label. rewritten label chosen.rewrites) e.explained → all ≡ xs ++ source ∷ []
-          → places_said limit place shown f (named_sources names sources) ≡ with_results all (places_said (left - e.claims) place shown f (drop (i + 1) (named_sources names sources)))
+          → sources_explained limit place shown f (named_sources names sources) ≡ with_results all (sources_explained (left - e.claims) place shown f (drop (i + 1) (named_sources names sources)))
       places-more law e source all explains from joined =
           let view : SourceView = record { claims = explains.made; unmapped = unmapped } in
           let rewrite : List ℕ → List ℕ = (λ label. rewritten label chosen.rewrites) in
-          let same : place_said (view_of f.binary []) place shown (name, chosen) explains.made ≡ source =
+          let same : source_explained (view_of f.binary []) place shown (name, chosen) explains.made ≡ source =
           law (view_of f.binary []) place shown name rewrite view ∙ (ap (under_name name rewrite) (sym explains.shown.explained) ∙ sym from) in
-          let added : xs ++ place_said (view_of f.binary []) place shown (name, chosen) explains.made ∷ [] ≡ all = ap (λ x. xs ++ x ∷ []) same ∙ sym joined in
-          subst (λ ys. places_said limit place shown f (named_sources names sources) ≡ with_results ys (places_said (left - e.claims) place shown f (drop (i + 1) (named_sources names sources)))) added
-          (rest-more (λ (a : List ℕ × Chosen). a.1.base) (place_said (view_of f.binary []) place shown) f limit left i (named_sources names sources) xs (name, chosen) e.claims explains.made
+          let added : xs ++ source_explained (view_of f.binary []) place shown (name, chosen) explains.made ∷ [] ≡ all = ap (λ x. xs ++ x ∷ []) same ∙ sym joined in
+          subst (λ ys. sources_explained limit place shown f (named_sources names sources) ≡ with_results ys (sources_explained (left - e.claims) place shown f (drop (i + 1) (named_sources names sources)))) added
+          (rest-more (λ (a : List ℕ × Chosen). a.1.base) (source_explained (view_of f.binary []) place shown) f limit left i (named_sources names sources) xs (name, chosen) e.claims explains.made
           rest (named-at names sources i name chosen named at) (ap (claims_within left f) is ∙ explains.are) explains.shown.count)
 
       -- A data source that has a fault or too many claims.
-      pub places-refused : (answer : SourceAnswer) → Refuses (claims_within left f base) answer → Refuses (places_said limit place shown f (named_sources names sources)) answer
+      pub places-refused : (answer : SourceAnswer) → Refuses (claims_within left f base) answer → Refuses (sources_explained limit place shown f (named_sources names sources)) answer
       places-refused answer refuses =
-          rest-refused (λ (a : List ℕ × Chosen). a.1.base) (place_said (view_of f.binary []) place shown) f limit left i (named_sources names sources) xs (name, chosen) answer
+          rest-refused (λ (a : List ℕ × Chosen). a.1.base) (source_explained (view_of f.binary []) place shown) f limit left i (named_sources names sources) xs (name, chosen) answer
           rest (named-at names sources i name chosen named at) (λ some. ap (claims_within left f) is ∙ refuses some)
 
     -- All data sources.
-    pub places-end : (all : Vec PlaceSource Global) → xs ≡ all.items → length sources ≤ i → IsExpected AreExplanations (places_said limit place shown f (named_sources names sources)) all
+    pub places-end : (all : Vec PlaceSource Global) → xs ≡ all.items → length sources ≤ i → IsExpected AreExplanations (sources_explained limit place shown f (named_sources names sources)) all
     places-end all are end = record {
       made = xs;
-      are = rest-none (λ (a : List ℕ × Chosen). a.1.base) (place_said (view_of f.binary []) place shown) f limit left i (named_sources names sources) xs rest (omega (arith, named-length names sources, end));
+      are = rest-none (λ (a : List ℕ × Chosen). a.1.base) (source_explained (view_of f.binary []) place shown) f limit left i (named_sources names sources) xs rest (omega (arith, named-length names sources, end));
       shown = are;
     }
 
@@ -97,7 +97,7 @@ in-is binary place len layout b of_len of_layout is =
 -- The result for a location of an opened file, step by step.
 module _ (limit shown : ℕ) (place : Place) (f : OpenedFile) (asked : List (List ℕ × Chosen)) where
   abbrev said_on : Result (List PlaceSource) SourceAnswer
-  said_on = places_said limit place shown f asked
+  said_on = sources_explained limit place shown f asked
 
   pub opened-outside : is_in f.binary place ≡ false → opened_explained limit shown place f asked ≡ Err of_place.PlaceOutside
   unfolding opened_explained

@@ -32,8 +32,8 @@ named_sources (name ∷ names) (chosen ∷ sources) = (name, chosen) ∷ named_s
 
 -- The explanation of a location by a data source with these claims: the claims that cover it, and its label, which is
 -- that of the first of them, rewritten.
-abbrev pub place_said : FileView → Place → ℕ → List ℕ × Chosen → List LabelledClaim → PlaceSource
-place_said f place shown asked claims =
+abbrev pub source_explained : FileView → Place → ℕ → List ℕ × Chosen → List LabelledClaim → PlaceSource
+source_explained f place shown asked claims =
     explanation f place shown asked.0 (λ label. rewritten label asked.1.rewrites) (record { claims = claims; unmapped = unmapped })
 
 -- The explanation of a location by a built-in data source with these claims.
@@ -43,9 +43,9 @@ pub record IsExplained (place : Place) (shown : ℕ) (f : OpenedFile) (made : Li
       ≡ explained (length (bytes_of f.binary)) (loads_of f.binary) place shown (record { claims = made; unmapped = unmapped })
 
 -- The explanations of a location by these data sources, in their order. All claims together are at most the limit.
-abbrev pub places_said : ℕ → Place → ℕ → OpenedFile → List (List ℕ × Chosen) → Result (List PlaceSource) SourceAnswer
-places_said limit place shown f asked =
-    results_of (λ (a : List ℕ × Chosen). a.1.base) (place_said (view_of f.binary []) place shown) limit f asked
+abbrev pub sources_explained : ℕ → Place → ℕ → OpenedFile → List (List ℕ × Chosen) → Result (List PlaceSource) SourceAnswer
+sources_explained limit place shown f asked =
+    results_of (λ (a : List ℕ × Chosen). a.1.base) (source_explained (view_of f.binary []) place shown) limit f asked
 
 -- The first fault of a file, or the result of `say` for the opened file.
 abbrev pub if_opened_for_place : Result Binary BadFile → (Binary → Result (List PlaceSource) PlaceAnswer)
@@ -70,7 +70,7 @@ if_countable binary (Ok said) = if nat_lt (2 ^ 63 - 1) (mapped_count (loads_of b
 -- its fault and `TooManyClaims`, and last `MappedTooLarge`.
 unfoldable pub opened_explained : ℕ → ℕ → Place → OpenedFile → List (List ℕ × Chosen) → Result (List PlaceSource) PlaceAnswer
 opened_explained limit shown place f asked =
-    if_inside f.binary place (if_countable f.binary (refused_as of_file_place (places_said limit place shown f asked)))
+    if_inside f.binary place (if_countable f.binary (refused_as of_file_place (sources_explained limit place shown f asked)))
 
 -- The explanations of a location of the file of this name by these data sources, in their order. Each has the claim
 -- that gives the label and the first `shown` claims after it, or all if `shown` is 0. Otherwise it is why there are

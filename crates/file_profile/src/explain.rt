@@ -4,7 +4,7 @@ ghost use Rattle.std.specs.Prelude.{◌≡◌, ◌<◌, ◌^◌, length, slice_g
 ghost use Rattle.custom_rewrites.specs.Rewriting.{rewritten};
 ghost use Rattle.place_explain.specs.Explanation.{under_name};
 ghost use Rattle.file_profile.specs.Claims.{claims_within};
-ghost use Rattle.file_profile.specs.Explanations.{AreExplanations, Explains, IsExplained, explained_place, is_in, named_sources, opened_explained, places_said};
+ghost use Rattle.file_profile.specs.Explanations.{AreExplanations, Explains, IsExplained, explained_place, is_in, named_sources, opened_explained, sources_explained};
 ghost use Rattle.file_profile.specs.Results.{Yields};
 
 use crate::answer::{PlaceAnswer, SourceAnswer};
@@ -109,7 +109,7 @@ fn explain_all(
     requires names { length names.now ≡ length plan.now.sources }
     requires inside { IsTrue (is_in subject.now.binary request.now.place) }
     ensures { Yields AreExplanations
-        (places_said limit request.now.place request.now.shown subject.now
+        (sources_explained limit request.now.place request.now.shown subject.now
         (named_sources names.now plan.now.sources)) result }
 {
     // This law lets the explanation be made first and its label rewritten afterwards.

@@ -4,7 +4,7 @@ ghost use Rattle.std.specs.Prelude.{◌≡◌};
 ghost use Rattle.claim_sheet.specs.Adds.{AddsRead};
 ghost use Rattle.macho_claims.specs.DebugClaims.{lines_claims, units_claims};
 
-use crate::debug::debug_sections;
+use crate::dwarf_sections::debug_sections;
 use claim_sheet::{ClaimSheet, Stop};
 use macho_file::MachoFile;
 use std::alloc::Global;

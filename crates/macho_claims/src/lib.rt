@@ -2,8 +2,8 @@
 //! parts, its headers, its symbols and its debug sections.
 #![tactic(auto)]
 
-mod debug;
 mod debug_claims;
+mod dwarf_sections;
 mod headers;
 mod link_edit;
 mod load_claims;
@@ -11,8 +11,8 @@ mod loads;
 mod sections;
 mod symbols;
 
-pub use debug::debug_sections;
 pub use debug_claims::{add_lines, add_units};
+pub use dwarf_sections::debug_sections;
 pub use headers::add_headers;
 pub use link_edit::add_link_edit;
 pub use load_claims::add_loads;

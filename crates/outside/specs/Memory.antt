@@ -20,15 +20,17 @@ pub record FilesInMemory : Type 0 where
   pub faults : ℕ
   pub last_failed : List ℕ
   pub asked : List (List ℕ)
+  pub gave : Pairs
 
 -- Files in memory that never fail.
 pub record SoundFiles : Type 0 where
   pub pairs : Pairs
   pub asked : List (List ℕ)
+  pub gave : Pairs
 
 -- Files of these pairs that fail at the listed reads, before any read.
 abbrev pub fresh_files : Pairs → List ℕ → FilesInMemory
-fresh_files pairs failing = record { pairs = pairs; failing = failing; calls = 0; faults = 0; last_failed = []; asked = [] }
+fresh_files pairs failing = record { pairs = pairs; failing = failing; calls = 0; faults = 0; last_failed = []; asked = []; gave = [] }
 
 -- The name of the last failed read, empty before any failure.
 abbrev pub name_of_failed : Option (String Global) → List ℕ
@@ -58,9 +60,13 @@ failed_at f name = record f { faults = raised f.faults; last_failed = name }
 abbrev pub asked_for : FilesInMemory → List ℕ → FilesInMemory
 asked_for f name = record f { calls = raised f.calls; asked = f.asked ++ name ∷ [] }
 
+-- The files after a read of a name returned these bytes.
+abbrev pub given_by : FilesInMemory → List ℕ → List ℕ → FilesInMemory
+given_by f name bytes = record f { gave = f.gave ++ (name, bytes) ∷ [] }
+
 -- The files after a read of a name with this result.
 abbrev pub files_after : FilesInMemory → List ℕ → Result (Vec ℕ Global) FileAnswer → FilesInMemory
-files_after f name (Ok v) = asked_for f name
+files_after f name (Ok v) = given_by (asked_for f name) name v.items
 files_after f name (Err Failed) = failed_at (asked_for f name) name
 files_after f name (Err TooLong) = asked_for f name
 files_after f name (Err NoMemory) = asked_for f name

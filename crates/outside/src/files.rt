@@ -1,6 +1,6 @@
 //! Files by name, as a program sees them.
 
-ghost use Rattle.std.specs.Prelude.{◌≡◌, ◌≤◌, ◌+◌, ◌++◌, ◌∷◌, [], List, ℕ, Option, length, IfOk, IfSome, IsErrOf};
+ghost use Rattle.std.specs.Prelude.{◌≡◌, ◌≤◌, ◌+◌, ◌++◌, ◌∷◌, [], List, ℕ, Option, length, IfOk, IfSome, IsErrOf, OnErr};
 ghost use Rattle.outside.specs.Causes.{Rose};
 ghost use Rattle.outside.specs.Held.{Pairs, IsHeld, IsLonger, IsTaken};
 
@@ -51,9 +51,15 @@ pub trait Files {
     /// The names that were requested, in order, whatever the reads returned.
     ghost asked: { Self → List (List ℕ) };
 
+    /// What the successful reads returned, in order: the name of each and its bytes.
+    ghost gave: { Self → Pairs };
+
     /// Returns the bytes of a file, if they are at most `limit`. Reads at most one byte more than the limit.
     fn read(&mut self, alloc: Global, name: &str, limit: u64) -> Result<Vec<u8>, FileAnswer>
         ensures asked { asked self.new ≡ asked self.old ++ name.now ∷ [] }
+        ensures gave { IfOk result (λ v.
+            gave self.new ≡ gave self.old ++ (name.now, v.items) ∷ []) }
+        ensures ungiven { OnErr result (gave self.new ≡ gave self.old) }
         ensures held { held self.new ≡ held self.old }
         ensures later { faults self.old ≤ faults self.new }
         ensures more { taken self.old ≤ taken self.new }

@@ -1,16 +1,18 @@
 //! The files and writers of the host. This is the trusted edge: contracts don't know what the host's files
-//! hold.
+//! hold. They know which bytes the reads returned and the writers took.
 
-ghost use Rattle.std.specs.Prelude.{◌≡◌, ◌≢◌, ◌≤◌, ◌<◌, ◌+◌, ◌↔◌, ◌++◌, ◌∷◌, [], None, IfOk, OnOk, OnErr, IsErrOf, length, take};
+ghost use Rattle.std.specs.Prelude.{◌≡◌, ◌≢◌, ◌≤◌, ◌<◌, ◌+◌, ◌↔◌, ◌++◌, ◌∷◌, [], None, Some, IfOk, OnOk, OnErr, IsErrOf, length, take};
 ghost use Rattle.std.specs.Io.KnownBytes.{Appends, Consumes, IsAtEnd};
 ghost use Rattle.std.specs.IoError.{error_kind};
 ghost use Rattle.std.specs.declared.io.ErrorKind.TheVariants.{OutOfMemory};
 ghost use Rattle.outside.specs.Causes.{Rose, RoseBy, raised};
+ghost use Rattle.outside.specs.Grown.{Grew};
 ghost use Rattle.outside.specs.Held.{IsHeld, IsTaken};
 ghost use Rattle.outside.specs.Host.{taken_by};
 ghost use Rattle.outside.specs.Turns.{Took, TookAtMost};
 
 use crate::files::{FileAnswer, Files};
+use crate::given::Given;
 use crate::notes::Notes;
 use crate::reading::take_up_to;
 use crate::sink::{Failed, Sink};
@@ -21,34 +23,40 @@ use std::marker::Model;
 use std::mem::replace;
 use std::{fs, io, rt};
 
-/// A writer of std, flushed after each write. Its written bytes aren't known to contracts.
+/// A writer of std, flushed after each write. Contracts know the bytes that the writer took and then flushed.
 #[derive(Drop)]
 pub struct HostSink<W: Write + Drop> {
     writer: W,
     faults: u64,
+    pieces: Notes,
 }
 
 impl<W: Write + Drop> Model for HostSink<W> {
-    ghost use Rattle.std.specs.Prelude.{ℕ};
+    ghost use Rattle.std.specs.List.{concat};
+    ghost use Rattle.outside.specs.Host.{SeenSink};
 
-    ghost Value = { W × ℕ };
+    ghost Value = { SeenSink W };
 
-    ghost view = { λ s. (s.writer, s.faults) };
+    ghost view = { λ s. record { writer = s.writer; faults = s.faults; accepted = concat s.pieces.items } };
 }
 
 impl<W: Write + Drop> HostSink<W> {
-    /// Returns a sink over a writer, with no failed write.
+    /// Returns a sink over a writer, before any write.
     pub fn new(writer: W) -> HostSink<W>
-        ensures { result ≡ (writer, 0) }
+        ensures { result ≡ record { writer = writer; faults = 0; accepted = [] } }
     {
-        HostSink { writer, faults: 0 }
+        HostSink {
+            writer,
+            faults: 0,
+            pieces: Notes::new(),
+        }
     }
 }
 
 impl<W: Write + Drop> Sink for HostSink<W> {
-    ghost written = { λ _. None };
+    ghost written = { λ s. Some s.accepted };
 
-    ghost faults = { λ s. s.1 };
+    ghost faults = { λ s. s.faults };
 
     /// Writes some bytes and flushes. Fails if the writer or its flush fails, or if the writer takes
     /// no byte. After an Ok, the writer's model has grown by the bytes that it took, if it has a model
@@ -57,12 +65,16 @@ impl<W: Write + Drop> Sink for HostSink<W> {
         requires { 0 < length piece.now }
         ensures some { IfOk result (λ n. 0 < n) }
         ensures bound { IfOk result (λ n. n ≤ length piece.now) }
-        ensures later { self.old.1 ≤ self.new.1 }
-        ensures uncounted { OnOk result (self.new.1 ≡ self.old.1) }
-        ensures failed { OnErr result (Rose self.old.1 self.new.1) }
+        ensures bytes { IfOk result (λ n.
+            Grew (Some self.old.accepted) (Some self.new.accepted) (take n piece.now)) }
+        ensures kept { OnErr result (Some self.new.accepted ≡ Some self.old.accepted) }
+        ensures later { self.old.faults ≤ self.new.faults }
+        ensures uncounted { OnOk result (self.new.faults ≡ self.old.faults) }
+        ensures failed { OnErr result (Rose self.old.faults self.new.faults) }
 
-        ensures counted { OnErr result (self.new.1 ≡ raised self.old.1) }
-        ensures honest { IfOk result (λ n. Appends (W.contents self.old.0) (W.contents self.new.0) (take n piece.now)) }
+        ensures counted { OnErr result (self.new.faults ≡ raised self.old.faults) }
+        ensures honest { IfOk result (λ n.
+            Appends (W.contents self.old.writer) (W.contents self.new.writer) (take n piece.now)) }
     {
         match self.writer.write(piece) {
             Err(_) | Ok(0) => {
@@ -70,7 +82,10 @@ impl<W: Write + Drop> Sink for HostSink<W> {
                 Err(Failed)
             }
             Ok(count) => match self.writer.flush() {
-                Ok(()) => Ok(count),
+                Ok(()) => {
+                    self.pieces.add(&piece[..count]);
+                    Ok(count)
+                }
                 Err(_) => {
                     self.faults = self.faults.saturating_add(1);
                     Err(Failed)
@@ -87,6 +102,7 @@ pub struct HostFiles<'r, R: rt::Files> {
     faults: u64,
     turns: Turns,
     asked: Notes,
+    gave: Given,
 }
 
 impl<'r, R: rt::Files> Model for HostFiles<'r, R> {
@@ -94,19 +110,20 @@ impl<'r, R: rt::Files> Model for HostFiles<'r, R> {
 
     ghost Value = { SeenHost };
 
-    ghost view = { λ f. record { faults = f.faults; turns = f.turns; asked = f.asked.items } };
+    ghost view = { λ f. record { faults = f.faults; turns = f.turns; asked = f.asked.items; gave = f.gave } };
 }
 
 impl<'r, R: rt::Files> HostFiles<'r, R> {
     /// Returns the files of a runtime, before any read.
     pub fn new(rt: &'r R) -> HostFiles<'r, R>
-        ensures { result ≡ record { faults = 0; turns = []; asked = [] } }
+        ensures { result ≡ record { faults = 0; turns = []; asked = []; gave = [] } }
     {
         HostFiles {
             rt,
             faults: 0,
             turns: Turns::new(),
             asked: Notes::new(),
+            gave: Given::new(),
         }
     }
 }
@@ -122,10 +139,15 @@ impl<'r, R: rt::Files> Files for HostFiles<'r, R> {
 
     ghost asked = { λ f. f.asked };
 
+    ghost gave = { λ f. f.gave };
+
     /// Reads at most one byte more than the limit. Each turn but the last takes at least one byte, and none
     /// takes more than 2^18. A failed read counts as a fault, and nothing else does.
     fn read(&mut self, alloc: Global, name: &str, limit: u64) -> Result<Vec<u8>, FileAnswer>
         ensures asked { self.new.asked ≡ self.old.asked ++ name.now ∷ [] }
+        ensures gave { IfOk result (λ v.
+            self.new.gave ≡ self.old.gave ++ (name.now, v.items) ∷ []) }
+        ensures ungiven { OnErr result (self.new.gave ≡ self.old.gave) }
         ensures later { self.old.faults ≤ self.new.faults }
         ensures more { taken_by self.old ≤ taken_by self.new }
         ensures most { taken_by self.new ≤ taken_by self.old + (limit + 1) }
@@ -150,7 +172,10 @@ impl<'r, R: rt::Files> Files for HostFiles<'r, R> {
         match outcome {
             Err(e) => Err(answer(&mut self.faults, &e)),
             Ok(()) if bytes.len() as u64 > limit => Err(FileAnswer::TooLong),
-            Ok(()) => Ok(bytes),
+            Ok(()) => {
+                self.gave.add(name, &bytes);
+                Ok(bytes)
+            }
         }
     }
 }

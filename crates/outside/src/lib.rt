@@ -3,6 +3,7 @@
 
 mod calls;
 mod files;
+mod given;
 mod host;
 mod memory;
 mod notes;

@@ -9,6 +9,7 @@ ghost use Rattle.outside.specs.SeenPairs.{seen_pairs};
 
 use crate::calls::count_call;
 use crate::files::{FileAnswer, Files};
+use crate::given::Given;
 use crate::notes::Notes;
 use crate::sink::{Failed, Sink};
 use size_core::NoMemory;
@@ -123,6 +124,7 @@ pub struct MemFiles {
     faults: u64,
     last_failed: Option<String>,
     asked: Notes,
+    gave: Given,
 }
 
 impl Model for MemFiles {
@@ -131,7 +133,7 @@ impl Model for MemFiles {
 
     ghost Value = { FilesInMemory };
 
-    ghost view = { λ f. record { pairs = seen_pairs f.pairs.items; failing = f.failing.items; calls = f.calls; faults = f.faults; last_failed = name_of_failed f.last_failed; asked = f.asked.items } };
+    ghost view = { λ f. record { pairs = seen_pairs f.pairs.items; failing = f.failing.items; calls = f.calls; faults = f.faults; last_failed = name_of_failed f.last_failed; asked = f.asked.items; gave = f.gave } };
 }
 
 impl MemFiles {
@@ -146,6 +148,7 @@ impl MemFiles {
             faults: 0,
             last_failed: None,
             asked: Notes::new(),
+            gave: Given::new(),
         }
     }
 
@@ -188,9 +191,14 @@ impl Files for MemFiles {
 
     ghost asked = { λ f. f.asked };
 
+    ghost gave = { λ f. f.gave };
+
     /// Fails exactly if the read is listed as failing, unless there is no memory to keep its name.
     fn read(&mut self, alloc: Global, name: &str, limit: u64) -> Result<Vec<u8>, FileAnswer>
         ensures asked { self.new.asked ≡ self.old.asked ++ name.now ∷ [] }
+        ensures gave { IfOk result (λ v.
+            self.new.gave ≡ self.old.gave ++ (name.now, v.items) ∷ []) }
+        ensures ungiven { OnErr result (self.new.gave ≡ self.old.gave) }
         ensures held { Some self.new.pairs ≡ Some self.old.pairs }
         ensures later { self.old.faults ≤ self.new.faults }
         ensures more { 0 ≤ 0 }
@@ -211,7 +219,9 @@ impl Files for MemFiles {
         if count_call(&mut self.calls, &self.failing) {
             return Err(self.fail(alloc, name));
         }
-        copy_of(alloc, find(&self.pairs, name), limit)
+        let bytes = copy_of(alloc, find(&self.pairs, name), limit)?;
+        self.gave.add(name, &bytes);
+        Ok(bytes)
     }
 }
 
@@ -220,6 +230,7 @@ impl Files for MemFiles {
 pub struct NoFaultFiles {
     pairs: Vec<(String, Vec<u8>)>,
     asked: Notes,
+    gave: Given,
 }
 
 impl Model for NoFaultFiles {
@@ -228,17 +239,18 @@ impl Model for NoFaultFiles {
 
     ghost Value = { SoundFiles };
 
-    ghost view = { λ f. record { pairs = seen_pairs f.pairs.items; asked = f.asked.items } };
+    ghost view = { λ f. record { pairs = seen_pairs f.pairs.items; asked = f.asked.items; gave = f.gave } };
 }
 
 impl NoFaultFiles {
     /// Returns files with these names and bytes.
     pub fn new(pairs: Vec<(String, Vec<u8>)>) -> NoFaultFiles
-        ensures { result ≡ record { pairs = seen_pairs pairs.items; asked = [] } }
+        ensures { result ≡ record { pairs = seen_pairs pairs.items; asked = []; gave = [] } }
     {
         NoFaultFiles {
             pairs,
             asked: Notes::new(),
+            gave: Given::new(),
         }
     }
 }
@@ -254,8 +266,12 @@ impl Files for NoFaultFiles {
 
     ghost asked = { λ f. f.asked };
 
+    ghost gave = { λ f. f.gave };
+
     fn read(&mut self, alloc: Global, name: &str, limit: u64) -> Result<Vec<u8>, FileAnswer> {
         self.asked.add(name.as_bytes());
-        copy_of(alloc, find(&self.pairs, name), limit)
+        let bytes = copy_of(alloc, find(&self.pairs, name), limit)?;
+        self.gave.add(name, &bytes);
+        Ok(bytes)
     }
 }

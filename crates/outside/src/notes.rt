@@ -17,8 +17,8 @@ impl Model for Notes {
 }
 
 impl Notes {
-    // Returns an empty list.
-    pub(crate) fn new() -> Notes
+    /// Returns an empty list.
+    pub fn new() -> Notes
         ensures { result.items ≡ [] }
     {
         Notes {
@@ -26,8 +26,8 @@ impl Notes {
         }
     }
 
-    // Adds an item at the end.
-    pub(crate) fn add(&mut self, _item: &[u8])
+    /// Adds an item at the end.
+    pub fn add(&mut self, _item: &[u8])
         ensures { self.new.items ≡ self.old.items ++ _item.now ∷ [] }
     {}
 }

@@ -3,6 +3,10 @@ pub mod Growth
 pub mod Labels
 pub mod Lines
 pub mod Numbers
+pub mod PathRecords
 pub mod Places
+pub mod ReadBack
+pub mod Reading
 pub mod Records
 pub mod Worked
+pub mod WorkedReading

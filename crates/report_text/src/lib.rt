@@ -5,6 +5,7 @@
 mod fields;
 mod growth;
 mod labels;
+mod laws;
 mod lines;
 mod numbers;
 mod pieces;
@@ -14,5 +15,9 @@ mod rows;
 mod sizes;
 
 pub use growth::{growth_csv, growth_text, growth_tsv};
+pub use laws::{
+    each_growth_has_a_record, each_path_has_a_record, growth_reads_back, reads_the_examples,
+    records_read_back,
+};
 pub use places::place_text;
 pub use sizes::{csv, text, tsv};

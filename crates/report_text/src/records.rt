@@ -1,6 +1,6 @@
 //! The records of a report (RFC 4180). Each ends in a line feed.
 
-ghost use Rattle.std.specs.Prelude.{◌≡◌, ◌<◌, ◌+◌, ◌++◌, ℕ, List, Some, length, map, drop, slice_get, IfOk, OnOk};
+ghost use Rattle.std.specs.Prelude.{◌≡◌, ◌<◌, ◌+◌, ◌++◌, ℕ, List, [], Some, length, map, drop, slice_get, IfOk, OnOk};
 ghost use Rattle.std.specs.List.{flat_map};
 ghost use Rattle.csv.specs.Writing.{row_text};
 ghost use Rattle.report_rows.specs.Trees.{IsTree, has_children};
@@ -15,6 +15,15 @@ use itoa::Buffer;
 use size_core::{Domain, List, Names, NoMemory};
 use std::alloc::Global;
 use std::io::Write;
+
+// A writer of records with this byte between fields.
+fn new_writer(alloc: Global, delimiter: u8) -> Writer<Vec<u8>>
+    ensures { IsReady (λ v. Some v.items) delimiter result [] }
+{
+    WriterBuilder::new()
+        .delimiter(delimiter)
+        .from_writer(Vec::new(alloc))
+}
 
 // Writes a record.
 fn put<W: Write + Drop>(
@@ -148,9 +157,7 @@ pub fn table<T: ReportTree>(
     ensures { IfOk result (λ v. v.items ≡ table_text delimiter T.Entry.as_row (T.Entry.sizes domain)
         (T.depth tree.now) domain sources.now (T.rows tree.now)) }
 {
-    let mut writer = WriterBuilder::new()
-        .delimiter(delimiter)
-        .from_writer(Vec::new(alloc));
+    let mut writer = new_writer(alloc, delimiter);
     let fields = header(alloc, sources, domain)?;
     put(&mut writer, delimiter, fields.as_slice())?;
     let mut path = Vec::new(alloc);

@@ -1,4 +1,4 @@
-//! The files of the worked runs.
+//! The small input files of the tests of whole runs.
 
 use crate::debug_files::{
     compressed_units, folders, macho_units, operations, two_rows, two_units, unnamed_units,
@@ -15,7 +15,7 @@ use crate::numbers::{Class, Order};
 use crate::pair_files::{debug_file, macho_stripped, macho_symbol_file, stripped};
 use std::alloc::{AllocError, Global};
 
-/// Names of symbols: `a` at 1, `b` at 3.
+/// A string table with the names of symbols: `a` at offset 1, `b` at offset 3.
 pub const SYMBOL_NAMES: Section<'static> = Section {
     name: b".strtab",
     kind: 3,

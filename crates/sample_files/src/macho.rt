@@ -4,7 +4,7 @@ use crate::image::put_all;
 use crate::numbers::{Class, Numbers, Order};
 use std::alloc::{AllocError, Global};
 
-/// What a file's header says.
+/// The class, the byte order and the file type of a Mach-O header.
 #[derive(Clone, Copy)]
 pub struct MachoHead {
     pub class: Class,

@@ -74,7 +74,8 @@ impl Grouped for Item {
     }
 }
 
-/// The items of a level of these paths, within the limit, in the order of a report.
+/// The items of one level, from these paths: one for each label within the limit and one for the others, in the
+/// order of the report.
 pub fn items(
     alloc: Global,
     options: &RowOptions,

@@ -27,8 +27,8 @@ fn sections<'a>(info: &'a [u8], declared: &'a [u8]) -> Sections<'a>
     }
 }
 
-/// What a unit has: its offset and length, its version and type, the size of an address, whether it is
-/// wide, the offset of its abbreviations, and how many bytes its body has.
+/// The tested values of a unit: offset and length; version and unit type; address size, and whether it is 64-bit
+/// DWARF; offset of its abbreviations, and the bytes of its body.
 type Told = ((u64, u64), (u16, u8), (u8, bool), (u64, u64));
 
 fn told(unit: Option<Result<DwarfUnit<'_>, BadFile>>) -> Option<Result<Told, (Fault, u64)>> {
@@ -154,10 +154,8 @@ fn values_of_a_root(rt: HostRuntime) {
         b"\x01ab\0cd\0\x01\x02\x03\x04\x05\x06\0\0\0\x07\0\0\0\x08\0\0\0",
         0,
     );
-    let mut table = Abbrevs::at(&sections.abbrev, 0, 1000).expect(&rt, "the table has no fault");
-    let root = unit
-        .root_in(&mut table)
-        .expect(&rt, "the values have no fault");
+    let table = Abbrevs::at(&sections.abbrev, 0, 1000).expect(&rt, "the table has no fault");
+    let root = unit.root_in(&table).expect(&rt, "the values have no fault");
     assert_eq!(rt;
         (root.place, root.table_place, root.table_len),
         (1000, 2000, 27)
@@ -179,7 +177,7 @@ fn values_of_a_root(rt: HostRuntime) {
 fn roots_by_one_table(rt: HostRuntime) {
     let named = b"\x01ab\0cd\0\x01\x02\x03\x04\x05\x06\0\0\0\x07\0\0\0\x08\0\0\0".as_slice();
     let sections = sections(b"", ABBREV);
-    let mut table = Abbrevs::at(&sections.abbrev, 0, 1000).expect(&rt, "the table has no fault");
+    let table = Abbrevs::at(&sections.abbrev, 0, 1000).expect(&rt, "the table has no fault");
     for (body, has_low) in [
         (named, true),
         (b"\x02\x0b\x07".as_slice(), false),
@@ -187,7 +185,7 @@ fn roots_by_one_table(rt: HostRuntime) {
         (named, true),
     ] {
         let root = unit(body, 0)
-            .root_in(&mut table)
+            .root_in(&table)
             .expect(&rt, "the values have no fault");
         assert_eq!(rt; root.low.is_some(), has_low);
     }

@@ -25,6 +25,15 @@ const UNIT_OF_NO_NAME: &[u8] = b"\x08\0\0\0\x04\0\0\0\0\0\x04\0";
 
 const UNIT_OF_NO_CODE: &[u8] = b"\x08\0\0\0\x04\0\0\0\0\0\x04\x09";
 
+/// Two equal units of DWARF 4, of 22 bytes each, which have the string `x`, and 0x20 bytes from 0x1000 on.
+const TWO_UNITS: &[u8] =
+    b"\x12\0\0\0\x04\0\0\0\0\0\x04\x01x\0\0\x10\0\0\x20\0\0\0\x12\0\0\0\x04\0\0\0\0\0\x04\x01x\0\0\x10\0\0\x20\0\0\0";
+
+/// Code 1 has a name that is a flag without bytes, and the string is its second name. Its next attribute is unknown and has
+/// no bytes, too. It is declared again with no attributes. Both are 21 bytes with the end of the table.
+const DECLARED_TWICE: &[u8] =
+    b"\x01\x11\0\x03\x19\x03\x08\x7f\x19\x11\x01\x12\x06\0\0\x01\x11\0\0\0\0";
+
 /// A set of the unit at 0, of 40 bytes: the addresses from 0x1000 on, 0x20 bytes, and those from 0 on, 5 bytes; and one
 /// of a unit at 5, of 16 bytes.
 const SETS: &[u8] =
@@ -90,7 +99,7 @@ type Claimed<'a> = (
     &'a [(Side, u64, u64)],
 );
 
-const CLAIMED: [Claimed<'static>; 3] = [
+const CLAIMED: [Claimed<'static>; 4] = [
     (
         UNIT_4,
         DECLARED_4,
@@ -122,6 +131,20 @@ const CLAIMED: [Claimed<'static>; 3] = [
         b"",
         b"[Unnamed unit]",
         &[(Side::File, 1000, 12), (Side::File, 2000, 1)],
+    ),
+    (
+        TWO_UNITS,
+        DECLARED_TWICE,
+        b"",
+        b"[Unnamed unit]",
+        &[
+            (Side::Vm, 0x1000, 0x20),
+            (Side::File, 1000, 22),
+            (Side::File, 2000, 21),
+            (Side::Vm, 0x1000, 0x20),
+            (Side::File, 1022, 22),
+            (Side::File, 2000, 21),
+        ],
     ),
 ];
 

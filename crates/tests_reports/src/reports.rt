@@ -1,4 +1,4 @@
-//! Words and a file, and the whole report that they make.
+//! Arguments and a file, and the whole report of the run.
 
 use sample_files::{Input, bytes_of};
 use sample_runs::{is_report, run, run_over, sound};

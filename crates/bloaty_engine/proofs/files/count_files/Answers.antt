@@ -14,7 +14,7 @@ use Rattle.bloaty_engine.proofs.files.count_files.Goals as goal
 
 pub loop-k-init : goal.loop-k-init
 loop-k-init g c = record {
-  counted = rw c.new-total.ensures (counted-none (g.F.Files.held c.args.files.now) c.args.run.now.limits c.args.plan.now.sources (filter_test c.args.plan.now.filter) (batch_of c.args.tally.now.files c.args.tally.now.bytes c.args.names.now) c.depth.result c.depth.ensures);
+  counted = rw c.new-total.ensures (counted-none (g.F.Files.held c.args.files.now) c.args.run.now.limits c.args.plan.now.sources (filter_test c.args.plan.now.filter) (batch_of c.args.tally.now.files c.args.tally.now.bytes c.args.names.now) (g.F.Files.gave c.args.files.now) c.depth.result c.depth.ensures);
   within = c.requires.room;
   reads = unread-ok g.F.Files (front c.args.run.now.limits (batch_of c.args.tally.now.files c.args.tally.now.bytes c.args.names.now) 0) tt c.args.files.now (take-none c.args.names.now);
   taken = rw c.new-total.ensures (taken-none (g.F.Files.held c.args.files.now) (g.F.Files.taken c.args.files.now));
@@ -27,8 +27,8 @@ returns-in_err-file-clause-counted g c =
     let found = rw (c.loop-k.invariant.reads.held, c.as_str.ensures) at c.in_err-file.ensures.found in
     let to = c.loop-k.invariant.counted in
     let more = extended (g.F.Files.held c.args.files.now) batch.first c.args.names.now to.bytes c.loop-k.k c.get-name.result.now found.0 to.are c.get-name.ensures found.1 in
-    rw (p.1, p.2) (read-ends (g.F.Files.held c.args.files.now) c.args.run.now.limits c.args.plan.now.sources (filter_test c.args.plan.now.filter) batch c.loop-k.k c.loop-k.tally.bytes c.min-limit.result c.loop-k.total c.get-name.result.now
-    found.0 c.in_err-file.field-0.0 to more c.get-name.ensures (omega (arith, c.loop-k-test.true, c.len-k-end.ensures)) c.loop-k.invariant.within (rw (c.file_limit.ensures, c.total_limit.ensures) at c.min-limit.ensures) found.2)
+    rw (p.1, p.2) (read-ends (g.F.Files.held c.args.files.now) c.args.run.now.limits c.args.plan.now.sources (filter_test c.args.plan.now.filter) batch (g.F.Files.gave c.args.files.now) (g.F.Files.gave c.read_file.new.files) c.loop-k.k c.loop-k.tally.bytes c.min-limit.result c.loop-k.total c.get-name.result.now
+    found.0 c.in_err-file.field-0.0 to more c.get-name.ensures (omega (arith, c.loop-k-test.true, c.len-k-end.ensures)) c.loop-k.invariant.within (rw (c.file_limit.ensures, c.total_limit.ensures) at c.min-limit.ensures) found.2 found.3)
 
 pub returns-in_err-count_file-clause-counted : goal.returns-in_err-count_file-clause-counted
 returns-in_err-count_file-clause-counted g c =
@@ -40,8 +40,8 @@ returns-in_err-count_file-clause-counted g c =
     let limit : c.min-limit.result ≡ min (file_limit c.args.run.now.limits) (total_limit c.args.run.now.limits - c.loop-k.tally.bytes) = rw (c.file_limit.ensures, c.total_limit.ensures) at c.min-limit.ensures in
     let room : c.loop-k.tally.bytes + length found.0 ≤ total_limit c.args.run.now.limits
     = omega (arith, found.2.1, c.loop-k.invariant.within, min-within (file_limit c.args.run.now.limits) (total_limit c.args.run.now.limits) c.loop-k.tally.bytes c.min-limit.result limit) in
-    rw (p.1, p.2) (count-ends (g.F.Files.held c.args.files.now) c.args.run.now.limits c.args.plan.now.sources (filter_test c.args.plan.now.filter) batch c.loop-k.k c.loop-k.tally.bytes c.loop-k.total c.get-name.result.now
-    found.0 c.in_err-count_file.field-0.0 to more c.get-name.ensures (omega (arith, c.loop-k-test.true, c.len-k-end.ensures)) ((rw (c.deref.ensures.value, found.2.0) at c.in_err-count_file.ensures.ended) c.loop-k.tally.bytes room))
+    rw (p.1, p.2) (count-ends (g.F.Files.held c.args.files.now) c.args.run.now.limits c.args.plan.now.sources (filter_test c.args.plan.now.filter) batch (g.F.Files.gave c.args.files.now) c.in_ok-file.file (g.F.Files.gave c.read_file.new.files) c.loop-k.k c.loop-k.tally.bytes c.loop-k.total c.get-name.result.now
+    found.0 c.in_err-count_file.field-0.0 to more c.get-name.ensures (omega (arith, c.loop-k-test.true, c.len-k-end.ensures)) ((rw (c.deref.ensures.value, found.2.0) at c.in_err-count_file.ensures.ended) c.loop-k.tally.bytes room) found.3)
 
 pub loop-k-preserved : goal.loop-k-preserved
 loop-k-preserved g c =
@@ -61,8 +61,8 @@ loop-k-preserved g c =
     let taken = rw (c.loop-k.invariant.reads.held, size) at c.in_ok-file.ensures.taken in
     let more_taken : c.count_file.new.total.lengths ≡ c.loop-k.total.lengths + c.len.result = omega (arith, lengths, size) in
     record {
-      counted = counted-next (g.F.Files.held c.args.files.now) c.args.run.now.limits c.args.plan.now.sources (filter_test c.args.plan.now.filter) batch c.loop-k.k c.loop-k.tally.bytes (c.loop-k.tally.bytes + c.len.result)
-          c.loop-k.total c.count_file.new.total c.get-name.result.now found.0 f.0 to more c.get-name.ensures le f.1 has (omega (arith, more_taken, to.lengths_are));
+      counted = counted-next (g.F.Files.held c.args.files.now) c.args.run.now.limits c.args.plan.now.sources (filter_test c.args.plan.now.filter) batch (g.F.Files.gave c.args.files.now) c.in_ok-file.file (g.F.Files.gave c.read_file.new.files) c.loop-k.k c.loop-k.tally.bytes (c.loop-k.tally.bytes + c.len.result)
+          c.loop-k.total c.count_file.new.total c.get-name.result.now found.0 f.0 to more c.get-name.ensures le f.1 has (omega (arith, more_taken, to.lengths_are)) found.3;
       within = omega (arith, room, len);
       reads = follows g.F.Files (front c.args.run.now.limits batch c.loop-k.k) (file_reading (batch.first + c.loop-k.k) c.get-name.result.now c.min-limit.result) (front c.args.run.now.limits batch (c.loop-k.k + 1)) tt (Ok tt)
           c.loop-k.total.lengths c.args.files.now c.loop-k.files c.read_file.new.files (take-next c.args.names.now c.loop-k.k c.get-name.result.now c.get-name.ensures)
@@ -73,7 +73,7 @@ loop-k-preserved g c =
 
 pub returns-clause-counted : goal.returns-clause-counted
 returns-clause-counted g c =
-    all-counted (g.F.Files.held c.args.files.now) c.args.run.now.limits c.args.plan.now.sources (filter_test c.args.plan.now.filter) (batch_of c.args.tally.now.files c.args.tally.now.bytes c.args.names.now) c.loop-k.k c.loop-k.tally.bytes c.loop-k.total
+    all-counted (g.F.Files.held c.args.files.now) c.args.run.now.limits c.args.plan.now.sources (filter_test c.args.plan.now.filter) (batch_of c.args.tally.now.files c.args.tally.now.bytes c.args.names.now) (g.F.Files.gave c.args.files.now) c.loop-k.k c.loop-k.tally.bytes c.loop-k.total
     c.loop-k.invariant.counted (omega (arith, c.loop-k-test.false, c.len-k-end.ensures))
 
 pub returns-clause-tally : goal.returns-clause-tally

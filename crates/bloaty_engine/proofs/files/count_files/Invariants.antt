@@ -11,7 +11,7 @@ use Rattle.bloaty_engine.proofs.files.count_files.Given as goal
 
 abbrev pub invariant-loop-k : goal.invariant-loop-k
 invariant-loop-k g l = record {
-  counted : AreCountedTo (g.F.Files.held l.fn.files) l.run.limits l.plan.sources (filter_test l.plan.filter) (batch_of l.fn.tally.files l.fn.tally.bytes l.names) l.k l.tally.bytes l.total;
+  counted : AreCountedTo (g.F.Files.held l.fn.files) l.run.limits l.plan.sources (filter_test l.plan.filter) (batch_of l.fn.tally.files l.fn.tally.bytes l.names) l.k l.tally.bytes l.total (g.F.Files.gave l.fn.files) (g.F.Files.gave l.files);
   within : l.tally.bytes ≤ total_limit l.run.limits;
   reads : Reads {X = ⊤} g.F.Files (front l.run.limits (batch_of l.fn.tally.files l.fn.tally.bytes l.names) l.k) (Ok tt) l.fn.files l.files;
   taken : IsTaken (g.F.Files.held l.fn.files) l.total.lengths (g.F.Files.taken l.fn.files) (g.F.Files.taken l.files);

@@ -2,8 +2,8 @@
 use Rattle.std.proofs.Common.{◌≡◌, ◌+◌, ◌-◌, ◌≤◌, ◌∷◌, [], length, min, Err, refl, ap, arith}
 use Rattle.std.proofs.lemmas.Result.{err_from_is_err_and}
 use Rattle.file_profile.specs.Counts.{filter_test}
-use Rattle.file_profile.proofs.MapLemmas.{err-same}
 use Rattle.bloaty_engine.specs.Verdict.{file_limit, first_name, total_limit}
+use Rattle.bloaty_engine.proofs.GivenLemmas.{given-all, gives-as, gives-behind, gives-ended, gives-stops}
 use Rattle.bloaty_engine.proofs.HeldLemmas.{held-some}
 use Rattle.bloaty_engine.proofs.PairLemmas.{pair-counted, pair-first, paired-not-long, paired-unread, second-read}
 use Rattle.bloaty_engine.specs.Reading.{file_reading}
@@ -17,7 +17,7 @@ returns-in_err-file-clause-counted g c =
     let p = err_from_is_err_and c.from_residual.result c.from_residual.ensures.1 in
     let found = c.in_err-file.ensures.found in
     let other = held-some (g.F.Files.held c.args.files.now) c.args.debug.now in
-    rw (p.1, p.2) (found.0, other.0, found.1, other.1, pair-first c.args.run.now.limits c.args.plan.now.sources (filter_test c.args.plan.now.filter) (first_name c.args.run.now.options) found.0 other.0 c.in_err-file.field-0.0 found.2)
+    rw (p.1, p.2) (found.0, other.0, found.1, other.1, pair-first c.args.run.now.limits c.args.plan.now.sources (filter_test c.args.plan.now.filter) (first_name c.args.run.now.options) found.0 other.0 c.in_err-file.field-0.0 found.2, gives-stops _ _ _ ((first_name c.args.run.now.options, found.0) ∷ []) ((c.args.debug.now, other.0) ∷ []) found.3)
 
 pub returns-in_err-other-clause-counted : goal.returns-in_err-other-clause-counted
 returns-in_err-other-clause-counted g c =
@@ -26,7 +26,14 @@ returns-in_err-other-clause-counted g c =
     let other = rw (c.read_first.ensures.files.held, c.as_str.ensures) at c.in_err-other.ensures.found in
     let len : c.len.result ≡ length own.0 = omega (arith, c.len.ensures, c.in_ok-file.file.ok, ap length own.2.0) in
     let limit : c.min-limit.result ≡ min (file_limit c.args.run.now.limits) (total_limit c.args.run.now.limits - length own.0) = rw (c.file_limit.ensures, c.total_limit.ensures, len) at c.min-limit.ensures in
-    rw (p.1, p.2) (own.0, other.0, own.1, other.1, second-read c.args.run.now.limits c.args.plan.now.sources (filter_test c.args.plan.now.filter) (first_name c.args.run.now.options) own.0 own.2.1 other.0 c.min-limit.result limit c.in_err-other.field-0.0 other.2)
+    rw (p.1, p.2) (
+      own.0,
+      other.0,
+      own.1,
+      other.1,
+      second-read c.args.run.now.limits c.args.plan.now.sources (filter_test c.args.plan.now.filter) (first_name c.args.run.now.options) own.0 own.2.1 other.0 c.min-limit.result limit c.in_err-other.field-0.0 other.2,
+      gives-behind _ _ _ _ ((first_name c.args.run.now.options, own.0) ∷ []) ((c.args.debug.now, other.0) ∷ []) (given-all c.in_ok-file.file _ _ _ own.3) (gives-ended _ _ _ _ other.3),
+    )
 
 pub returns-clause-counted : goal.returns-clause-counted
 returns-clause-counted g c =
@@ -41,6 +48,7 @@ returns-clause-counted g c =
       other.1,
       pair-counted c.args.run.now.limits c.args.plan.now.sources (filter_test c.args.plan.now.filter) (first_name c.args.run.now.options) own.0 own.2.1 other.0 c.min-limit.result limit other.2.1 room
           c.count_opened.result (rw (c.deref.ensures.value, c.deref-2.ensures.value, own.2.0, other.2.0) at c.count_opened.ensures),
+      gives-behind _ _ _ _ ((first_name c.args.run.now.options, own.0) ∷ []) ((c.args.debug.now, other.0) ∷ []) (given-all c.in_ok-file.file _ _ _ own.3) (gives-as c.in_ok-other.other _ _ _ _ other.3),
     )
 
 pub returns-in_err-file-clause-files : goal.returns-in_err-file-clause-files

@@ -4,7 +4,8 @@ use Rattle.std.proofs.lemmas.Result.{err_from_is_err_and}
 use Rattle.bloaty_engine.specs.Reading.{files_to_read, reading_for}
 use Rattle.bloaty_engine.specs.Steps.{batch_of, batch_reading}
 use Rattle.bloaty_engine.specs.Verdict.{first_name}
-use Rattle.bloaty_engine.proofs.PairLemmas.{debug-held, own-held, pair-ends, pair-found, pair-named, pair-one-input, pair-part, read-are, two}
+use Rattle.bloaty_engine.proofs.GivenLemmas.{gives-as, gives-ended}
+use Rattle.bloaty_engine.proofs.PairLemmas.{debug-held, own-held, pair-ends, pair-found, pair-named, pair-one-input, pair-pairs, pair-part, read-are, two}
 use Rattle.bloaty_engine.proofs.StepLemmas.{part-most, stops, then-no-memory, then-ok}
 use Rattle.bloaty_engine.proofs.pair.pair_report.Goals as goal
 
@@ -23,6 +24,7 @@ returns-in_err-total-clause-found g c =
       ),
       pair-ends o (first_name c.args.run.now.options) c.args.debug.now is c.requires.debug (pair-named c.args.run.now.options (c.requires.limits.debug _ c.requires.debug)) c.args.run.now.limits c.args.plan.now.sources c.args.plan.now.filter c.requires.planned.filter c.requires.planned.depth c.requires.no_place e.0 e.1
           c.in_err-total.field-0.0 e.4,
+      rw (pair-pairs o (first_name c.args.run.now.options) c.args.debug.now is c.requires.debug (pair-named c.args.run.now.options (c.requires.limits.debug _ c.requires.debug)) e.0 e.1) (gives-ended _ _ _ _ e.5),
     )
 
 pub count_pair-requires-clause-one : goal.count_pair-requires-clause-one
@@ -68,6 +70,7 @@ returns-in_err-report_of-clause-found g c =
         debug-held o (first_name c.args.run.now.options) c.args.debug.now is c.requires.debug (pair-named c.args.run.now.options (c.requires.limits.debug _ c.requires.debug)) held e.0 e.1 e.3,
       ),
       tt,
+      rw (pair-pairs o (first_name c.args.run.now.options) c.args.debug.now is c.requires.debug (pair-named c.args.run.now.options (c.requires.limits.debug _ c.requires.debug)) e.0 e.1) (gives-as c.in_ok-total.total _ _ _ _ e.5),
     )
 
 pub returns-clause-found : goal.returns-clause-found
@@ -83,4 +86,5 @@ returns-clause-found g c =
       ),
       pair-found o (first_name c.args.run.now.options) c.args.debug.now is c.requires.debug (pair-named c.args.run.now.options (c.requires.limits.debug _ c.requires.debug)) c.args.run.now.limits c.args.plan.now.sources c.args.plan.now.filter c.requires.planned.filter c.requires.planned.depth c.requires.no_place e.0 e.1
           c.in_ok-total.total c.in_ok-report_of.field-0 e.4 (rw (← c.total.view_is) c.total.invariant) c.in_ok-report_of.ensures,
+      rw (pair-pairs o (first_name c.args.run.now.options) c.args.debug.now is c.requires.debug (pair-named c.args.run.now.options (c.requires.limits.debug _ c.requires.debug)) e.0 e.1) (gives-as c.in_ok-total.total _ _ _ _ e.5),
     )

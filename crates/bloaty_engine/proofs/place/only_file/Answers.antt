@@ -3,13 +3,15 @@ use Rattle.std.proofs.Common.{◌≡◌, ◌+◌, ◌∷◌, [], length, min, re
 use Rattle.elf_synth.specs.Made.{made}
 use Rattle.bloaty_engine.specs.Reading.{file_reading, reading_for, unmade_names}
 use Rattle.bloaty_engine.specs.Verdict.{file_limit, first_name, total_limit}
+use Rattle.bloaty_engine.proofs.GivenLemmas.{gives-none}
 use Rattle.bloaty_engine.proofs.PairLemmas.{one-held}
 use Rattle.bloaty_engine.proofs.PlaceLemmas.{first-file, first-of-run}
+use Rattle.bloaty_engine.proofs.ReadLemmas.{OnOk-any}
 use Rattle.bloaty_engine.proofs.StepLemmas.{made-unread, reads-as}
 use Rattle.bloaty_engine.proofs.place.only_file.Goals as goal
 
 pub returns-in-Some-clause-found : goal.returns-in-Some-clause-found
-returns-in-Some-clause-found g c = rw (c.in-Some.is, ← c.file_limit.ensures, ← c.total_limit.ensures, ← c.min-limit.ensures) ((λ i. made c.in-Some.n), refl, c.made_file.ensures.found)
+returns-in-Some-clause-found g c = rw (c.in-Some.is, ← c.file_limit.ensures, ← c.total_limit.ensures, ← c.min-limit.ensures) ((λ i. made c.in-Some.n), refl, c.made_file.ensures.found, gives-none _ _ [] (OnOk-any _ _ refl))
 
 pub returns-in-None-clause-found : goal.returns-in-None-clause-found
 returns-in-None-clause-found g c =
@@ -17,7 +19,7 @@ returns-in-None-clause-found g c =
     let found = rw c.first_name.ensures at c.read_file.ensures.found in
     let files = first-file c.args.run.now.options c.in-None.is one in
     rw (c.in-None.is, files, ← c.file_limit.ensures, ← c.total_limit.ensures, ← c.min-limit.ensures)
-    ((λ i. found.0), one-held (g.F.Files.held c.args.files.now) 1 (first_name c.args.run.now.options) found.0 (λ i. found.0) refl found.1, found.2)
+    ((λ i. found.0), one-held (g.F.Files.held c.args.files.now) 1 (first_name c.args.run.now.options) found.0 (λ i. found.0) refl found.1, found.2, found.3)
 
 pub returns-in-None-clause-unmade : goal.returns-in-None-clause-unmade
 returns-in-None-clause-unmade g c = rw c.in-None.is (λ k e. tt)

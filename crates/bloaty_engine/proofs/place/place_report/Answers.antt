@@ -5,7 +5,9 @@ use Rattle.std.proofs.lemmas.Result.{err_from_is_err_and}
 use Rattle.bloaty_engine.specs.PlaceSteps.{EndsExplained, explained_within}
 use Rattle.file_profile.proofs.MapLemmas.{err-same}
 use Rattle.run_outcome.specs.Names.{file_names, other_names}
+use Rattle.bloaty_engine.specs.Given.{pairs_from}
 use Rattle.bloaty_engine.specs.Reading.{files_to_read, reading_for, unmade_names}
+use Rattle.bloaty_engine.proofs.GivenLemmas.{gives-stops, gives-then}
 use Rattle.bloaty_engine.proofs.PlaceLemmas.{no-other-names, no-others-held, only-ends, place-ends, place-found}
 use Rattle.bloaty_engine.proofs.StepLemmas.{same-run, stops, then-no-memory, then-ok, then-unread}
 use Rattle.bloaty_engine.proofs.place.place_report.Goals as goal
@@ -20,6 +22,7 @@ returns-in_err-file-clause-found g c =
       e.0,
       (e.1, no-others-held (g.F.Files.held c.args.files.now) (length (file_names o) + 1) (other_names o) e.0 (no-other-names o alone)),
       only-ends c.args.run.now.limits c.args.plan.now.sources e.0 o c.args.place.now c.requires.place c.in_err-file.field-0.0 alone.no_debug alone.one_file (λ k is. c.in_err-file.ensures.unmade k (ap Err is)) e.2,
+      gives-stops _ _ _ _ _ e.3,
     )
 
 pub returns-in_err-file-clause-files : goal.returns-in_err-file-clause-files
@@ -59,6 +62,7 @@ returns-in_err-sources-clause-found g c =
       e.0,
       (e.1, no-others-held (g.F.Files.held c.args.files.now) (length (file_names o) + 1) (other_names o) e.0 (no-other-names o alone)),
       place-ends c.args.run.now.limits c.args.plan.now.sources e.0 o c.args.place.now c.requires.place e.2.1 c.in_err-sources.field-0.0 (subst (λ x. EndsExplained (explained_within c.args.run.now.limits c.args.plan.now.sources o c.args.place.now x) (Err c.in_err-sources.field-0.0)) (c.deref.ensures.value ∙ e.2.0) c.in_err-sources.ensures),
+      gives-then c.in_ok-file.file _ _ _ _ _ tt e.3,
     )
 
 pub returns-clause-found : goal.returns-clause-found
@@ -70,4 +74,5 @@ returns-clause-found g c =
       (e.1, no-others-held (g.F.Files.held c.args.files.now) (length (file_names o) + 1) (other_names o) e.0 (no-other-names o alone)),
       place-found c.args.run.now.limits c.args.plan.now.sources e.0 o c.args.place.now c.requires.place e.2.1 c.in_ok-sources.sources.items c.in_ok-text_of.field-0 (rw (c.deref.ensures.value, e.2.0) at c.in_ok-sources.ensures)
           (rw c.deref-2.ensures.value at c.in_ok-text_of.ensures),
+      gives-then c.in_ok-file.file _ _ _ _ _ (ap (λ ns. pairs_from (length (file_names o) + 1) ns e.0) (no-other-names o alone)) e.3,
     )

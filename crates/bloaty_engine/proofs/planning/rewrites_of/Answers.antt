@@ -2,8 +2,10 @@
 use Rattle.std.proofs.Common.{◌≡◌, ◌+◌, Some, length, slice_get, refl, ap, ◌∙◌, arith}
 use Rattle.std.proofs.lemmas.Option.{slice_get_read}
 use Rattle.std.proofs.lemmas.Result.{err_from_is_err_and}
-use Rattle.bloaty_engine.proofs.PlanLemmas.{cause-more, lists-more, number-more, read-more}
-use Rattle.bloaty_engine.proofs.StepLemmas.{plan-stops}
+use Rattle.file_profile.specs.Patterns.{rewrites_of}
+use Rattle.bloaty_engine.specs.PatternLists.{rewrite_patterns}
+use Rattle.bloaty_engine.proofs.BuildLemmas.{plan-stops}
+use Rattle.bloaty_engine.proofs.PlanLemmas.{built-more, built-part, built-within, cause-more, lists-more, number-more, read-more}
 use Rattle.bloaty_engine.proofs.planning.rewrites_of.Goals as goal
 
 pub returns-in_err-made-clause-cause : goal.returns-in_err-made-clause-cause
@@ -18,7 +20,32 @@ returns-in_err-made-clause-cause g c =
 pub returns-in_err-made-clause-patterns : goal.returns-in_err-made-clause-patterns
 returns-in_err-made-clause-patterns g c =
     let p = err_from_is_err_and c.from_residual.result c.from_residual.ensures.1 in
-    rw (p.1, p.2) (plan-stops g.P.Patterns c.in_err-made.field-0.0 c.args.patterns.now c.loop-source.patterns c.rewrites_from.new.patterns c.loop-source.invariant.last c.loop-source.invariant.count c.in_err-made.ensures.patterns)
+    let x = c.source-item.result in
+    let at : slice_get c.args.custom.now c.loop-source.source-index ≡ Some x =
+    slice_get_read c.args.custom.now (length c.args.custom.now) c.loop-source.source-index x refl (omega arith) c.source-item.is in
+    let inv = c.loop-source.invariant in
+    rw (p.1, p.2) (plan-stops g.P.Patterns _ (rewrite_patterns 1 (rewrites_of c.args.custom.now)) c.in_err-made.field-0.0 c.args.patterns.now c.loop-source.patterns c.rewrites_from.new.patterns inv.last inv.count
+    (built-within c.args.custom.now c.loop-source.source-index x at _ _ _ inv.built c.loop-source.first _ _ _ inv.number c.in_err-made.field-0.0 c.in_err-made.ensures.cause c.in_err-made.ensures.patterns.built) c.in_err-made.ensures.patterns)
+
+pub returns-in_default-clause-patterns : goal.returns-in_default-clause-patterns
+returns-in_default-clause-patterns g c =
+    let inv = c.loop-source.invariant in
+    record { built = built-part c.args.custom.now c.loop-source.source-index _ _ inv.built; kept = inv.last; rises = omega (arith, inv.count); sound = λ q. inv.count }
+
+pub returns-in_err-push-clause-patterns : goal.returns-in_err-push-clause-patterns
+returns-in_err-push-clause-patterns g c =
+    let p = err_from_is_err_and c.from_residual-in_err-push.result c.from_residual-in_err-push.ensures.1 in
+    let x = c.source-item.result in
+    let at : slice_get c.args.custom.now c.loop-source.source-index ≡ Some x =
+    slice_get_read c.args.custom.now (length c.args.custom.now) c.loop-source.source-index x refl (omega arith) c.source-item.is in
+    let inv = c.loop-source.invariant in
+    let made = c.in_ok-made.ensures.patterns in
+    rw (p.1, p.2) (record {
+      built = built-part c.args.custom.now (c.loop-source.source-index + 1) _ _ (built-more c.args.custom.now c.loop-source.source-index x at _ _ _ inv.built made.built);
+      kept = made.kept ∙ inv.last;
+      rises = omega (arith, inv.count, made.rises);
+      sound = λ q. made.sound refl ∙ inv.count;
+    })
 
 pub loop-source-preserved : goal.loop-source-preserved
 loop-source-preserved g c =
@@ -34,4 +61,5 @@ loop-source-preserved g c =
       read = read-more c.args.custom.now c.loop-source.source-index x at inv.read made.read;
       last = made.patterns.kept ∙ inv.last;
       count = made.patterns.sound refl ∙ inv.count;
+      built = built-more c.args.custom.now c.loop-source.source-index x at _ _ _ inv.built made.patterns.built;
     })

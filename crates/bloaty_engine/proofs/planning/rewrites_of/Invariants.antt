@@ -1,4 +1,5 @@
-use Rattle.std.proofs.Common.{◌≡◌, ◌+◌, length, take}
+use Rattle.std.proofs.Common.{◌≡◌, ◌+◌, ◌++◌, length, take}
+use Rattle.custom_rewrites.specs.Rewriting.{patterns_in}
 use Rattle.file_profile.specs.Choices.{rewrite_lists}
 use Rattle.file_profile.specs.Patterns.{AreRead, rewrites_of}
 use Rattle.bloaty_engine.proofs.planning.rewrites_of.Given as goal
@@ -10,4 +11,5 @@ invariant-loop-source g l = record {
   read : AreRead (rewrites_of (take l.source-index l.custom));
   last : g.P.Patterns.last_refused l.patterns ≡ g.P.Patterns.last_refused l.initial.patterns;
   count : g.P.Patterns.refused l.patterns ≡ g.P.Patterns.refused l.initial.patterns;
+  built : g.P.Patterns.built l.patterns ≡ g.P.Patterns.built l.initial.patterns ++ patterns_in (rewrites_of (take l.source-index l.custom));
 }

@@ -3,22 +3,23 @@ use Rattle.std.proofs.Common.{Err, Ok, refl, sym, ap, arith}
 use Rattle.std.proofs.lemmas.Result.{err_from_is_err_and}
 use Rattle.bloaty_engine.specs.Reading.{config_reading, files_to_read, reading_for, run_reading}
 use Rattle.file_profile.proofs.MapLemmas.{err-same}
-use Rattle.bloaty_engine.proofs.RunLemmas.{config-never-big, ends-config, ends-finding, ends-plan, never-big, planned-count}
-use Rattle.bloaty_engine.proofs.StepLemmas.{build-stops, built, config-run, files-run, goes-on, stops, then-unread, unbuilt}
+use Rattle.bloaty_engine.proofs.BuildLemmas.{asked-over, asked-plan, build-stops, built, unbuilt}
+use Rattle.bloaty_engine.proofs.RunLemmas.{config-never-bad, config-never-big, config-never-past, ends-config, ends-finding, ends-plan, never-bad, never-big, planned-count}
+use Rattle.bloaty_engine.proofs.StepLemmas.{config-run, files-run, goes-on, stops, then-unread}
 use Rattle.bloaty_engine.proofs.report.report.Goals as goal
 
 pub returns-in_err-customs-clause-run : goal.returns-in_err-customs-clause-run
 returns-in_err-customs-clause-run g c =
     let p = err_from_is_err_and c.from_residual.result c.from_residual.ensures.1 in
     let t = c.in_err-customs.ensures.read in
-    rw (p.1, p.2) (ends-config (g.F.Files.held c.args.files.now) c.args.run.now.limits c.args.run.now.options (g.P.Patterns.last_refused c.args.patterns.now) t.0 t.1 c.in_err-customs.field-0.0 t.2)
+    rw (p.1, p.2) (ends-config (g.F.Files.held c.args.files.now) c.args.run.now.limits c.args.run.now.options (g.P.Patterns.last_refused c.args.patterns.now) t.0 t.1 (g.F.Files.gave c.args.files.now) (g.F.Files.gave c.customs_of.new.files) c.in_err-customs.field-0.0 t.2 t.3)
 
 pub returns-in_err-plan-clause-run : goal.returns-in_err-plan-clause-run
 returns-in_err-plan-clause-run g c =
     let p = err_from_is_err_and c.from_residual-in_err-plan.result c.from_residual-in_err-plan.ensures.1 in
     let t = c.in_ok-customs.ensures.read in
-    rw (p.1, p.2) (ends-plan (g.F.Files.held c.args.files.now) c.args.run.now.limits c.args.run.now.options (g.P.Patterns.last_refused c.plan_of.new.patterns) t.0 t.1 c.in_ok-customs.customs.items t.2 c.in_err-plan.field-0.0
-    (rw c.deref.ensures.value at c.in_err-plan.ensures.ends))
+    rw (p.1, p.2) (ends-plan (g.F.Files.held c.args.files.now) c.args.run.now.limits c.args.run.now.options (g.P.Patterns.last_refused c.plan_of.new.patterns) t.0 t.1 c.in_ok-customs.customs.items t.2 c.in_ok-customs.customs (g.F.Files.gave c.args.files.now) (g.F.Files.gave c.customs_of.new.files) c.in_err-plan.field-0.0
+    (rw c.deref.ensures.value at c.in_err-plan.ensures.ends) t.3)
 
 pub report_of_kind-requires-clause-planned : goal.report_of_kind-requires-clause-planned
 report_of_kind-requires-clause-planned g c =
@@ -31,7 +32,7 @@ returns-clause-run g c =
     let planned = rw c.deref.ensures.value at c.in_ok-plan.ensures.plan in
     let e = rw c.customs_of.ensures.files.held at c.report_of_kind.ensures.found in
     ends-finding (g.F.Files.held c.args.files.now) c.args.run.now.limits c.args.run.now.options (g.P.Patterns.last_refused c.plan_of.new.patterns) t.0 t.1 c.in_ok-customs.customs.items t.2 c.in_ok-plan.plan planned e.0 e.1.0 e.1.1
-    c.report_of_kind.result e.2
+    c.in_ok-customs.customs (g.F.Files.gave c.args.files.now) (g.F.Files.gave c.customs_of.new.files) (g.F.Files.gave c.report_of_kind.new.files) c.report_of_kind.result e.2 t.3 e.3
 
 pub returns-in_err-customs-clause-files : goal.returns-in_err-customs-clause-files
 returns-in_err-customs-clause-files g c =
@@ -56,14 +57,31 @@ returns-clause-files g c =
 pub returns-in_err-customs-clause-patterns : goal.returns-in_err-customs-clause-patterns
 returns-in_err-customs-clause-patterns g c =
     let p = err_from_is_err_and c.from_residual.result c.from_residual.ensures.1 in
-    rw (p.1, p.2) (unbuilt g.P.Patterns (Err c.in_err-customs.field-0.0) c.args.patterns.now (λ i e. config-never-big c.args.run.now.limits c.args.run.now.options.config c.in_err-customs.ensures.read.0 i (rw (err-same _ _ e) at c.in_err-customs.ensures.read.2)))
+    let t = c.in_err-customs.ensures.read in
+    let limits = c.args.run.now.limits in
+    let o = c.args.run.now.options in
+    let s = c.args.patterns.now in
+    let end = c.in_err-customs.field-0.0 in
+    rw (p.1, p.2) (asked-over g.P.Patterns (g.F.Files.held c.args.files.now) limits o t.0 t.1 (Err end) s s
+    (λ b. unbuilt g.P.Patterns b (Err end) s (config-never-past limits o.config t.0 end t.2)
+    (λ i e. config-never-bad limits o.config t.0 i (rw (err-same _ _ e) at t.2)) (λ i e. config-never-big limits o.config t.0 i (rw (err-same _ _ e) at t.2))))
 
 pub returns-in_err-plan-clause-patterns : goal.returns-in_err-plan-clause-patterns
 returns-in_err-plan-clause-patterns g c =
     let p = err_from_is_err_and c.from_residual-in_err-plan.result c.from_residual-in_err-plan.ensures.1 in
-    rw (p.1, p.2) (build-stops g.P.Patterns c.in_err-plan.field-0.0 c.args.patterns.now c.plan_of.new.patterns c.in_err-plan.ensures.patterns)
+    let t = c.in_ok-customs.ensures.read in
+    let o = c.args.run.now.options in
+    let builds = rw c.deref.ensures.value at c.in_err-plan.ensures.patterns in
+    rw (p.1, p.2) (asked-plan g.P.Patterns (g.F.Files.held c.args.files.now) c.args.run.now.limits o t.0 t.1 (Err c.in_err-plan.field-0.0) c.args.patterns.now c.plan_of.new.patterns c.in_ok-customs.customs.items t.2
+    (build-stops g.P.Patterns _ c.in_err-plan.field-0.0 c.args.patterns.now c.plan_of.new.patterns builds))
 
 pub returns-clause-patterns : goal.returns-clause-patterns
 returns-clause-patterns g c =
-    built g.P.Patterns c.in_ok-plan.plan c.report_of_kind.result c.args.patterns.now c.plan_of.new.patterns
-    (λ i e. never-big c.args.run.now.limits c.in_ok-plan.plan.sources c.report_of_kind.ensures.found.0 c.args.run.now.options i (rw e at c.report_of_kind.ensures.found.2)) c.in_ok-plan.ensures.patterns
+    let t = c.in_ok-customs.ensures.read in
+    let limits = c.args.run.now.limits in
+    let o = c.args.run.now.options in
+    let found = c.report_of_kind.ensures.found in
+    let builds = rw c.deref.ensures.value at c.in_ok-plan.ensures.patterns in
+    asked-plan g.P.Patterns (g.F.Files.held c.args.files.now) limits o t.0 t.1 c.report_of_kind.result c.args.patterns.now c.plan_of.new.patterns c.in_ok-customs.customs.items t.2
+    (built g.P.Patterns _ c.in_ok-plan.plan c.report_of_kind.result c.args.patterns.now c.plan_of.new.patterns
+    (λ i e. never-bad limits c.in_ok-plan.plan.sources found.0 o i (rw e at found.2)) (λ i e. never-big limits c.in_ok-plan.plan.sources found.0 o i (rw e at found.2)) builds)

@@ -2,11 +2,13 @@
 use Rattle.std.proofs.Common.{◌≡◌, ◌+◌, ◌-◌, ◌<◌, ◌++◌, [], length, Err, refl, sym, ap, ◌∙◌, arith}
 use Rattle.std.proofs.lemmas.Result.{err_from_is_err_and}
 use Rattle.run_outcome.specs.Names.{file_names}
+use Rattle.bloaty_engine.specs.Given.{pairs_from}
 use Rattle.bloaty_engine.specs.Reading.{made_len, reading_for, unmade_names}
 use Rattle.bloaty_engine.specs.Steps.{batch_of, batch_reading}
 use Rattle.bloaty_engine.proofs.FileLemmas.{some-held}
+use Rattle.bloaty_engine.proofs.GivenLemmas.{given-all, gives-behind, gives-none, gives-stops, gives-then}
 use Rattle.bloaty_engine.proofs.RunLemmas.{some-bytes}
-use Rattle.bloaty_engine.proofs.SidesLemmas.{behind-held, beyond, front-ends, front-files, growth-ends, no-names, sizes-end}
+use Rattle.bloaty_engine.proofs.SidesLemmas.{behind-held, behind-pairs, beyond, front-ends, front-files, front-pairs, growth-ends, no-names, sizes-end}
 use Rattle.bloaty_engine.proofs.StepLemmas.{base-part, follows, same-run, stops, then-no-memory, then-ok, unread-no-memory}
 use Rattle.bloaty_engine.proofs.report.report_of_files.Goals as goal
 
@@ -21,12 +23,13 @@ returns-in_err-total-clause-counted g c =
       beyond count e.0 behind.0,
       (front-files (g.F.Files.held c.args.files.now) o.synth o.files e.0 behind.0 e.1, behind-held (g.F.Files.held c.args.files.now) count o.bases e.0 behind.0 behind.1),
       front-ends c.args.run.now.limits c.args.plan.now.sources o c.args.plan.now.filter c.requires.planned.filter c.requires.planned.depth e.0 behind.0 c.in_err-total.field-0.0 (λ k is. c.in_err-total.ensures.unmade k (ap Err is)) e.2,
+      rw (front-pairs o.synth o.files e.0 behind.0) (gives-stops _ _ _ _ _ e.3),
     )
 
 pub returns-then-is_none-clause-counted : goal.returns-then-is_none-clause-counted
 returns-then-is_none-clause-counted g c =
     let some = some-bytes (g.F.Files.held c.args.files.now) c.args.run.now.options c.args.run.now.options.bases in
-    (some.0, (some.1, some.2), tt)
+    (some.0, (some.1, some.2), tt, gives-none _ _ _ tt)
 
 pub returns-then-len-eq0-clause-counted : goal.returns-then-len-eq0-clause-counted
 returns-then-len-eq0-clause-counted g c =
@@ -39,6 +42,7 @@ returns-then-len-eq0-clause-counted g c =
       (front-files (g.F.Files.held c.args.files.now) o.synth o.files e.0 behind.0 e.1, behind-held (g.F.Files.held c.args.files.now) count o.bases e.0 behind.0 behind.1),
       sizes-end c.args.run.now.limits c.args.plan.now.sources o c.args.plan.now.filter c.requires.planned.filter c.requires.planned.depth e.0 behind.0 c.in_ok-total.total c.in_ok-report_of.field-0 none e.2 (rw (← c.total.view_is) c.total.invariant)
           c.in_ok-report_of.ensures,
+      rw (front-pairs o.synth o.files e.0 behind.0) (gives-then c.in_ok-total.total _ _ _ _ _ (ap (λ ns. pairs_from (count + 1) ns (beyond count e.0 behind.0)) none) e.3),
     )
 
 pub returns-clause-counted : goal.returns-clause-counted
@@ -51,6 +55,7 @@ returns-clause-counted g c =
       beyond count e.0 b.0,
       (front-files (g.F.Files.held c.args.files.now) o.synth o.files e.0 b.0 e.1, behind-held (g.F.Files.held c.args.files.now) count o.bases e.0 b.0 b.1),
       growth-ends c.args.run.now.limits c.args.plan.now.sources o c.args.plan.now.filter c.requires.planned.filter c.requires.planned.depth e.0 b.0 c.in_ok-total.total some e.2 c.growth_report.result b.2,
+      rw (front-pairs o.synth o.files e.0 b.0, behind-pairs count o.bases e.0 b.0) (gives-behind _ _ _ _ _ _ (given-all c.in_ok-total.total _ _ _ e.3) b.3),
     )
 
 pub returns-then-is_none-clause-files : goal.returns-then-is_none-clause-files

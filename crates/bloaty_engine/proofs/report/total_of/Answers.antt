@@ -1,15 +1,18 @@
 -- The files are those that are read, or the synthetic one.
 use Rattle.std.proofs.Common.{◌≡◌, ◌+◌, [], Some, refl, sym, ap, ◌∙◌, arith}
-use Rattle.std.proofs.lemmas.List.{append-nil}
 use Rattle.elf_synth.specs.Made.{made}
 use Rattle.bloaty_engine.specs.Reading.{reading_for, unmade_names}
 use Rattle.bloaty_engine.specs.Steps.{batch_of, batch_reading}
-use Rattle.bloaty_engine.proofs.ReadLemmas.{none-name}
+use Rattle.bloaty_engine.proofs.GivenLemmas.{gives-none}
+use Rattle.bloaty_engine.proofs.ReadLemmas.{OnOk-any, none-name}
 use Rattle.bloaty_engine.proofs.StepLemmas.{files-part, made-unread, reads-as}
 use Rattle.bloaty_engine.proofs.report.total_of.Goals as goal
 
 pub returns-in-Some-clause-counted : goal.returns-in-Some-clause-counted
-returns-in-Some-clause-counted g c = rw c.in-Some.is ((λ i. made c.in-Some.n), refl, c.count_made.ensures.counted)
+returns-in-Some-clause-counted g c = rw c.in-Some.is ((λ i. made c.in-Some.n), refl, c.count_made.ensures.counted, gives-none _ _ [] (OnOk-any _ _ refl))
+
+pub returns-in-None-clause-counted : goal.returns-in-None-clause-counted
+returns-in-None-clause-counted g c = rw c.in-None.is (rw c.requires.none at c.count_files.ensures.counted)
 
 pub returns-in-Some-clause-unmade : goal.returns-in-Some-clause-unmade
 returns-in-Some-clause-unmade g c = λ k e. absurd (c.count_made.ensures.unread _ e)

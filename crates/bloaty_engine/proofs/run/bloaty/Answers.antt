@@ -1,16 +1,19 @@
 -- A run is that of its options, or its arguments are misused.
-use Rattle.std.proofs.Common.{refl, sym}
 use Rattle.size_options.specs.Asked.{asked as options_of}
 use Rattle.size_options.specs.Words.{seen_words}
 use Rattle.bloaty_engine.specs.Reading.{run_reading}
 use Rattle.run_outcome.specs.declared.outcome.Outcome.TheVariants.{NoMemory}
+use Rattle.bloaty_engine.proofs.BuildLemmas.{unbuilt}
 use Rattle.bloaty_engine.proofs.LineLemmas.{line-printed}
-use Rattle.bloaty_engine.proofs.RunLemmas.{no-memory-run, usage-run}
-use Rattle.bloaty_engine.proofs.StepLemmas.{unbuilt, unread-no-memory, unread-usage}
+use Rattle.bloaty_engine.proofs.RunLemmas.{no-memory-run, some-contents, usage-run}
+use Rattle.bloaty_engine.proofs.StepLemmas.{unread-no-memory, unread-usage}
 use Rattle.bloaty_engine.proofs.run.bloaty.Goals as goal
 
 pub returns-in-Ok-clause-run : goal.returns-in-Ok-clause-run
 returns-in-Ok-clause-run g c = rw c.in-Ok.ensures.asked c.answer-outcome.ensures.run
+
+pub returns-in-Ok-clause-patterns : goal.returns-in-Ok-clause-patterns
+returns-in-Ok-clause-patterns g c = rw c.in-Ok.ensures.asked c.answer-outcome.ensures.patterns
 
 pub returns-in-Ok-clause-files : goal.returns-in-Ok-clause-files
 returns-in-Ok-clause-files g c = rw c.in-Ok.ensures.asked c.answer-outcome.ensures.files
@@ -19,11 +22,11 @@ pub returns-in-Err-Usage-clause-run : goal.returns-in-Err-Usage-clause-run
 returns-in-Err-Usage-clause-run g c =
     let is = rw c.in-Err-Usage.field-0-is at c.in-Err-Usage.ensures.refused in
     rw (c.misused.ensures.is, c.in-Err-Usage.field-0-is)
-    (usage-run (g.F.Files.held c.args.files.now) c.args.limits.now (seen_words c.args.words.now) (g.P.Patterns.last_refused c.args.patterns.now) (g.O.Sink.written c.args.out.now) c.in-Err-Usage.kind is)
+    (usage-run (g.F.Files.held c.args.files.now) (g.F.Files.gave c.args.files.now) c.args.limits.now (seen_words c.args.words.now) (g.P.Patterns.last_refused c.args.patterns.now) (g.O.Sink.written c.args.out.now) c.in-Err-Usage.kind is)
 
 pub returns-in-Err-NoMemory-clause-run : goal.returns-in-Err-NoMemory-clause-run
 returns-in-Err-NoMemory-clause-run g c =
-    no-memory-run (g.F.Files.held c.args.files.now) c.args.limits.now (options_of (seen_words c.args.words.now)) (g.P.Patterns.last_refused c.args.patterns.now) (g.O.Sink.written c.args.out.now)
+    no-memory-run (g.F.Files.held c.args.files.now) (g.F.Files.gave c.args.files.now) c.args.limits.now (options_of (seen_words c.args.words.now)) (g.P.Patterns.last_refused c.args.patterns.now) (g.O.Sink.written c.args.out.now)
 
 pub returns-in-Err-Usage-clause-files : goal.returns-in-Err-Usage-clause-files
 returns-in-Err-Usage-clause-files g c = rw c.misused.ensures.is (unread-usage g.F.Files (run_reading c.args.limits.now (options_of (seen_words c.args.words.now))) _ c.args.files.now)
@@ -32,10 +35,14 @@ pub returns-in-Err-NoMemory-clause-files : goal.returns-in-Err-NoMemory-clause-f
 returns-in-Err-NoMemory-clause-files g c = unread-no-memory g.F.Files (run_reading c.args.limits.now (options_of (seen_words c.args.words.now))) c.args.files.now
 
 pub returns-in-Err-Usage-clause-patterns : goal.returns-in-Err-Usage-clause-patterns
-returns-in-Err-Usage-clause-patterns g c = rw c.misused.ensures.is (unbuilt g.P.Patterns _ c.args.patterns.now (λ i e. cc))
+returns-in-Err-Usage-clause-patterns g c =
+    let some = some-contents (g.F.Files.held c.args.files.now) (options_of (seen_words c.args.words.now)) in
+    rw c.misused.ensures.is (record { contents = some.0; config = λ o e. (some.1 o e).config; builds = unbuilt g.P.Patterns _ _ c.args.patterns.now (λ e. cc) (λ i e. cc) (λ i e. cc) })
 
 pub returns-in-Err-NoMemory-clause-patterns : goal.returns-in-Err-NoMemory-clause-patterns
-returns-in-Err-NoMemory-clause-patterns g c = unbuilt g.P.Patterns _ c.args.patterns.now (λ i e. cc)
+returns-in-Err-NoMemory-clause-patterns g c =
+    let some = some-contents (g.F.Files.held c.args.files.now) (options_of (seen_words c.args.words.now)) in
+    record { contents = some.0; config = λ o e. (some.1 o e).config; builds = unbuilt g.P.Patterns _ _ c.args.patterns.now (λ e. cc) (λ i e. cc) (λ i e. cc) }
 
 pub returns-in-Ok-clause-err : goal.returns-in-Ok-clause-err
 returns-in-Ok-clause-err g c = rw c.in-Ok.ensures.asked (line-printed g.E.Sink c.tell.result _ c.answer-outcome.result c.args.err.now c.tell.new.err c.tell.ensures.writes c.tell.ensures.silent)

@@ -6,11 +6,11 @@ use Rattle.elf_symbols.specs.Symbols.{Table}
 use Rattle.elf_claims.proofs.TableLemmas.{claims-are, opened-table}
 use Rattle.elf_claims.proofs.symbols.add_table.Goals as goal
 
-pub add_table_symbols-requires : goal.add_table_symbols-requires
-add_table_symbols-requires c = record { file = ap (λ (t : Table). t.file) (opened-table c.args.file.now c.args.i c.in_ok-table.table c.in_ok-table.ensures) }
+pub add_table_symbols-requires-clause-file : goal.add_table_symbols-requires-clause-file
+add_table_symbols-requires-clause-file c = ap (λ (t : Table). t.file) (opened-table c.args.file.now c.args.i c.in_ok-table.table c.in_ok-table.ensures)
 
-pub returns : goal.returns
-returns c =
+pub returns-clause-adds : goal.returns-clause-adds
+returns-clause-adds c =
     let kind : (section_at c.args.file.now c.args.i).kind ≡ c.args.kind = ap (λ (s : SectionHeader). s.kind) (sym c.section.ensures.numbers) ∙ c.if-section-kind.false in
     let same = claims-are c.args.file.now c.args.kind c.args.i c.in_ok-table.table kind c.in_ok-table.ensures in
-    rw same c.add_table_symbols.ensures
+    rw same c.add_table_symbols.ensures.adds

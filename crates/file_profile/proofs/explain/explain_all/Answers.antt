@@ -3,7 +3,7 @@ use Rattle.std.proofs.Common.{refl, arith}
 use Rattle.std.proofs.lemmas.Result.{err_from_is_err_and}
 use Rattle.size_model.proofs.Firsts.{item_at}
 use Rattle.file_profile.specs.Claims.{claims_on}
-use Rattle.file_profile.specs.Explanations.{named_sources, places_said}
+use Rattle.file_profile.specs.Explanations.{named_sources, sources_explained}
 use Rattle.file_profile.proofs.ClaimLemmas.{out-of-memory, within-ok}
 use Rattle.file_profile.proofs.PlaceLemmas.{places-end, places-more, places-refused}
 use Rattle.file_profile.proofs.WalkLemmas.{results-none}
@@ -11,7 +11,7 @@ use Rattle.file_profile.proofs.explain.explain_all.Goals as goal
 
 pub loop-i-init : goal.loop-i-init
 loop-i-init c =
-    rw c.new-all.ensures.items (results-none (places_said c.args.limit c.args.request.now.place c.args.request.now.shown c.args.subject.now (named_sources c.args.names.now c.args.plan.now.sources)))
+    rw c.new-all.ensures.items (results-none (sources_explained c.args.limit c.args.request.now.place c.args.request.now.shown c.args.subject.now (named_sources c.args.names.now c.args.plan.now.sources)))
 
 pub returns-in_err-made : goal.returns-in_err-made
 returns-in_err-made c =

@@ -1,21 +1,13 @@
-use Rattle.std.proofs.Common.{◌≤◌, [], Some, map, length, refl, sym, ap, ◌∙◌, arith}
-use Rattle.report_text.specs.Between.{IsReady}
+use Rattle.std.proofs.Common.{◌≤◌, [], Some, map, length, sym, ap, ◌∙◌, arith}
 use Rattle.report_text.specs.Records.{table_text}
 use Rattle.report_text.proofs.RecordLemmas.{come-none, come-all, level-below}
 use Rattle.report_text.proofs.records.table.Goals as goal
 
 pub loop-i-init : goal.loop-i-init
 loop-i-init g c =
-    let from = c.from_writer-writer.ensures in
-    let fresh : IsReady (λ v. Some v.items) c.args.delimiter c.from_writer-writer.result [] = record {
-      set = from.cfg ∙ rw c.new.ensures at c.delimiter.ensures;
-      none = from.fields;
-      clean = from.wrote;
-      is = rw (from.wtr, from.empty, c.new-2.ensures.items) refl;
-    } in
     let fields = ap (map (λ f. f.now)) c.as_slice.ensures.value ∙ c.in_ok-fields.ensures in
     come-none (λ v. Some v.items) c.args.delimiter g.T.Entry.ReportRow.as_row (g.T.Entry.ReportRow.sizes c.args.domain) (g.T.ReportTree.depth c.args.tree.now) c.args.domain c.args.sources.now (g.T.ReportTree.rows c.args.tree.now)
-    (map (λ f. f.now) c.new-path.result.items) c.put.new.writer c.requires (ap (map (λ f. f.now)) c.new-path.ensures.items) (rw fields at (c.in_ok-put.ensures [] fresh))
+    (map (λ f. f.now) c.new-path.result.items) c.put.new.writer c.requires (ap (map (λ f. f.now)) c.new-path.ensures.items) (rw fields at (c.in_ok-put.ensures [] c.new_writer-writer.ensures))
 
 pub step-requires-clause-below : goal.step-requires-clause-below
 step-requires-clause-below g c = λ row at. level-below g.T.Entry.ReportRow.as_row (g.T.ReportTree.depth c.args.tree.now) 0 (g.T.ReportTree.rows c.args.tree.now) c.loop-i.i row c.requires at

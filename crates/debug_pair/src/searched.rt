@@ -1,0 +1,57 @@
+//! The notes that were searched last. Many sections and segments may have notes in the same bytes.
+
+ghost use Rattle.std.specs.Prelude.{◌≡◌, ◌≤◌, ◌∷◌, [], List, ℕ, None, length, true};
+ghost use Rattle.std.specs.Option.{option_copied};
+ghost use Rattle.elf_file.specs.Layout.{encoding_of};
+ghost use Rattle.debug_pair.specs.Identities.{build_id};
+ghost use Rattle.debug_pair.specs.Areas.{HasNoId, IsArea};
+
+use crate::area::build_id;
+use elf_file::ElfFile;
+
+/// The area of notes that was searched last, as its file offset and its length in bytes. It has no build ID.
+#[derive(Clone, Copy)]
+pub struct Searched {
+    pub offset: u64,
+    pub len: u64,
+}
+
+impl Searched {
+    /// Returns the empty area, before any area is searched.
+    #[tactic(auto, using(crate::proofs::AreaLemmas::none_in_nothing))]
+    pub fn nothing() -> Searched
+        ensures { (file : List ℕ) → HasNoId file result }
+    {
+        Searched { offset: 0, len: 0 }
+    }
+
+    // Returns whether an area begins where this one does, and isn't longer.
+    fn begins_with(&self, offset: u64, len: u64) -> bool
+        ensures { result ≡ true → (offset ≡ self.now.offset) × (len ≤ self.now.len) }
+    {
+        offset == self.offset && len <= self.len
+    }
+
+    /// Returns the descriptor of the first build ID note of an area, which begins at this file offset. The area is
+    /// searched only if it isn't the beginning of the area that was searched last.
+    #[tactic(auto, using(crate::proofs::AreaLemmas::none_in_beginning, crate::proofs::AreaLemmas::none_in_area))]
+    pub fn build_id<'a>(
+        &mut self,
+        file: &ElfFile<'a>,
+        offset: u64,
+        area: &'a [u8],
+    ) -> Option<&'a [u8]>
+        requires last { HasNoId file.now self.old }
+        requires area { IsArea file.now offset area.now }
+        ensures id { option_copied result
+            ≡ build_id (encoding_of file.now).order (area.now ∷ []) }
+        ensures last { result ≡ None → HasNoId file.now self.new }
+    {
+        let len = area.len() as u64;
+        if self.begins_with(offset, len) {
+            return None;
+        }
+        *self = Searched { offset, len };
+        build_id(area, file.encoding().order)
+    }
+}

@@ -1,0 +1,37 @@
+//! What is known of the symbols of a file while they are read.
+
+ghost use Rattle.std.specs.Prelude.{IfOk, List};
+ghost use Rattle.size_model.specs.declared.view.LabelledClaim.{LabelledClaim};
+ghost use Rattle.elf_claims.specs.KnownSymbols.{AreKnown};
+
+use crate::last_label::LastLabel;
+use claim_sheet::KnownLabel;
+use elf_file::ElfFile;
+use elf_symbols::NumbersIndex;
+use size_core::NoMemory;
+use std::alloc::Global;
+
+/// What is known of the symbols of a file while they are read: its sections with extended section indexes, and the
+/// label of the symbol that was read last.
+#[derive(Drop)]
+pub struct KnownSymbols<'a> {
+    pub numbers: NumbersIndex<'a>,
+    pub last: LastLabel<'a>,
+}
+
+impl<'a> KnownSymbols<'a> {
+    /// Returns what is known before the first symbol is read.
+    pub fn of(alloc: Global, file: &ElfFile<'a>) -> Result<KnownSymbols<'a>, NoMemory>
+        ensures { IfOk result (λ k. (made : List LabelledClaim) → AreKnown file.now made k) }
+    {
+        let numbers = NumbersIndex::of(alloc, file)?;
+        let label = KnownLabel {
+            text: b"",
+            claim: None,
+        };
+        Ok(KnownSymbols {
+            numbers,
+            last: LastLabel { name: None, label },
+        })
+    }
+}

@@ -1,0 +1,20 @@
+-- The names of symbols, and where they are (ELF gABI, Symbol Table: st_name).
+use Rattle.std.specs.Prelude.{◌≡◌, ℕ, List, Result, Ok}
+use Rattle.size_core.specs.declared.fault.BadFile.{BadFile}
+use Rattle.elf_file.specs.Layout.{four}
+use Rattle.elf_file.specs.Tables.{section_at, section_bytes}
+use Rattle.elf_symbols.specs.declared.symbol.NameOffset.{NameOffset}
+use Rattle.elf_symbols.specs.Symbols.{name_at, names_of, symbol_place}
+
+-- The name of symbol k of the table in section i (gABI, Symbol Table: st_name).
+abbrev pub symbol_name : List ℕ → ℕ → ℕ → Result (List ℕ) BadFile
+symbol_name file i k = name_at file (names_of file i) (symbol_place file i k)
+
+-- Where this name is: the section that has the names, and st_name (gABI, Sections: sh_link; Symbol Table:
+-- st_name).
+abbrev pub name_offset : List ℕ → ℕ → ℕ → NameOffset
+name_offset file i k = record { section = (section_at file i).link; offset = four file (symbol_place file i k) 0 0 }
+
+-- Each symbol with this st_name, in a table that has its names in this section, has this name.
+abbrev pub IsNameAt : List ℕ → NameOffset → List ℕ → Type 0
+IsNameAt file at name = (place : ℕ) → four file place 0 0 ≡ at.offset → name_at file (section_bytes file at.section) place ≡ Ok name
