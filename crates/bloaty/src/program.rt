@@ -3,7 +3,7 @@
 ghost use Rattle.std.specs.Prelude.{◌≡◌, IfErr, IfOk, OnErr, drop};
 ghost use Rattle.std.specs.IoError.{error_kind};
 ghost use Rattle.size_options.specs.Words.{seen_words};
-ghost use Rattle.bloaty.specs.Program.{IsProgramRun, IsUnread, seen_host};
+ghost use Rattle.bloaty.specs.Program.{IsProgramRun, IsUnread, seen};
 
 use bloaty_engine::bloaty;
 use custom_rewrites::RegexPatterns;
@@ -39,8 +39,8 @@ fn run_words<R: rt::Files>(
     out: &mut HostSink<Stdout>,
     err: &mut HostSink<Stderr>,
 ) -> u8
-    ensures { let seen = seen_host files.old files.new in
-        IsProgramRun FULL (seen_words words.now) seen out.old.accepted out.new.accepted result }
+    ensures { IsProgramRun FULL (seen_words words.now) (seen files.old out.old err.old)
+        (seen files.new out.new err.new) result }
 {
     let mut patterns = RegexPatterns::new(Vec::new(alloc));
     let outcome = bloaty(alloc, words, files, &mut patterns, out, err, &FULL);
@@ -56,9 +56,8 @@ pub fn run<R: rt::Files>(
     out: &mut HostSink<Stdout>,
     err: &mut HostSink<Stderr>,
 ) -> u8
-    ensures run { let seen = seen_host files.old files.new in
-        IfOk args.now (λ all. IsProgramRun FULL (seen_words (drop 1 all.items)) seen
-        out.old.accepted out.new.accepted result) }
+    ensures run { IfOk args.now (λ all. IsProgramRun FULL (seen_words (drop 1 all.items))
+        (seen files.old out.old err.old) (seen files.new out.new err.new) result) }
     ensures unread { IfErr args.now (λ e. IsUnread (error_kind e) result) }
     ensures files { OnErr args.now (files.new ≡ files.old) }
     ensures out { OnErr args.now (out.new ≡ out.old) }

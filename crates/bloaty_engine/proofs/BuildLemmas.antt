@@ -22,10 +22,12 @@ use Rattle.size_options.specs.declared.errors.UsageKind.{UsageKind}
 use Rattle.run_outcome.specs.declared.outcome.Outcome.{Outcome}
 use Rattle.run_outcome.specs.declared.outcome.Outcome.TheVariants.{Done, UnknownSource, PatternSyntax, PatternTooBig, WriteFailed, NoMemory}
 use Rattle.bloaty_engine.specs.PatternLists.{PatternList, filter_patterns, if_chosen, request_patterns, plan_patterns, rewrite_patterns, run_patterns}
-use Rattle.bloaty_engine.specs.Devices.{Builds, BuildsAsked, BuildsBefore, BuildsFirst, IsLast, Plans, ended}
-use Rattle.bloaty_engine.specs.Named.{Contents, IsText}
+use Rattle.bloaty_engine.specs.Devices.{Builds, BuildsAsked, BuildsBefore, BuildsFirst, IsLast, Plans, ended, patterns_given}
+use Rattle.bloaty_engine.specs.Given.{SeenFiles, config_given, config_pairs}
+use Rattle.bloaty_engine.specs.Named.{Contents, config_alone}
 use Rattle.bloaty_engine.specs.Stages.{Patterns, goes_past}
 use Rattle.bloaty_engine.specs.Verdict.{◌>>=◌, asked, customs_in, if_unknown}
+use Rattle.bloaty_engine.proofs.GivenLemmas.{customs-given}
 use Rattle.bloaty_engine.proofs.ReadLemmas.{reads-as-many, reads-behind, reads-more, reads-none, reads-whole, take-next}
 
 -- The patterns of one custom data source, the first of them with number `first`.
@@ -109,9 +111,6 @@ asked-patterns limits o contents customs e =
     by-names : (r : Result (List Chosen) ℕ) → run_patterns (if_unknown r >>= λ sources. Ok (record { options = o; customs = customs; sources = sources })) ≡ if_chosen r (request_patterns o.filter customs)
     by-names (Ok sources) = refl
     by-names (Err unknown) = refl
-
-same-options : (o other : Options) → ◌≡◌ {A = Result Options UsageKind} (Ok o) (Ok other) → o ≡ other
-same-options o other e = cc
 
 module _ {P : Type 0} (p : PatternsGhosts P) where
   kept-same : (X : Type 0) (e : PlanAnswer) (last : List ℕ) → KeepsLast {X = X} last last (Err e)
@@ -208,19 +207,19 @@ module _ {P : Type 0} (p : PatternsGhosts P) where
   written-builds b x outcome s t (inr is) a = rw is (built {Y = ⊤} b x (Err WriteFailed) s t (λ i e. cc) (λ i e. cc) a)
 
   -- The same patterns of a request, with another result.
-  pub asked-as : {X Y : Type 0} (held : Option Pairs) (limits : Limits) (given : Result Options UsageKind) (r : Result X Outcome) (q : Result Y Outcome) (s t : P) → ((b : PatternList) → Builds p b r s t → Builds p b q s t)
-      → BuildsAsked p held limits given r s t → BuildsAsked p held limits given q s t
-  asked-as held limits given r q s t then a = record { contents = a.contents; config = a.config; builds = then (run_patterns (asked limits given a.contents)) a.builds }
+  pub asked-as : {X Y : Type 0} (seen : SeenFiles) (limits : Limits) (given : Result Options UsageKind) (r : Result X Outcome) (q : Result Y Outcome) (s t : P) → ((b : PatternList) → Builds p b r s t → Builds p b q s t)
+      → BuildsAsked p seen limits given r s t → BuildsAsked p seen limits given q s t
+  asked-as seen limits given r q s t then a = record { returned = a.returned; are = a.are; builds = then (patterns_given limits given a.returned) a.builds }
+
+  -- A run that builds none of its patterns, or any of them.
+  pub asked-any : {X : Type 0} (seen : SeenFiles) (limits : Limits) (given : Result Options UsageKind) (r : Result X Outcome) (s t : P) (returned : Pairs) → seen.after ≡ seen.before ++ returned → ((b : PatternList) → Builds p b r s t)
+      → BuildsAsked p seen limits given r s t
+  asked-any seen limits given r s t returned are builds = record { returned = returned; are = are; builds = builds (patterns_given limits given returned) }
 
   -- The patterns of a run with these options, over a configuration with this text.
-  module _ {X : Type 0} (held : Option Pairs) (limits : Limits) (o : Options) (text : List ℕ) (is : IsText held o.config text) (r : Result X Outcome) (s t : P) where
-    own : Contents
-    own = record { config = text; files = λ i. [] }
-
-    pub asked-over : ((b : PatternList) → Builds p b r s t) → BuildsAsked p held limits (Ok o) r s t
-    unfolding own
-    asked-over builds = record { contents = own; config = λ other e. rw (← same-options o other e) is; builds = builds (run_patterns (asked limits (Ok o) own)) }
-
-    pub asked-plan : (customs : List CustomSource) → customs_in limits o.config text ≡ Ok customs → Builds p (plan_patterns o.sources o.filter customs) r s t → BuildsAsked p held limits (Ok o) r s t
-    unfolding own
-    asked-plan customs configured builds = record { contents = own; config = λ other e. rw (← same-options o other e) is; builds = rw (asked-patterns limits o own customs configured) builds }
+  pub asked-plan : {X : Type 0} (seen : SeenFiles) (limits : Limits) (o : Options) (text : List ℕ) (rest : Pairs) (r : Result X Outcome) (s t : P) (customs : List CustomSource) → seen.after ≡ seen.before ++ (config_pairs o.config text ++ rest)
+      → customs_in limits o.config text ≡ Ok customs → Builds p (plan_patterns o.sources o.filter customs) r s t → BuildsAsked p seen limits (Ok o) r s t
+  asked-plan seen limits o text rest r s t customs are parsed builds =
+      let returned = config_pairs o.config text ++ rest in
+      let same = asked-patterns limits o (config_alone (config_given o.config returned)) customs (customs-given limits o.config text rest ∙ parsed) in
+      record { returned = returned; are = are; builds = rw same builds }

@@ -1,5 +1,5 @@
 -- How files are counted one after the other.
-use Rattle.std.proofs.Common.{◌≡◌, ℕ, zero, suc, ◌+◌, ◌-◌, ◌<◌, ◌≤◌, min, Bool, true, false, cond, ◌||◌, ◌==◌, nat_lt, List, [], ◌∷◌, ◌++◌, length, take, drop, Option, None, Some, Result, Ok, Err, refl, sym, ap, ◌∙◌, subst, arith}
+use Rattle.std.proofs.Common.{◌≡◌, ℕ, suc, ◌+◌, ◌-◌, ◌<◌, ◌≤◌, min, Bool, true, false, cond, ◌||◌, ◌==◌, nat_lt, List, [], ◌∷◌, ◌++◌, length, take, drop, Option, None, Some, Result, Ok, Err, refl, sym, ap, ◌∙◌, subst, arith}
 use Rattle.std.specs.Prelude.{IsOk, if◌then◌else◌, slice_get}
 use Rattle.std.specs.List.{sum_by}
 use Rattle.std.proofs.lemmas.Bool.Decides.{nat_tests}
@@ -19,7 +19,7 @@ use Rattle.rollup.specs.Totals.{Totals}
 use Rattle.file_profile.specs.declared.answer.ProfileAnswer.{ProfileAnswer}
 use Rattle.file_profile.specs.declared.answer.ProfileAnswer.TheVariants as profile
 use Rattle.run_outcome.specs.declared.outcome.Outcome.{Outcome}
-use Rattle.run_outcome.specs.declared.outcome.Outcome.TheVariants.{Done, Usage, ReadFailed, TooLong, Config, UnknownSource, PatternSyntax, PatternTooBig, Bad, TooManyClaims, MappedTooLarge, NoMatch, PlaceOutside, WriteFailed, NoMemory}
+use Rattle.run_outcome.specs.declared.outcome.Outcome.TheVariants.{TooLong}
 use Rattle.file_profile.specs.Counts.{file_size_where, vm_size_where}
 use Rattle.bloaty_engine.specs.Given.{Gives, pairs_from}
 use Rattle.bloaty_engine.specs.Named.{AreHeld}

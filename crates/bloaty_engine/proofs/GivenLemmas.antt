@@ -1,11 +1,13 @@
 -- What the reads of steps gave, one step after the other.
-use Rattle.std.proofs.Common.{◌≡◌, ℕ, ◌+◌, ◌<◌, ◌≤◌, List, [], ◌∷◌, ◌++◌, length, Result, Ok, Err, refl, sym, ap, ◌∙◌, append_assoc, arith}
+use Rattle.std.proofs.Common.{◌≡◌, ℕ, ◌+◌, ◌<◌, ◌≤◌, List, [], ◌∷◌, ◌++◌, length, Option, None, Some, Result, Ok, Err, refl, sym, ap, ◌∙◌, append_assoc, arith}
 use Rattle.std.specs.Prelude.{OnOk}
 use Rattle.std.proofs.lemmas.List.{append-nil}
 use Rattle.std.proofs.lemmas.Option.{same_Some}
 use Rattle.outside.specs.Held.{Pairs}
+use Rattle.size_core.specs.declared.limits.Limits.{Limits}
 use Rattle.run_outcome.specs.declared.outcome.Outcome.{Outcome}
-use Rattle.bloaty_engine.specs.Given.{Gives, pairs_from, run_pairs}
+use Rattle.bloaty_engine.specs.Given.{Gives, config_given, config_pairs, files_given, pairs_from, run_pairs}
+use Rattle.bloaty_engine.specs.Verdict.{customs_in}
 use Rattle.bloaty_engine.specs.ReportLaws.{DoneReportsWhatItRead}
 use Rattle.bloaty_engine.proofs.ReadLemmas.{OnOk-any}
 
@@ -72,6 +74,15 @@ pairs-same first [] a b same = refl
 pairs-same first (n ∷ names) a b same =
     ap (λ bs. (n, bs) ∷ pairs_from (first + 1) names a) (same first (omega arith) (omega arith))
     ∙ ap (λ ps. (n, b first) ∷ ps) (pairs-same (first + 1) names a b (λ j low high. same j (omega (arith, low)) (omega (arith, high))))
+
+-- The configuration is the first of what a run reads, if there is one.
+pub customs-given : (limits : Limits) (config : Option (List ℕ)) (text : List ℕ) (rest : Pairs) → customs_in limits config (config_given config (config_pairs config text ++ rest)) ≡ customs_in limits config text
+customs-given limits None text rest = refl
+customs-given limits (Some name) text rest = refl
+
+pub files-given : (config : Option (List ℕ)) (text : List ℕ) (rest : Pairs) → files_given config (config_pairs config text ++ rest) ≡ rest
+files-given None text rest = refl
+files-given (Some name) text rest = refl
 
 -- A run that is done.
 pub done-reports : DoneReportsWhatItRead

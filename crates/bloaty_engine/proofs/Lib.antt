@@ -1,4 +1,5 @@
 pub mod BuildLemmas
+pub mod CostLemmas
 pub mod EndLemmas
 pub mod FileLemmas
 pub mod GivenLemmas

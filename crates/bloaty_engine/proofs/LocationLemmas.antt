@@ -1,4 +1,4 @@
--- The labels of an explained byte are the path by which a report of sizes counts it.
+-- The labels of an explained byte are its path in a report of sizes.
 use Rattle.std.proofs.Common.{◌≡◌, ℕ, ◌+◌, ◌-◌, ◌^◌, Bool, true, false, ◌||◌, nat_lt, List, [], ◌∷◌, length, Option, None, Some, Result, Ok, Err, refl, ap, ◌∙◌, arith}
 use Rattle.std.specs.Prelude.{map, if◌then◌else◌}
 use Rattle.size_core.specs.declared.fault.BadFile.{BadFile}

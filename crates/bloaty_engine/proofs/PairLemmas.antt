@@ -21,7 +21,7 @@ use Rattle.file_profile.specs.Counts.{filter_test}
 use Rattle.file_profile.proofs.MapLemmas.{err-same}
 use Rattle.size_options.specs.declared.run_options.Options.{Options}
 use Rattle.run_outcome.specs.declared.outcome.Outcome.{Outcome}
-use Rattle.run_outcome.specs.declared.outcome.Outcome.TheVariants.{Done, Usage, ReadFailed, TooLong, Config, UnknownSource, PatternSyntax, PatternTooBig, Bad, TooManyClaims, MappedTooLarge, NoMatch, PlaceOutside, WriteFailed, NoMemory}
+use Rattle.run_outcome.specs.declared.outcome.Outcome.TheVariants.{ReadFailed, TooLong, NoMemory}
 use Rattle.bloaty_engine.specs.Given.{input_pairs, pairs_from}
 use Rattle.bloaty_engine.specs.Named.{AreFiles, AreHeld}
 use Rattle.run_outcome.specs.Names.{all_names, debug_names, file_names, name_at, names_of, other_names}

@@ -1,6 +1,6 @@
 -- The end of a run from the results of its steps.
-use Rattle.std.proofs.Common.{◌≡◌, ℕ, zero, suc, ◌+◌, Bool, true, false, cond, ◌||◌, nat_lt, List, [], ◌∷◌, ◌++◌, length, Option, None, Some, Result, Ok, Err, All, ◌⊎◌, inl, inr, refl, sym, ap, ◌∙◌, arith}
-use Rattle.std.specs.Prelude.{⊤, IfSome, IsOk, slice_get, unwrap_or, Vec}
+use Rattle.std.proofs.Common.{◌≡◌, ℕ, zero, suc, ◌+◌, Bool, true, false, cond, ◌||◌, nat_lt, List, [], ◌∷◌, length, Option, None, Some, Result, Ok, Err, All, ◌⊎◌, inl, inr, refl, sym, ap, ◌∙◌, arith}
+use Rattle.std.specs.Prelude.{⊤, IsOk, Vec}
 use Rattle.std.specs.declared.alloc.Global.{Global}
 use Rattle.size_core.specs.declared.fault.BadFile.{BadFile}
 use Rattle.size_core.specs.declared.limits.Limits.{Limits}
@@ -22,12 +22,12 @@ use Rattle.file_profile.specs.declared.answer.ProfileAnswer.{ProfileAnswer}
 use Rattle.file_profile.specs.declared.answer.ProfileAnswer.TheVariants as profile
 use Rattle.run_outcome.specs.declared.outcome.Outcome.{Outcome}
 use Rattle.run_outcome.specs.declared.outcome.Outcome.TheVariants.{Done, Usage, ReadFailed, TooLong, Config, UnknownSource, PatternSyntax, PatternTooBig, Bad, TooManyClaims, MappedTooLarge, NoMatch, PlaceOutside, WriteFailed, NoMemory}
-use Rattle.size_options.specs.Answers.{IsUsageOf, are_taken}
+use Rattle.size_options.specs.Answers.{IsUsageOf}
 use Rattle.size_options.specs.Asked.{asked as options_of}
 use Rattle.bloaty_engine.specs.Answers.{CountsFile, EndsReport, HasReport, IsAnswer, IsAsked, IsFinished, IsReached, IsRun, Writes, is_end}
 use Rattle.bloaty_engine.specs.Given.{Gives, SeenFiles, config_pairs, input_pairs, run_pairs}
 use Rattle.bloaty_engine.specs.Named.{AreContents, AreFiles, AreHeld, Contents, IsText}
-use Rattle.run_outcome.specs.Names.{debug_names, file_name, file_names, name_at, other_names}
+use Rattle.run_outcome.specs.Names.{file_names, other_names}
 use Rattle.file_profile.specs.Laws.{IsOfFile}
 use Rattle.file_profile.specs.Patterns.{ArePatterns}
 use Rattle.file_profile.proofs.LawLemmas.{of-file}
@@ -82,6 +82,12 @@ asked-known : (limits : Limits) (o : Options) (contents : Contents) (customs : L
     → asked limits (Ok o) contents ≡ Ok (request-of o customs sources)
 asked-known limits o contents customs sources e k =
     asked-sources limits o contents customs e ∙ ap (λ r. if_unknown r >>= λ sources. Ok (request-of o customs sources)) k
+
+-- The request with its fields.
+pub asked-is : (limits : Limits) (o : Options) (contents : Contents) (customs : List CustomSource) (sources : List Chosen) → customs_in limits o.config contents.config ≡ Ok customs → chosen_sources customs o.sources ≡ Ok sources
+    → asked limits (Ok o) contents ≡ Ok (record { options = o; customs = customs; sources = sources })
+unfolding request-of
+asked-is limits o contents customs sources e k = asked-known limits o contents customs sources e k
 
 verdict-asked : (limits : Limits) (o : Options) (contents : Contents) (end : Outcome) → asked limits (Ok o) contents ≡ Err end → verdict limits (Ok o) contents ≡ Err end
 unfolding verdict

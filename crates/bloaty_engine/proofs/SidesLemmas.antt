@@ -13,7 +13,7 @@ use Rattle.report_rows.specs.declared.row.RowOptions.{RowOptions}
 use Rattle.report_rows.specs.Rows.{row_tree}
 use Rattle.size_options.specs.declared.run_options.Options.{Options}
 use Rattle.run_outcome.specs.declared.outcome.Outcome.{Outcome}
-use Rattle.run_outcome.specs.declared.outcome.Outcome.TheVariants.{Done, Usage, ReadFailed, TooLong, Config, UnknownSource, PatternSyntax, PatternTooBig, Bad, TooManyClaims, MappedTooLarge, NoMatch, PlaceOutside, WriteFailed, NoMemory}
+use Rattle.run_outcome.specs.declared.outcome.Outcome.TheVariants.{ReadFailed}
 use Rattle.file_profile.specs.Counts.{filter_test}
 use Rattle.bloaty_engine.specs.GrowthReport.{AreGrowths, EndsGrowth, IsGrowthReport, PrintsGrowth}
 use Rattle.bloaty_engine.specs.Given.{pairs_from}

@@ -1,12 +1,11 @@
 -- How many bytes are read before a file is found too long.
-use Rattle.std.proofs.Common.{◌≡◌, ℕ, zero, suc, ◌+◌, ◌-◌, ◌<◌, ◌≤◌, List, min, Option, None, Some, arith}
-use Rattle.size_core.specs.declared.limits.Limits.{Limits}
+use Rattle.std.proofs.Common.{◌≡◌, ℕ, ◌+◌, ◌-◌, ◌≤◌, List, min, Option, None, Some, arith}
 use Rattle.outside.specs.Causes.{RoseBy}
 use Rattle.outside.specs.Held.{Pairs, IsLonger, IsTaken, IsTakenAtLeast}
 use Rattle.file_profile.specs.declared.answer.ProfileAnswer.{ProfileAnswer}
 use Rattle.file_profile.specs.declared.answer.ProfileAnswer.TheVariants as profile
 use Rattle.run_outcome.specs.declared.outcome.Outcome.TheVariants.{TooLong}
-use Rattle.bloaty_engine.specs.Verdict.{end_at, file_limit, total_limit}
+use Rattle.bloaty_engine.specs.Verdict.{end_at}
 
 rose-none : (before : ℕ) → RoseBy 0 before before
 rose-none before = grind arith

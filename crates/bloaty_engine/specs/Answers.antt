@@ -8,7 +8,7 @@ use Rattle.size_options.specs.declared.run_options.Options.{Options}
 use Rattle.size_options.specs.declared.errors.UsageKind.{UsageKind}
 use Rattle.size_options.specs.declared.errors.UsageKind.TheVariants as usage
 use Rattle.run_outcome.specs.declared.outcome.Outcome.{Outcome}
-use Rattle.run_outcome.specs.declared.outcome.Outcome.TheVariants.{Done, Usage, ReadFailed, TooLong, Config, UnknownSource, PatternSyntax, PatternTooBig, Bad, TooManyClaims, MappedTooLarge, NoMatch, PlaceOutside, WriteFailed, NoMemory}
+use Rattle.run_outcome.specs.declared.outcome.Outcome.TheVariants.{Done, Usage, ReadFailed, PatternSyntax, PatternTooBig, WriteFailed, NoMemory}
 use Rattle.bloaty_engine.specs.Devices.{ended}
 use Rattle.bloaty_engine.specs.Given.{Gives, SeenFiles, run_pairs}
 use Rattle.bloaty_engine.specs.LocationReport.{ExplainsFile}
@@ -72,7 +72,7 @@ CountsFile file (Explained place sources) = ⊤
 --
 -- report: `text` is the text of the report on what was found.
 -- stripped: With a debug file the sizes are those of the first file alone, which may be stripped of debug information.
--- explained: With a location the labels are the path by which a report of sizes counts the byte.
+-- explained: With a location the labels are the path of the byte in a report of sizes.
 -- so: `P` holds of this text.
 pub record HasReport (limits : Limits) (given : Result Options UsageKind) (contents : Contents) (P : List ℕ → Type 0) : Type 0 where
   pub found : Found

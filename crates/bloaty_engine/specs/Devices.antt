@@ -1,5 +1,5 @@
 -- What a step of a run did to the files, the patterns, the output and the error output: each is seen before and after the step.
-use Rattle.std.specs.Prelude.{◌≡◌, ◌≢◌, ℕ, ◌+◌, ◌<◌, ◌≤◌, [], ◌∷◌, ◌++◌, List, length, take, true, Option, Some, Result, Ok, Err, OnOk, IsErrOf, IfSome, ⊤}
+use Rattle.std.specs.Prelude.{◌≡◌, ◌≢◌, ℕ, ◌+◌, ◌<◌, ◌≤◌, [], ◌∷◌, ◌++◌, List, length, take, true, Some, Result, Ok, Err, OnOk, IsErrOf, IfSome, ⊤}
 use Rattle.outside.specs.declared.files.Files.{Ghosts as FilesGhosts}
 use Rattle.outside.specs.declared.sink.Sink.{Ghosts as SinkGhosts}
 use Rattle.custom_rewrites.specs.declared.pattern.Patterns.{Ghosts as PatternsGhosts}
@@ -14,11 +14,10 @@ use Rattle.file_profile.specs.declared.plan.PlanAnswer.TheVariants as plan
 use Rattle.file_profile.specs.Plans.{KeepsLast, answers_without_refusal}
 use Rattle.run_outcome.specs.declared.outcome.Outcome.{Outcome}
 use Rattle.run_outcome.specs.declared.outcome.Outcome.TheVariants.{Done, ReadFailed, TooLong, PatternSyntax, PatternTooBig, WriteFailed}
-use Rattle.bloaty_engine.specs.PatternLists.{PatternList, run_patterns}
-use Rattle.bloaty_engine.specs.Named.{Contents, IsText}
+use Rattle.bloaty_engine.specs.PatternLists.{PatternList, no_patterns, run_patterns}
+use Rattle.bloaty_engine.specs.Given.{SeenFiles, asked_given}
 use Rattle.bloaty_engine.specs.Reading.{Reading}
 use Rattle.bloaty_engine.specs.Stages.{Patterns, ends_without, goes_past, is_failed_read, is_refused_pattern}
-use Rattle.bloaty_engine.specs.Verdict.{asked as asked_by}
 
 -- The outcome of a run as the result of a step: `Ok` if the run is done.
 abbrev pub ended : Outcome → Result ⊤ Outcome
@@ -86,17 +85,22 @@ pub record Builds {P X : Type 0} (p : PatternsGhosts P) (list : PatternList) (re
       × IsLast (p.last_refused after) (p.built after) × (p.refused before < p.refused after)
   pub sound : ends_without is_refused_pattern result ≡ true → p.refused after ≡ p.refused before
 
--- The effect of a run on the patterns. It builds those of its request. `held` is what the files hold, if the implementation
--- of `Files` reports it; `given` is the result of parsing the arguments.
+-- The patterns of a run, by what its reads returned. None if its arguments are misused.
+abbrev pub patterns_given : Limits → Result Options UsageKind → Pairs → PatternList
+patterns_given limits (Ok o) returned = run_patterns (asked_given limits o returned)
+patterns_given limits (Err kind) returned = no_patterns
+
+-- The effect of a run on the patterns. It builds those of its request. `seen` is what the run saw of the files; `given` is the
+-- result of parsing the arguments.
 --
--- contents: The configuration of the request has these bytes.
--- config: They are those that its name holds, if that is reported.
--- builds: The run builds the patterns of the request, or those up to the one at which it stopped.
-pub record BuildsAsked {P X : Type 0} (p : PatternsGhosts P) (held : Option Pairs) (limits : Limits) (given : Result Options UsageKind)
+-- returned, are: What the reads of this run returned.
+-- builds: The run builds the patterns of the request over the configuration that it read, or those up to the one at which it
+--     stopped.
+pub record BuildsAsked {P X : Type 0} (p : PatternsGhosts P) (seen : SeenFiles) (limits : Limits) (given : Result Options UsageKind)
     (result : Result X Outcome) (before after : P) : Type 0 where
-  pub contents : Contents
-  pub config : (o : Options) → given ≡ Ok o → IsText held o.config contents.config
-  pub builds : Builds p (run_patterns (asked_by limits given contents)) result before after
+  pub returned : Pairs
+  pub are : seen.after ≡ seen.before ++ returned
+  pub builds : Builds p (patterns_given limits given returned) result before after
 
 -- A step of planning that isn't done built the patterns of a list up to the one that isn't compiled. `last` is the last pattern
 -- that was refused for its size.

@@ -2,12 +2,14 @@
 use Rattle.std.specs.Prelude.{◌≡◌, ℕ, ◌+◌, List, [], ◌∷◌, ◌++◌, length, Option, None, Some, Result, Ok, Err, OnOk}
 use Rattle.outside.specs.declared.files.Files.{Ghosts as FilesGhosts}
 use Rattle.outside.specs.Held.{Pairs}
+use Rattle.size_core.specs.declared.limits.Limits.{Limits}
 use Rattle.size_options.specs.declared.run_options.Options.{Options}
 use Rattle.size_options.specs.declared.errors.UsageKind.{UsageKind}
 use Rattle.run_outcome.specs.declared.outcome.Outcome.{Outcome}
 use Rattle.run_outcome.specs.Names.{file_names, other_names}
-use Rattle.bloaty_engine.specs.Named.{Contents}
+use Rattle.bloaty_engine.specs.Named.{Contents, config_alone}
 use Rattle.bloaty_engine.specs.Reading.{unmade_names}
+use Rattle.bloaty_engine.specs.Verdict.{Request, asked}
 
 -- Names with their bytes by number. The first of them has number `first`.
 abbrev pub pairs_from : ℕ → List (List ℕ) → (ℕ → List ℕ) → Pairs
@@ -18,6 +20,21 @@ pairs_from first (name ∷ names) files = (name, files first) ∷ pairs_from (fi
 abbrev pub config_pairs : Option (List ℕ) → List ℕ → Pairs
 config_pairs None text = []
 config_pairs (Some name) text = (name, text) ∷ []
+
+-- The text of the configuration, if there is one, by what reads returned. Empty if it wasn't read.
+abbrev pub config_given : Option (List ℕ) → Pairs → List ℕ
+config_given (Some name) (file ∷ files) = file.1
+config_given config returned = []
+
+-- The others of what reads returned.
+abbrev pub files_given : Option (List ℕ) → Pairs → Pairs
+files_given (Some name) (file ∷ files) = files
+files_given (Some name) [] = []
+files_given None returned = returned
+
+-- The request of a run with these options, by what its reads returned.
+abbrev pub asked_given : Limits → Options → Pairs → Result Request Outcome
+asked_given limits o returned = asked limits (Ok o) (config_alone (config_given o.config returned))
 
 -- The files that are read, and then the others, with their bytes. A synthetic file isn't read.
 abbrev pub input_pairs : Options → List (List ℕ) → (ℕ → List ℕ) → Pairs

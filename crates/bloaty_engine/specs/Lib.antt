@@ -1,4 +1,5 @@
 pub mod Answers
+pub mod Costs
 pub mod Devices
 pub mod Given
 pub mod GrowthReport

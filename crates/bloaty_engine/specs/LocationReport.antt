@@ -16,7 +16,7 @@ place_path f place = map (place_label f place) f.sources
 --
 -- view, counted: The file as a report of sizes counts it.
 -- names: The explained data sources are those of `-d`, in their order.
--- labels: Their labels are the path by which a report of sizes counts the byte.
+-- labels: Their labels are the path of the byte in a report of sizes.
 pub record ExplainsPath (limits : Limits) (r : Request) (file : List ℕ) (place : Place) (sources : List PlaceSource) : Type 0 where
   pub view : FileView
   pub counted : viewed 0 limits.claims (first_name r.options) file r.sources ≡ Ok view

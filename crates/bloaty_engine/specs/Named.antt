@@ -1,5 +1,5 @@
 -- The bytes of a run's files by number.
-use Rattle.std.specs.Prelude.{◌≡◌, ℕ, ◌+◌, List, length, slice_get, Option, None, Some, ⊤}
+use Rattle.std.specs.Prelude.{◌≡◌, ℕ, ◌+◌, List, [], length, slice_get, Option, None, Some, ⊤}
 use Rattle.outside.specs.Held.{Pairs, held_bytes, IsHeld}
 use Rattle.elf_synth.specs.Made.{made}
 use Rattle.size_options.specs.declared.run_options.Options.{Options}
@@ -9,6 +9,10 @@ use Rattle.run_outcome.specs.Names.{file_names, other_names}
 pub record Contents : Type 0 where
   pub config : List ℕ
   pub files : ℕ → List ℕ
+
+-- A configuration with this text, without files.
+abbrev pub config_alone : List ℕ → Contents
+config_alone text = record { config = text; files = λ i. [] }
 
 -- The configuration, if there is one, has the bytes that its name holds, if the files report them.
 abbrev pub IsText : Option Pairs → Option (List ℕ) → List ℕ → Type 0

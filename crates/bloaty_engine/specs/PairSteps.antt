@@ -1,5 +1,5 @@
 -- The results of the steps of a run over a file with its debug file.
-use Rattle.std.specs.Prelude.{◌≡◌, ℕ, ◌+◌, ◌<◌, ⊤, Bool, List, [], ◌∷◌, length, Option, Result, Ok, Err, Vec, IsOk}
+use Rattle.std.specs.Prelude.{◌≡◌, ℕ, ◌+◌, ◌<◌, Bool, List, [], ◌∷◌, length, Option, Result, Ok, Err, Vec, IsOk}
 use Rattle.std.specs.declared.alloc.Global.{Global}
 use Rattle.size_core.specs.declared.limits.Limits.{Limits}
 use Rattle.size_model.specs.declared.view.FileView.{FileView}

@@ -1,5 +1,5 @@
 -- The stages of a run in order, and the stage at which a run with an outcome stopped.
-use Rattle.std.specs.Prelude.{ℕ, zero, suc, Bool, true, false, nat_lt, not, Result, Ok, Err}
+use Rattle.std.specs.Prelude.{ℕ, zero, Bool, true, false, nat_lt, not, Result, Ok, Err}
 use Rattle.run_outcome.specs.declared.outcome.Outcome.{Outcome}
 use Rattle.run_outcome.specs.declared.outcome.Outcome.TheVariants.{Done, Usage, ReadFailed, TooLong, Config, UnknownSource, PatternSyntax, PatternTooBig, WriteFailed, NoMemory}
 

@@ -6,6 +6,7 @@ ghost use Rattle.size_model.specs.declared.view.FileView.{FileView as FileViewSp
 ghost use Rattle.elf_synth.specs.Made.{made};
 ghost use Rattle.size_options.specs.Answers.{IsOneInput};
 ghost use Rattle.file_profile.specs.Counts.{filter_test};
+ghost use Rattle.bloaty_engine.specs.Costs.{CostsAtMost, file_cost, files_cost};
 ghost use Rattle.bloaty_engine.specs.Devices.{Reads};
 ghost use Rattle.bloaty_engine.specs.Given.{Gives, pairs_from};
 ghost use Rattle.bloaty_engine.specs.Named.{AreHeld};
@@ -24,14 +25,32 @@ use run_outcome::Outcome;
 use size_core::{BadFile, Limits, Names, Steps, Text};
 use size_options::Options;
 use std::alloc::Global;
-use std::marker::Brand;
 use std::sync::ledger::{Blank, Ledger};
 
-/// The number of files counted so far, and the sum of their lengths in bytes.
+/// The number of files counted so far, the sum of their lengths in bytes, and the count of the steps that they took.
 #[derive(Drop)]
-pub struct Tally {
+pub struct Tally<L: Ledger> {
     pub files: usize,
     pub bytes: u64,
+    pub steps: Steps<L>,
+}
+
+impl<L: Ledger> Tally<L> {
+    /// Returns the tally before the first file is counted. `blank` opens the counter of steps.
+    pub fn begin(blank: Blank) -> Tally<L>
+        requires name { blank.name ≡ L.name }
+        requires parts { blank.parts ≡ L.parts }
+        requires some { 0 < blank.parts }
+        ensures files { result.files ≡ 0 }
+        ensures bytes { result.bytes ≡ 0 }
+        ensures steps { result.steps ≡ 0 }
+    {
+        Tally {
+            files: 0,
+            bytes: 0,
+            steps: Steps::<L>::begin(blank),
+        }
+    }
 }
 
 /// The largest length of a file in bytes.
@@ -96,17 +115,14 @@ struct Input<'n, 'b> {
     bytes: &'b [u8],
 }
 
-// Counts a file. `blank` opens the counter of steps that `profile_file` takes. Its count isn't used.
+// Counts a file.
 fn count_file<L: Ledger>(
     run: &Run,
     plan: &Plan,
     file: Input<'_, '_>,
     total: &mut Rollup,
-    blank: Blank,
+    steps: &mut Steps<L>,
 ) -> Result<(), Outcome>
-    requires name { blank.name ≡ L.name }
-    requires parts { blank.parts ≡ L.parts }
-    requires some { 0 < blank.parts }
     requires depth { total.old.depth ≡ length plan.now.sources }
     requires fits { length file.bytes.now ≤ file_limit run.now.limits }
     requires lengths { total.old.lengths + length file.bytes.now ≤ total_limit run.now.limits }
@@ -125,18 +141,11 @@ fn count_file<L: Ledger>(
     ensures depth { total.new.depth ≡ total.old.depth }
     ensures lengths { OnOk result
         (total.new.lengths ≡ total.old.lengths + length file.entry.bytes.now) }
+    ensures cost { steps.new ≤ steps.old
+        + file_cost run.now.limits plan.now.sources file.entry.name.now file.entry.bytes.now }
 {
-    let mut steps = Steps::<L>::begin(blank);
     let name = file.name.as_str();
-    match profile_file(
-        run.alloc,
-        plan,
-        name,
-        file.bytes,
-        total,
-        &run.limits,
-        &mut steps,
-    ) {
+    match profile_file(run.alloc, plan, name, file.bytes, total, &run.limits, steps) {
         Ok(()) => Ok(()),
         Err(answer) => Err(end_at(file.number, answer)),
     }
@@ -165,12 +174,12 @@ pub fn first_name(options: &Options) -> &str
 
 /// Reads and counts the files of these names, and adds them to `tally`, which counts the files before them. Each file's
 /// memory is freed before the next file is read.
-pub fn count_files<F: Files>(
+pub fn count_files<L: Ledger, F: Files>(
     run: &Run,
     plan: &Plan,
     names: &Names,
     files: &mut F,
-    tally: &mut Tally,
+    tally: &mut Tally<L>,
 ) -> Result<Rollup, Outcome>
     requires few { length plan.now.sources ≤ 8 }
     requires numbers { tally.old.files + length names.now < 2 ^ 64 }
@@ -188,6 +197,8 @@ pub fn count_files<F: Files>(
     ensures room { tally.new.bytes ≤ total_limit run.now.limits }
     ensures taken { IfOk result (λ t.
         IsTaken (F.held files.old) t.lengths (F.taken files.old) (F.taken files.new)) }
+    ensures cost { CostsAtMost (files_cost run.now.limits plan.now.sources)
+        (F.gave files.old) (F.gave files.new) tally.old.steps tally.new.steps }
 {
     let before = tally.files;
     let mut total = Rollup::new(run.alloc, plan.depth());
@@ -196,13 +207,12 @@ pub fn count_files<F: Files>(
         let name = names.get(k);
         let limit = file_limit(&run.limits).min(total_limit(&run.limits) - tally.bytes);
         let file = read_file(run.alloc, files, name.as_str(), number, limit)?;
-        let blank = Blank::new(1);
         let input = Input {
             number,
             name,
             bytes: &file,
         };
-        count_file::<Brand>(run, plan, input, &mut total, blank)?;
+        count_file(run, plan, input, &mut total, &mut tally.steps)?;
         tally.bytes += file.len() as u64;
     }
     tally.files = before + names.len();
@@ -210,10 +220,15 @@ pub fn count_files<F: Files>(
 }
 
 /// Counts the synthetic file of `n` functions, which is the first file, and adds it to `tally`.
-pub fn count_made(run: &Run, plan: &Plan, n: u32, tally: &mut Tally) -> Result<Rollup, Outcome>
+pub fn count_made<L: Ledger>(
+    run: &Run,
+    plan: &Plan,
+    n: u32,
+    tally: &mut Tally<L>,
+) -> Result<Rollup, Outcome>
     requires number { n ≤ 1_000_000 }
     requires few { length plan.now.sources ≤ 8 }
-    requires none { tally.old ≡ record { files = 0; bytes = 0 } }
+    requires none { (tally.old.files ≡ 0) × (tally.old.bytes ≡ 0) }
     ensures counted { EndsFiles run.now.limits plan.now.sources (filter_test plan.now.filter)
         (batch_of 0 0 (codes "synth" ∷ [])) (λ i. made n) result }
     ensures tally { IfOk result (λ t. (tally.new.files ≡ 1) × (tally.new.bytes ≡ t.lengths)
@@ -221,6 +236,8 @@ pub fn count_made(run: &Run, plan: &Plan, n: u32, tally: &mut Tally) -> Result<R
     ensures room { tally.new.bytes ≤ total_limit run.now.limits }
     ensures unread { (i : ℕ) → IsErrOf result (Outcome.ReadFailed i) → ⊥ }
     ensures long { (i : ℕ) → IsErrOf result (Outcome.TooLong i) → i ≡ 1 }
+    ensures cost { tally.new.steps ≤ tally.old.steps
+        + file_cost run.now.limits plan.now.sources (codes "synth") (made n) }
 {
     let mut total = Rollup::new(run.alloc, plan.depth());
     let file = synth(run.alloc, n)?;
@@ -229,13 +246,12 @@ pub fn count_made(run: &Run, plan: &Plan, n: u32, tally: &mut Tally) -> Result<R
         return Err(Outcome::TooLong(1));
     }
     let name = Text::of(run.alloc, "synth")?;
-    let blank = Blank::new(1);
     let input = Input {
         number: 1,
         name: &name,
         bytes: &file,
     };
-    count_file::<Brand>(run, plan, input, &mut total, blank)?;
+    count_file(run, plan, input, &mut total, &mut tally.steps)?;
     tally.files = 1;
     tally.bytes = file.len() as u64;
     Ok(total)

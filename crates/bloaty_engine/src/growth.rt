@@ -3,6 +3,7 @@
 ghost use Rattle.std.specs.Prelude.{◌≡◌, ◌+◌, ◌^◌, ◌<◌, ◌≤◌, ◌++◌, ℕ, List, length, IfOk, OnOk};
 ghost use Rattle.size_growth.specs.Trees.{IsGrowthTree};
 ghost use Rattle.file_profile.specs.Counts.{filter_test};
+ghost use Rattle.bloaty_engine.specs.Costs.{CostsAtMost, files_cost};
 ghost use Rattle.bloaty_engine.specs.Devices.{Reads};
 ghost use Rattle.bloaty_engine.specs.GrowthReport.{EndsGrowth, PrintsGrowth, growth_printed};
 ghost use Rattle.bloaty_engine.specs.Given.{Gives, pairs_from};
@@ -21,6 +22,7 @@ use size_core::{Format, NoMemory};
 use size_growth::{Growth, GrowthTree, growth_rows};
 use size_options::Options;
 use std::alloc::Global;
+use std::sync::ledger::Ledger;
 
 // Appends the text of a report of growth.
 #[tactic(auto, unfolding(crate::specs::GrowthReport::growth_printed))]
@@ -60,12 +62,12 @@ fn growth_of(
 }
 
 /// Counts the base files, and makes the report of growth from them. `tally` counts the files before them.
-pub fn growth_report<F: Files>(
+pub fn growth_report<L: Ledger, F: Files>(
     run: &Run,
     plan: &Plan,
     total: &Rollup,
     files: &mut F,
-    tally: &mut Tally,
+    tally: &mut Tally<L>,
 ) -> Result<Vec<u8>, Outcome>
     requires few { length plan.now.sources ≤ 8 }
     requires depth { length run.now.options.sources ≡ length plan.now.sources }
@@ -80,6 +82,8 @@ pub fn growth_report<F: Files>(
         (pairs_from batch.first batch.names bytes) }
     ensures files { let batch = batch_of tally.old.files tally.old.bytes run.now.options.bases in
         Reads F.Files (batch_reading run.now.limits batch) result files.old files.new }
+    ensures cost { CostsAtMost (files_cost run.now.limits plan.now.sources)
+        (F.gave files.old) (F.gave files.new) tally.old.steps tally.new.steps }
 {
     let base = count_files(run, plan, &run.options.bases, files, tally)?;
     Ok(growth_of(run.alloc, &run.options, total, &base)?)

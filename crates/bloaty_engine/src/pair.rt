@@ -1,10 +1,12 @@
 //! A file with its debug file.
 
-ghost use Rattle.std.specs.Prelude.{◌≡◌, ◌^◌, ◌<◌, ◌≤◌, ◌∷◌, [], ℕ, List, None, Some, length, min, IfOk};
+ghost use Rattle.std.specs.Prelude.{◌≡◌, ◌+◌, ◌^◌, ◌<◌, ◌≤◌, ◌∷◌, [], ℕ, List, None, Some, length, min, IfOk};
 ghost use Rattle.outside.specs.Held.{IsHeld, IsTaken};
 ghost use Rattle.data_sources.specs.Opened.{opened};
 ghost use Rattle.size_options.specs.Answers.{IsOneInput, KeepsLimits};
 ghost use Rattle.file_profile.specs.Counts.{filter_test};
+ghost use Rattle.file_profile.specs.PairViews.{pair_view};
+ghost use Rattle.bloaty_engine.specs.Costs.{CostsAtMost, pair_cost, view_cost};
 ghost use Rattle.bloaty_engine.specs.Devices.{Reads};
 ghost use Rattle.bloaty_engine.specs.Given.{Gives, input_pairs};
 ghost use Rattle.bloaty_engine.specs.Named.{AreInputs};
@@ -24,8 +26,7 @@ use outside::Files;
 use rollup::Rollup;
 use run_outcome::Outcome;
 use size_core::{BadFile, Steps, Text};
-use std::marker::Brand;
-use std::sync::ledger::{Blank, Ledger};
+use std::sync::ledger::Ledger;
 
 // The outcome of a run in which a file can't be counted with its debug file.
 fn end_of_pair(answer: PairAnswer) -> Outcome
@@ -59,27 +60,27 @@ fn check_format(file: &[u8]) -> Result<(), Outcome>
     }
 }
 
-// Counts a file with its debug file, both in memory. `blank` opens the counter of steps, whose count isn't used.
+// Counts a file with its debug file, both in memory.
 fn count_opened<L: Ledger>(
     run: &Run,
     plan: &Plan,
     file: &[u8],
     debug: &[u8],
-    blank: Blank,
+    steps: &mut Steps<L>,
 ) -> Result<Rollup, Outcome>
-    requires name { blank.name ≡ L.name }
-    requires parts { blank.parts ≡ L.parts }
-    requires some { 0 < blank.parts }
     requires one { IsOneInput run.now.options.synth run.now.options.files }
     requires few { length plan.now.sources ≤ 8 }
     requires fits { length file.now ≤ file_limit run.now.limits }
     requires debug_fits { length debug.now ≤ file_limit run.now.limits }
     requires lengths { length file.now ≤ total_limit run.now.limits }
-    ensures { EndsPaired run.now.limits plan.now.sources (filter_test plan.now.filter)
+    ensures ends { EndsPaired run.now.limits plan.now.sources (filter_test plan.now.filter)
         (first_name run.now.options) file.now debug.now result }
+    ensures cost { let limit = run.now.limits.claims in
+        let name = first_name run.now.options in
+        let view = pair_view limit name file.now debug.now plan.now.sources in
+        steps.new ≤ steps.old + view_cost view }
 {
     let mut total = Rollup::new(run.alloc, plan.depth());
-    let mut steps = Steps::<L>::begin(blank);
     let name = first_name(&run.options);
     match profile_pair(
         run.alloc,
@@ -89,7 +90,7 @@ fn count_opened<L: Ledger>(
         debug,
         &mut total,
         &run.limits,
-        &mut steps,
+        steps,
     ) {
         Ok(()) => Ok(total),
         Err(answer) => Err(end_of_pair(answer)),
@@ -117,11 +118,12 @@ fn read_first<F: Files>(run: &Run, files: &mut F) -> Result<Vec<u8>, Outcome>
 }
 
 // Reads and counts a file with its debug file.
-fn count_pair<F: Files>(
+fn count_pair<L: Ledger, F: Files>(
     run: &Run,
     plan: &Plan,
     debug: &Text,
     files: &mut F,
+    steps: &mut Steps<L>,
 ) -> Result<Rollup, Outcome>
     requires few { length plan.now.sources ≤ 8 }
     requires one { IsOneInput run.now.options.synth run.now.options.files }
@@ -134,20 +136,22 @@ fn count_pair<F: Files>(
         ((first_name run.now.options, own) ∷ (debug.now, other) ∷ []) }
     ensures files { let batch = batch_of 0 0 (first_name run.now.options ∷ debug.now ∷ []) in
         Reads F.Files (batch_reading run.now.limits batch) result files.old files.new }
+    ensures cost { CostsAtMost (pair_cost run.now.limits plan.now.sources)
+        (F.gave files.old) (F.gave files.new) steps.old steps.new }
 {
     let file = read_first(run, files)?;
     let limit = file_limit(&run.limits).min(total_limit(&run.limits) - file.len() as u64);
     let other = read_file(run.alloc, files, debug.as_str(), 2, limit)?;
-    let blank = Blank::new(1);
-    count_opened::<Brand>(run, plan, &file, &other, blank)
+    count_opened(run, plan, &file, &other, steps)
 }
 
 /// Reads and counts the file with its debug file, and makes the report of its sizes.
-pub fn pair_report<F: Files>(
+pub fn pair_report<L: Ledger, F: Files>(
     run: &Run,
     plan: &Plan,
     debug: &Text,
     files: &mut F,
+    steps: &mut Steps<L>,
 ) -> Result<Vec<u8>, Outcome>
     requires limits { KeepsLimits run.now.options }
     requires planned { IsPlanned run.now.options plan.now }
@@ -160,7 +164,9 @@ pub fn pair_report<F: Files>(
         (input_pairs run.now.options (other_names run.now.options) bytes) }
     ensures files { let o = run.now.options in
         Reads F.Files (reading_for run.now.limits o (files_to_read o)) result files.old files.new }
+    ensures cost { CostsAtMost (pair_cost run.now.limits plan.now.sources)
+        (F.gave files.old) (F.gave files.new) steps.old steps.new }
 {
-    let total = count_pair(run, plan, debug, files)?;
+    let total = count_pair(run, plan, debug, files, steps)?;
     Ok(report_of(run.alloc, &run.options, &total)?)
 }

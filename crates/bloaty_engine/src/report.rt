@@ -4,9 +4,10 @@ ghost use Rattle.std.specs.Prelude.{◌≡◌, ◌+◌, ◌-◌, ◌^◌, ◌<�
 ghost use Rattle.outside.specs.Held.{IsTaken};
 ghost use Rattle.size_options.specs.Answers.{HasInput, KeepsLimits};
 ghost use Rattle.bloaty_engine.specs.Answers.{EndsReport};
+ghost use Rattle.bloaty_engine.specs.Costs.{CostsAtMost, counting_cost, found_cost, run_cost};
 ghost use Rattle.bloaty_engine.specs.Devices.{BuildsAsked, Reads};
 ghost use Rattle.file_profile.specs.Counts.{filter_test};
-ghost use Rattle.bloaty_engine.specs.Given.{Gives, input_pairs, pairs_from, run_pairs};
+ghost use Rattle.bloaty_engine.specs.Given.{Gives, input_pairs, pairs_from, run_pairs, seen_files};
 ghost use Rattle.bloaty_engine.specs.Named.{AreContents, AreFiles, AreInputs, Contents};
 ghost use Rattle.run_outcome.specs.Names.{file_names, other_names};
 ghost use Rattle.bloaty_engine.specs.Reading.{files_to_read, made_len, reading_for, run_reading, unmade_names};
@@ -26,6 +27,7 @@ use outside::Files;
 use rollup::Rollup;
 use run_outcome::Outcome;
 use size_options::Options;
+use std::sync::ledger::Ledger;
 
 // The number of all files, base files included, if it fits a `usize`.
 fn count_all(options: &Options) -> Option<usize>
@@ -35,16 +37,16 @@ fn count_all(options: &Options) -> Option<usize>
 }
 
 // Counts the files of the options, or the synthetic file.
-fn total_of<F: Files>(
+fn total_of<L: Ledger, F: Files>(
     run: &Run,
     plan: &Plan,
     files: &mut F,
-    tally: &mut Tally,
+    tally: &mut Tally<L>,
 ) -> Result<Rollup, Outcome>
     requires few { length plan.now.sources ≤ 8 }
     requires input { HasInput run.now.options.synth run.now.options.files }
     requires numbers { length (file_names run.now.options) < 2 ^ 64 }
-    requires none { tally.old ≡ record { files = 0; bytes = 0 } }
+    requires none { (tally.old.files ≡ 0) × (tally.old.bytes ≡ 0) }
     ensures counted { let batch = batch_of 0 0 (file_names run.now.options) in
         (bytes : ℕ → List ℕ)
         × AreFiles (F.held files.old) run.now.options.synth run.now.options.files bytes
@@ -64,6 +66,8 @@ fn total_of<F: Files>(
     ensures taken { let unread = made_len run.now.options.synth in
         OnOk result (IsTaken (F.held files.old) (tally.new.bytes - unread)
         (F.taken files.old) (F.taken files.new)) }
+    ensures cost { CostsAtMost (counting_cost run.now.limits plan.now.sources run.now.options)
+        (F.gave files.old) (F.gave files.new) tally.old.steps tally.new.steps }
 {
     match run.options.synth {
         Some(n) => count_made(run, plan, n, tally),
@@ -72,7 +76,13 @@ fn total_of<F: Files>(
 }
 
 // Counts all files, and makes their report.
-fn report_of_files<F: Files>(run: &Run, plan: &Plan, files: &mut F) -> Result<Vec<u8>, Outcome>
+fn report_of_files<L: Ledger, F: Files>(
+    run: &Run,
+    plan: &Plan,
+    files: &mut F,
+    tally: &mut Tally<L>,
+) -> Result<Vec<u8>, Outcome>
+    requires none { (tally.old.files ≡ 0) × (tally.old.bytes ≡ 0) }
     requires few { length plan.now.sources ≤ 8 }
     requires planned { IsPlanned run.now.options plan.now }
     requires input { HasInput run.now.options.synth run.now.options.files }
@@ -85,20 +95,27 @@ fn report_of_files<F: Files>(run: &Run, plan: &Plan, files: &mut F) -> Result<Ve
     ensures files { let o = run.now.options in
         let names = unmade_names o.synth o.files ++ o.bases in
         Reads F.Files (reading_for run.now.limits o names) result files.old files.new }
+    ensures cost { CostsAtMost (counting_cost run.now.limits plan.now.sources run.now.options)
+        (F.gave files.old) (F.gave files.new) tally.old.steps tally.new.steps }
 {
     if count_all(&run.options).is_none() {
         return Err(Outcome::NoMemory);
     }
-    let mut tally = Tally { files: 0, bytes: 0 };
-    let total = total_of(run, plan, files, &mut tally)?;
+    let total = total_of(run, plan, files, tally)?;
     if run.options.bases.len() == 0 {
         return Ok(report_of(run.alloc, &run.options, &total)?);
     }
-    growth_report(run, plan, &total, files, &mut tally)
+    growth_report(run, plan, &total, files, tally)
 }
 
 // The report of the only file with its debug file, or of all files.
-fn report_over_files<F: Files>(run: &Run, plan: &Plan, files: &mut F) -> Result<Vec<u8>, Outcome>
+fn report_over_files<L: Ledger, F: Files>(
+    run: &Run,
+    plan: &Plan,
+    files: &mut F,
+    tally: &mut Tally<L>,
+) -> Result<Vec<u8>, Outcome>
+    requires none { (tally.old.files ≡ 0) × (tally.old.bytes ≡ 0) }
     requires limits { KeepsLimits run.now.options }
     requires planned { IsPlanned run.now.options plan.now }
     requires no_place { run.now.options.place ≡ None }
@@ -109,15 +126,23 @@ fn report_over_files<F: Files>(run: &Run, plan: &Plan, files: &mut F) -> Result<
         (input_pairs run.now.options (other_names run.now.options) bytes) }
     ensures files { let o = run.now.options in
         Reads F.Files (reading_for run.now.limits o (files_to_read o)) result files.old files.new }
+    ensures cost { CostsAtMost (found_cost run.now.limits plan.now.sources run.now.options)
+        (F.gave files.old) (F.gave files.new) tally.old.steps tally.new.steps }
 {
     match &run.options.debug {
-        Some(debug) => pair_report(run, plan, debug, files),
-        None => report_of_files(run, plan, files),
+        Some(debug) => pair_report(run, plan, debug, files, &mut tally.steps),
+        None => report_of_files(run, plan, files, tally),
     }
 }
 
 // The explanation of a location, or the report of the files, as the options ask.
-fn report_of_kind<F: Files>(run: &Run, plan: &Plan, files: &mut F) -> Result<Vec<u8>, Outcome>
+fn report_of_kind<L: Ledger, F: Files>(
+    run: &Run,
+    plan: &Plan,
+    files: &mut F,
+    tally: &mut Tally<L>,
+) -> Result<Vec<u8>, Outcome>
+    requires none { (tally.old.files ≡ 0) × (tally.old.bytes ≡ 0) }
     requires limits { KeepsLimits run.now.options }
     requires planned { IsPlanned run.now.options plan.now }
     ensures found { (bytes : ℕ → List ℕ)
@@ -127,20 +152,25 @@ fn report_of_kind<F: Files>(run: &Run, plan: &Plan, files: &mut F) -> Result<Vec
         (input_pairs run.now.options (other_names run.now.options) bytes) }
     ensures files { let o = run.now.options in
         Reads F.Files (reading_for run.now.limits o (files_to_read o)) result files.old files.new }
+    ensures cost { CostsAtMost (found_cost run.now.limits plan.now.sources run.now.options)
+        (F.gave files.old) (F.gave files.new) tally.old.steps tally.new.steps }
 {
     match &run.options.place {
         Some(place) => place_report(run, plan, place, files),
-        None => report_over_files(run, plan, files),
+        None => report_over_files(run, plan, files, tally),
     }
 }
 
-/// The text of the report that the options ask for.
-pub fn report<F: Files, P: Patterns>(
+/// The text of the report that the options ask for. `tally` counts no file yet. Its count of steps is of the pieces that are
+/// read of the maps of the files.
+pub fn report<L: Ledger, F: Files, P: Patterns>(
     run: &Run,
     files: &mut F,
     patterns: &mut P,
+    tally: &mut Tally<L>,
 ) -> Result<Vec<u8>, Outcome>
-    requires { KeepsLimits run.now.options }
+    requires none { (tally.old.files ≡ 0) × (tally.old.bytes ≡ 0) }
+    requires limits { KeepsLimits run.now.options }
     ensures run { (contents : Contents) × AreContents (F.held files.old) run.now.options contents
         × EndsReport run.now.limits run.now.options (P.last_refused patterns.new) contents result
         × Gives result (F.gave files.old) (F.gave files.new)
@@ -148,10 +178,12 @@ pub fn report<F: Files, P: Patterns>(
     ensures files { let reading = run_reading run.now.limits (Ok run.now.options) in
         Reads F.Files reading result files.old files.new }
     ensures patterns { let given = Ok run.now.options in
-        BuildsAsked P.Patterns (F.held files.old) run.now.limits given result
-        patterns.old patterns.new }
+        BuildsAsked P.Patterns (seen_files F.Files files.old files.new) run.now.limits given
+        result patterns.old patterns.new }
+    ensures cost { CostsAtMost (run_cost run.now.limits run.now.options)
+        (F.gave files.old) (F.gave files.new) tally.old.steps tally.new.steps }
 {
     let customs = customs_of(run, files)?;
     let plan = plan_of(run, &customs, patterns)?;
-    report_of_kind(run, &plan, files)
+    report_of_kind(run, &plan, files, tally)
 }

@@ -1,6 +1,6 @@
 //! The whole run.
 
-ghost use Rattle.std.specs.Prelude.{◌≡◌, ◌⊎◌, ◌++◌, Ok, codes, false};
+ghost use Rattle.std.specs.Prelude.{◌≡◌, ◌<◌, ◌⊎◌, ◌++◌, Ok, codes, false};
 ghost use Rattle.outside.specs.Grown.{Grew, GrewByPart};
 ghost use Rattle.size_options.specs.Answers.{KeepsLimits, are_taken};
 ghost use Rattle.size_options.specs.Asked.{asked as options_of};
@@ -12,6 +12,7 @@ ghost use Rattle.bloaty_engine.specs.Given.{seen_files};
 ghost use Rattle.bloaty_engine.specs.Reading.{run_reading};
 ghost use Rattle.run_outcome.specs.Line.{line_of, usage_text};
 
+use crate::files::Tally;
 use crate::report::report;
 use crate::request::Run;
 use custom_rewrites::Patterns;
@@ -20,6 +21,8 @@ use run_outcome::{Outcome, tell, tell_no_memory, tell_usage};
 use size_core::Limits;
 use size_options::{OptionAnswer, UsageKind, options};
 use std::alloc::Global;
+use std::marker::Brand;
+use std::sync::ledger::{Blank, Ledger};
 
 // Writes the report.
 fn write<O: Sink>(out: &mut O, report: &[u8]) -> Outcome
@@ -36,26 +39,31 @@ fn write<O: Sink>(out: &mut O, report: &[u8]) -> Outcome
     }
 }
 
-// Makes the report and writes it.
-fn answer<F: Files, P: Patterns, O: Sink>(
+// Makes the report and writes it. `blank` opens the counter of steps.
+fn answer<L: Ledger, F: Files, P: Patterns, O: Sink>(
     run: &Run,
     files: &mut F,
     patterns: &mut P,
     out: &mut O,
+    blank: Blank,
 ) -> Outcome
-    requires { KeepsLimits run.now.options }
+    requires name { blank.name ≡ L.name }
+    requires parts { blank.parts ≡ L.parts }
+    requires some { 0 < blank.parts }
+    requires limits { KeepsLimits run.now.options }
     ensures run { let given = Ok run.now.options in
         IsRun (seen_files F.Files files.old files.new) run.now.limits given
         (P.last_refused patterns.new) (O.written out.old) (O.written out.new) result }
     ensures files { let reading = run_reading run.now.limits (Ok run.now.options) in
         Reads F.Files reading (ended result) files.old files.new }
     ensures patterns { let given = Ok run.now.options in
-        BuildsAsked P.Patterns (F.held files.old) run.now.limits given (ended result)
-        patterns.old patterns.new }
+        BuildsAsked P.Patterns (seen_files F.Files files.old files.new) run.now.limits given
+        (ended result) patterns.old patterns.new }
     ensures out { CountsWrites O.Sink result out.old out.new }
     ensures parsed { (kind : UsageKindSpec) → (result ≡ Outcome.Usage kind) → ⊥ }
 {
-    match report(run, files, patterns) {
+    let mut tally = Tally::<L>::begin(blank);
+    match report(run, files, patterns, &mut tally) {
         Err(end) => end,
         Ok(text) => write(out, &text),
     }
@@ -99,8 +107,8 @@ pub fn bloaty<F: Files, P: Patterns, O: Sink, E: Sink>(
     ensures files { let reading = run_reading limits.now (options_of (seen_words words.now)) in
         Reads F.Files reading (ended result) files.old files.new }
     ensures patterns { let given = options_of (seen_words words.now) in
-        BuildsAsked P.Patterns (F.held files.old) limits.now given (ended result)
-        patterns.old patterns.new }
+        BuildsAsked P.Patterns (seen_files F.Files files.old files.new) limits.now given
+        (ended result) patterns.old patterns.new }
     ensures out { CountsWrites O.Sink result out.old out.new }
 
     // The line of the outcome.
@@ -114,7 +122,7 @@ pub fn bloaty<F: Files, P: Patterns, O: Sink, E: Sink>(
                 options,
                 limits: *limits,
             };
-            let outcome = answer(&run, files, patterns, out);
+            let outcome = answer::<Brand, F, P, O>(&run, files, patterns, out, Blank::new(1));
             let _ = tell(err, &run.options, &outcome);
             outcome
         }

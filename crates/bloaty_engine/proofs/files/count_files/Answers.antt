@@ -1,9 +1,12 @@
 -- The files so far are counted, or the run ends at one.
-use Rattle.std.proofs.Common.{◌≡◌, ◌+◌, ◌-◌, ◌≤◌, [], ◌∷◌, Ok, Err, length, take, drop, min, refl, ap, ◌∙◌, rules, arith}
+use Rattle.std.proofs.Common.{◌≡◌, ◌+◌, ◌-◌, ◌≤◌, [], Ok, Err, length, take, drop, min, refl, ap, rules, arith}
 use Rattle.std.proofs.lemmas.Result.{err_from_is_err_and}
 use Rattle.file_profile.specs.Counts.{filter_test}
 use Rattle.bloaty_engine.specs.Reading.{file_reading}
 use Rattle.bloaty_engine.specs.Steps.{batch_of, batch_reading}
+use Rattle.bloaty_engine.specs.Costs.{files_cost}
+use Rattle.bloaty_engine.proofs.CostLemmas.{costs-more, costs-none, costs-one, costs-then}
+use Rattle.bloaty_engine.proofs.GivenLemmas.{given-all}
 use Rattle.bloaty_engine.proofs.FileLemmas.{all-counted, count-ends, counted-next, counted-none, extended, min-within, ok-some, read-ends}
 use Rattle.bloaty_engine.specs.Verdict.{file_limit, total_limit}
 use Rattle.file_profile.proofs.MapLemmas.{err-same}
@@ -16,6 +19,7 @@ pub loop-k-init : goal.loop-k-init
 loop-k-init g c = record {
   counted = rw c.new-total.ensures (counted-none (g.F.Files.held c.args.files.now) c.args.run.now.limits c.args.plan.now.sources (filter_test c.args.plan.now.filter) (batch_of c.args.tally.now.files c.args.tally.now.bytes c.args.names.now) (g.F.Files.gave c.args.files.now) c.depth.result c.depth.ensures);
   within = c.requires.room;
+  cost = costs-none (files_cost c.args.run.now.limits c.args.plan.now.sources) (g.F.Files.gave c.args.files.now) c.args.tally.now.steps;
   reads = unread-ok g.F.Files (front c.args.run.now.limits (batch_of c.args.tally.now.files c.args.tally.now.bytes c.args.names.now) 0) tt c.args.files.now (take-none c.args.names.now);
   taken = rw c.new-total.ensures (taken-none (g.F.Files.held c.args.files.now) (g.F.Files.taken c.args.files.now));
 }
@@ -64,6 +68,8 @@ loop-k-preserved g c =
       counted = counted-next (g.F.Files.held c.args.files.now) c.args.run.now.limits c.args.plan.now.sources (filter_test c.args.plan.now.filter) batch (g.F.Files.gave c.args.files.now) c.in_ok-file.file (g.F.Files.gave c.read_file.new.files) c.loop-k.k c.loop-k.tally.bytes (c.loop-k.tally.bytes + c.len.result)
           c.loop-k.total c.count_file.new.total c.get-name.result.now found.0 f.0 to more c.get-name.ensures le f.1 has (omega (arith, more_taken, to.lengths_are)) found.3;
       within = omega (arith, room, len);
+      cost = costs-then c.args.run.now.limits c.args.plan.now.sources _ (g.F.Files.gave c.loop-k.files) (g.F.Files.gave c.read_file.new.files) c.args.tally.now.steps c.loop-k.tally.steps c.count_file.new.steps c.loop-k.invariant.cost
+          (costs-one c.args.run.now.limits c.args.plan.now.sources c.get-name.result.now found.0 _ _ c.loop-k.tally.steps c.count_file.new.steps (given-all c.in_ok-file.file _ _ _ found.3) (rw (c.deref.ensures.value, found.2.0) at c.count_file.ensures.cost));
       reads = follows g.F.Files (front c.args.run.now.limits batch c.loop-k.k) (file_reading (batch.first + c.loop-k.k) c.get-name.result.now c.min-limit.result) (front c.args.run.now.limits batch (c.loop-k.k + 1)) tt (Ok tt)
           c.loop-k.total.lengths c.args.files.now c.loop-k.files c.read_file.new.files (take-next c.args.names.now c.loop-k.k c.get-name.result.now c.get-name.ensures)
           (batch-part c.args.run.now.limits batch c.loop-k.k (length (take c.loop-k.k c.args.names.now)) c.loop-k.tally.bytes c.min-limit.result c.loop-k.total.lengths c.get-name.result.now (take (c.loop-k.k + 1) c.args.names.now) (take-length c.args.names.now c.loop-k.k (omega (arith, c.loop-k-test.true, c.len-k-end.ensures))) c.get-name.ensures c.loop-k.invariant.counted.lengths_are c.loop-k.invariant.within limit)
@@ -112,3 +118,17 @@ returns-clause-files g c =
     let batch = batch_of c.args.tally.now.files c.args.tally.now.bytes c.args.names.now in
     then-ok g.F.Files (front c.args.run.now.limits batch c.loop-k.k) (batch_reading c.args.run.now.limits batch) [] tt c.loop-k.total c.args.files.now c.loop-k.files
     (front-all c.args.names.now c.loop-k.k (omega (arith, c.loop-k-test.false, c.len-k-end.ensures))) (omega arith) refl c.loop-k.invariant.reads
+
+pub returns-in_err-file-clause-cost : goal.returns-in_err-file-clause-cost
+returns-in_err-file-clause-cost g c =
+    let found = c.in_err-file.ensures.found in
+    costs-more c.args.run.now.limits c.args.plan.now.sources _ _ (g.F.Files.gave c.loop-k.files) (g.F.Files.gave c.read_file.new.files) _ c.args.tally.now.steps c.loop-k.tally.steps c.loop-k.invariant.cost found.3
+
+pub returns-in_err-count_file-clause-cost : goal.returns-in_err-count_file-clause-cost
+returns-in_err-count_file-clause-cost g c =
+    let found = c.in_ok-file.ensures.found in
+    costs-then c.args.run.now.limits c.args.plan.now.sources _ (g.F.Files.gave c.loop-k.files) (g.F.Files.gave c.read_file.new.files) c.args.tally.now.steps c.loop-k.tally.steps c.count_file.new.steps c.loop-k.invariant.cost
+    (costs-one c.args.run.now.limits c.args.plan.now.sources c.get-name.result.now found.0 _ _ c.loop-k.tally.steps c.count_file.new.steps (rw c.as_str.ensures at (given-all c.in_ok-file.file _ _ _ found.3)) (rw (c.deref.ensures.value, found.2.0) at c.count_file.ensures.cost))
+
+pub returns-clause-cost : goal.returns-clause-cost
+returns-clause-cost g c = c.loop-k.invariant.cost

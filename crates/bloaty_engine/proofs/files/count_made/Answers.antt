@@ -9,13 +9,13 @@ use Rattle.file_profile.proofs.MapLemmas.{err-same}
 use Rattle.bloaty_engine.proofs.files.count_made.Goals as goal
 
 pub returns-then-len-limit-clause-counted : goal.returns-then-len-limit-clause-counted
-returns-then-len-limit-clause-counted c =
+returns-then-len-limit-clause-counted g c =
     let limit : c.min-limit.result ≡ min (file_limit c.args.run.now.limits) (total_limit c.args.run.now.limits) = rw (c.file_limit.ensures, c.total_limit.ensures) at c.min-limit.ensures in
     let long : c.min-limit.result < length c.in_ok-file.file.items = omega (arith, c.if-len-limit.true, c.len.ensures, c.in_ok-file.file.ok) in
     made-long c.args.run.now.limits c.args.plan.now.sources (codes "synth") (made c.args.n) (rw (← limit, ← c.in_ok-file.ensures.bytes) long)
 
 pub returns-clause-counted : goal.returns-clause-counted
-returns-clause-counted c =
+returns-clause-counted g c =
     let ended = rw (c.new-total.ensures, c.deref.ensures.value, c.in_ok-file.ensures.bytes, c.in_ok-name.ensures) at c.in_ok-count_file.ensures.ended in
     let counted = rw (c.new-total.ensures, c.deref.ensures.value, c.in_ok-file.ensures.bytes, c.in_ok-name.ensures) at c.in_ok-count_file.ensures.counted in
     let limit : c.min-limit.result ≡ min (file_limit c.args.run.now.limits) (total_limit c.args.run.now.limits) = rw (c.file_limit.ensures, c.total_limit.ensures) at c.min-limit.ensures in
@@ -24,7 +24,7 @@ returns-clause-counted c =
     (f.0 ∷ [], made-counted c.args.run.now.limits c.args.plan.now.sources (codes "synth") (made c.args.n) f.0 f.1, counted 0 [] f.0 room f.1 (none-counted _ _ c.depth.result c.depth.ensures))
 
 pub returns-in_err-count_file-clause-counted : goal.returns-in_err-count_file-clause-counted
-returns-in_err-count_file-clause-counted c =
+returns-in_err-count_file-clause-counted g c =
     let p = err_from_is_err_and c.from_residual-in_err-count_file.result c.from_residual-in_err-count_file.ensures.1 in
     let limit : c.min-limit.result ≡ min (file_limit c.args.run.now.limits) (total_limit c.args.run.now.limits) = rw (c.file_limit.ensures, c.total_limit.ensures) at c.min-limit.ensures in
     let room : 0 + length (made c.args.n) ≤ total_limit c.args.run.now.limits = omega (arith, limit, c.if-len-limit.false, c.len.ensures, c.in_ok-file.file.ok, ap length c.in_ok-file.ensures.bytes) in
@@ -32,9 +32,15 @@ returns-in_err-count_file-clause-counted c =
     rw (p.1, p.2) (made-ends c.args.run.now.limits c.args.plan.now.sources (filter_test c.args.plan.now.filter) (codes "synth") (made c.args.n) c.in_err-count_file.field-0.0 (ended 0 room))
 
 pub returns-in_err-count_file-clause-unread : goal.returns-in_err-count_file-clause-unread
-returns-in_err-count_file-clause-unread c =
+returns-in_err-count_file-clause-unread g c =
     let p = err_from_is_err_and c.from_residual-in_err-count_file.result c.from_residual-in_err-count_file.ensures.1 in
     let limit : c.min-limit.result ≡ min (file_limit c.args.run.now.limits) (total_limit c.args.run.now.limits) = rw (c.file_limit.ensures, c.total_limit.ensures) at c.min-limit.ensures in
     let room : 0 + length (made c.args.n) ≤ total_limit c.args.run.now.limits = omega (arith, limit, c.if-len-limit.false, c.len.ensures, c.in_ok-file.file.ok, ap length c.in_ok-file.ensures.bytes) in
     let ended = rw (c.new-total.ensures, c.deref.ensures.value, c.in_ok-file.ensures.bytes, c.in_ok-name.ensures) at c.in_err-count_file.ensures.ended in
     rw (p.1, p.2) (λ i e. absurd (rw (err-same _ _ e) at (ended 0 room)))
+
+pub returns-clause-cost : goal.returns-clause-cost
+returns-clause-cost g c = rw (c.deref.ensures.value, c.in_ok-file.ensures.bytes, c.in_ok-name.ensures) at c.count_file.ensures.cost
+
+pub returns-in_err-count_file-clause-cost : goal.returns-in_err-count_file-clause-cost
+returns-in_err-count_file-clause-cost g c = rw (c.deref.ensures.value, c.in_ok-file.ensures.bytes, c.in_ok-name.ensures) at c.count_file.ensures.cost

@@ -1,5 +1,5 @@
 -- The bytes that were read are those of the name.
-use Rattle.std.proofs.Common.{Err, refl, sym, ap}
+use Rattle.std.proofs.Common.{refl, sym}
 use Rattle.file_profile.proofs.MapLemmas.{err-same}
 use Rattle.bloaty_engine.proofs.GivenLemmas.{gives-all, gives-failed}
 use Rattle.bloaty_engine.proofs.HeldLemmas.{held-long, held-some}

@@ -21,3 +21,12 @@ pub returns-clause-files : goal.returns-clause-files
 returns-clause-files g c =
     let q = batch_reading c.args.run.now.limits (batch_of c.args.tally.now.files c.args.tally.now.bytes c.args.run.now.options.bases) in
     then-ok g.F.Files q q [] c.in_ok-base.base c.in_ok-growth_of.field-0 c.args.files.now c.count_files.new.files (sym (append-nil q.names)) (omega arith) refl c.in_ok-base.ensures.files
+
+pub returns-in_err-base-clause-cost : goal.returns-in_err-base-clause-cost
+returns-in_err-base-clause-cost g c = c.count_files.ensures.cost
+
+pub returns-in_err-growth_of-clause-cost : goal.returns-in_err-growth_of-clause-cost
+returns-in_err-growth_of-clause-cost g c = c.count_files.ensures.cost
+
+pub returns-clause-cost : goal.returns-clause-cost
+returns-clause-cost g c = c.count_files.ensures.cost

@@ -5,10 +5,12 @@ use Rattle.bloaty_engine.specs.Verdict.{first_name}
 use Rattle.file_profile.proofs.LawLemmas.{of-file}
 use Rattle.bloaty_engine.proofs.FileLemmas.{counted-one, none-counted}
 use Rattle.bloaty_engine.proofs.PairLemmas.{ends-paired, ok-view}
+use Rattle.file_profile.specs.PairViews.{pair_view}
+use Rattle.bloaty_engine.proofs.CostLemmas.{view-costs}
 use Rattle.bloaty_engine.proofs.pair.count_opened.Goals as goal
 
-pub returns-in-Ok : goal.returns-in-Ok
-returns-in-Ok g c =
+pub returns-in-Ok-clause-ends : goal.returns-in-Ok-clause-ends
+returns-in-Ok-clause-ends g c =
     let answer = rw (c.new-total.ensures, c.first_name-name.ensures) at c.in-Ok.ensures.answer in
     let view = ok-view _ answer in
     let f = view.0 in
@@ -25,7 +27,15 @@ returns-in-Ok g c =
           (λ test. file f test view.1) (λ test. vm f test view.1),
     )
 
-pub returns-in-Err : goal.returns-in-Err
-returns-in-Err g c =
+pub returns-in-Err-clause-ends : goal.returns-in-Err-clause-ends
+returns-in-Err-clause-ends g c =
     rw c.end_of_pair.ensures (ends-paired c.args.run.now.limits c.args.plan.now.sources (filter_test c.args.plan.now.filter) (first_name c.args.run.now.options) c.args.file.now c.args.debug.now c.in-Err.answer
     (rw (c.new-total.ensures, c.first_name-name.ensures) at c.in-Err.ensures.answer))
+
+pub returns-in-Ok-clause-cost : goal.returns-in-Ok-clause-cost
+returns-in-Ok-clause-cost g c =
+    view-costs (pair_view c.args.run.now.limits.claims (first_name c.args.run.now.options) c.args.file.now c.args.debug.now c.args.plan.now.sources) c.args.steps.now c.profile_pair.new.steps (rw c.first_name-name.ensures at c.profile_pair.ensures.cost) (rw c.first_name-name.ensures at c.profile_pair.ensures.free)
+
+pub returns-in-Err-clause-cost : goal.returns-in-Err-clause-cost
+returns-in-Err-clause-cost g c =
+    view-costs (pair_view c.args.run.now.limits.claims (first_name c.args.run.now.options) c.args.file.now c.args.debug.now c.args.plan.now.sources) c.args.steps.now c.profile_pair.new.steps (rw c.first_name-name.ensures at c.profile_pair.ensures.cost) (rw c.first_name-name.ensures at c.profile_pair.ensures.free)

@@ -1,5 +1,5 @@
 -- The pair is counted, and then there is the report of its sizes.
-use Rattle.std.proofs.Common.{◌≡◌, ◌∷◌, [], Some, refl}
+use Rattle.std.proofs.Common.{◌∷◌, [], refl}
 use Rattle.std.proofs.lemmas.Result.{err_from_is_err_and}
 use Rattle.bloaty_engine.specs.Reading.{files_to_read, reading_for}
 use Rattle.bloaty_engine.specs.Steps.{batch_of, batch_reading}
@@ -88,3 +88,12 @@ returns-clause-found g c =
           c.in_ok-total.total c.in_ok-report_of.field-0 e.4 (rw (← c.total.view_is) c.total.invariant) c.in_ok-report_of.ensures,
       rw (pair-pairs o (first_name c.args.run.now.options) c.args.debug.now is c.requires.debug (pair-named c.args.run.now.options (c.requires.limits.debug _ c.requires.debug)) e.0 e.1) (gives-as c.in_ok-total.total _ _ _ _ e.5),
     )
+
+pub returns-in_err-total-clause-cost : goal.returns-in_err-total-clause-cost
+returns-in_err-total-clause-cost g c = c.count_pair.ensures.cost
+
+pub returns-in_err-report_of-clause-cost : goal.returns-in_err-report_of-clause-cost
+returns-in_err-report_of-clause-cost g c = c.count_pair.ensures.cost
+
+pub returns-clause-cost : goal.returns-clause-cost
+returns-clause-cost g c = c.count_pair.ensures.cost

@@ -1,5 +1,5 @@
 -- The file is within the limits and its format has no fault. Otherwise the run ends with that outcome.
-use Rattle.std.proofs.Common.{◌≡◌, ◌+◌, ◌∷◌, [], length, min, Err, refl, ap, arith}
+use Rattle.std.proofs.Common.{◌≡◌, ◌∷◌, [], length, min, Err, refl, ap, arith}
 use Rattle.std.proofs.lemmas.Result.{err_from_is_err_and}
 use Rattle.file_profile.proofs.MapLemmas.{err-same}
 use Rattle.bloaty_engine.specs.Verdict.{file_limit, first_name, total_limit}

@@ -1,5 +1,5 @@
 -- The only file is the one that the arguments name, or the synthetic one.
-use Rattle.std.proofs.Common.{◌≡◌, ◌+◌, ◌∷◌, [], length, min, refl, ap, ◌∙◌}
+use Rattle.std.proofs.Common.{◌≡◌, [], length, min, refl, ap, ◌∙◌}
 use Rattle.elf_synth.specs.Made.{made}
 use Rattle.bloaty_engine.specs.Reading.{file_reading, reading_for, unmade_names}
 use Rattle.bloaty_engine.specs.Verdict.{file_limit, first_name, total_limit}

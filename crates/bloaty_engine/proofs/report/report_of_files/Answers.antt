@@ -10,6 +10,7 @@ use Rattle.bloaty_engine.proofs.GivenLemmas.{given-all, gives-behind, gives-none
 use Rattle.bloaty_engine.proofs.RunLemmas.{some-bytes}
 use Rattle.bloaty_engine.proofs.SidesLemmas.{behind-held, behind-pairs, beyond, front-ends, front-files, front-pairs, growth-ends, no-names, sizes-end}
 use Rattle.bloaty_engine.proofs.StepLemmas.{base-part, follows, same-run, stops, then-no-memory, then-ok, unread-no-memory}
+use Rattle.bloaty_engine.proofs.CostLemmas.{costs-bases, costs-none}
 use Rattle.bloaty_engine.proofs.report.report_of_files.Goals as goal
 
 pub returns-in_err-total-clause-counted : goal.returns-in_err-total-clause-counted
@@ -91,3 +92,20 @@ returns-clause-files g c =
     follows g.F.Files (reading_for limits o (unmade_names o.synth o.files)) (batch_reading limits (batch_of (length (file_names o)) c.total_of.new.tally.bytes o.bases)) (reading_for limits o (unmade_names o.synth o.files ++ o.bases))
     c.in_ok-total.total c.growth_report.result (c.total_of.new.tally.bytes - made_len o.synth) c.args.files.now c.total_of.new.files c.growth_report.new.files refl
     (base-part limits o c.total_of.new.tally.bytes (unmade_names o.synth o.files ++ o.bases) c.requires.no_debug c.in_ok-total.ensures.tally.2 c.total_of.ensures.room) c.in_ok-total.ensures.files c.in_ok-total.ensures.taken base
+
+pub returns-then-is_none-clause-cost : goal.returns-then-is_none-clause-cost
+returns-then-is_none-clause-cost g c = costs-none _ (g.F.Files.gave c.args.files.now) c.args.tally.now.steps
+
+pub returns-in_err-total-clause-cost : goal.returns-in_err-total-clause-cost
+returns-in_err-total-clause-cost g c = c.total_of.ensures.cost
+
+pub returns-in_err-report_of-clause-cost : goal.returns-in_err-report_of-clause-cost
+returns-in_err-report_of-clause-cost g c = c.total_of.ensures.cost
+
+pub returns-then-len-eq0-clause-cost : goal.returns-then-len-eq0-clause-cost
+returns-then-len-eq0-clause-cost g c = c.total_of.ensures.cost
+
+pub returns-clause-cost : goal.returns-clause-cost
+returns-clause-cost g c =
+    costs-bases c.args.run.now.limits c.args.plan.now.sources c.args.run.now.options (g.F.Files.gave c.args.files.now) (g.F.Files.gave c.total_of.new.files) (g.F.Files.gave c.growth_report.new.files) c.args.tally.now.steps c.total_of.new.tally.steps c.growth_report.new.tally.steps
+    c.total_of.ensures.cost c.growth_report.ensures.cost

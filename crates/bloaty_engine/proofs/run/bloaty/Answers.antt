@@ -1,11 +1,14 @@
 -- A run is that of its options, or its arguments are misused.
+use Rattle.std.proofs.Common.{[], sym}
+use Rattle.std.proofs.lemmas.List.{append-nil}
 use Rattle.size_options.specs.Asked.{asked as options_of}
 use Rattle.size_options.specs.Words.{seen_words}
 use Rattle.bloaty_engine.specs.Reading.{run_reading}
 use Rattle.run_outcome.specs.declared.outcome.Outcome.TheVariants.{NoMemory}
-use Rattle.bloaty_engine.proofs.BuildLemmas.{unbuilt}
+use Rattle.bloaty_engine.specs.Given.{seen_files}
+use Rattle.bloaty_engine.proofs.BuildLemmas.{asked-any, unbuilt}
 use Rattle.bloaty_engine.proofs.LineLemmas.{line-printed}
-use Rattle.bloaty_engine.proofs.RunLemmas.{no-memory-run, some-contents, usage-run}
+use Rattle.bloaty_engine.proofs.RunLemmas.{no-memory-run, usage-run}
 use Rattle.bloaty_engine.proofs.StepLemmas.{unread-no-memory, unread-usage}
 use Rattle.bloaty_engine.proofs.run.bloaty.Goals as goal
 
@@ -36,13 +39,11 @@ returns-in-Err-NoMemory-clause-files g c = unread-no-memory g.F.Files (run_readi
 
 pub returns-in-Err-Usage-clause-patterns : goal.returns-in-Err-Usage-clause-patterns
 returns-in-Err-Usage-clause-patterns g c =
-    let some = some-contents (g.F.Files.held c.args.files.now) (options_of (seen_words c.args.words.now)) in
-    rw c.misused.ensures.is (record { contents = some.0; config = λ o e. (some.1 o e).config; builds = unbuilt g.P.Patterns _ _ c.args.patterns.now (λ e. cc) (λ i e. cc) (λ i e. cc) })
+    rw c.misused.ensures.is (asked-any g.P.Patterns (seen_files g.F.Files c.args.files.now c.args.files.now) _ _ _ c.args.patterns.now c.args.patterns.now [] (sym (append-nil _)) (λ b. unbuilt g.P.Patterns b _ c.args.patterns.now (λ e. cc) (λ i e. cc) (λ i e. cc)))
 
 pub returns-in-Err-NoMemory-clause-patterns : goal.returns-in-Err-NoMemory-clause-patterns
 returns-in-Err-NoMemory-clause-patterns g c =
-    let some = some-contents (g.F.Files.held c.args.files.now) (options_of (seen_words c.args.words.now)) in
-    record { contents = some.0; config = λ o e. (some.1 o e).config; builds = unbuilt g.P.Patterns _ _ c.args.patterns.now (λ e. cc) (λ i e. cc) (λ i e. cc) }
+    asked-any g.P.Patterns (seen_files g.F.Files c.args.files.now c.args.files.now) _ _ _ c.args.patterns.now c.args.patterns.now [] (sym (append-nil _)) (λ b. unbuilt g.P.Patterns b _ c.args.patterns.now (λ e. cc) (λ i e. cc) (λ i e. cc))
 
 pub returns-in-Ok-clause-err : goal.returns-in-Ok-clause-err
 returns-in-Ok-clause-err g c = rw c.in-Ok.ensures.asked (line-printed g.E.Sink c.tell.result _ c.answer-outcome.result c.args.err.now c.tell.new.err c.tell.ensures.writes c.tell.ensures.silent)
