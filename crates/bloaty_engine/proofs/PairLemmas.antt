@@ -62,6 +62,20 @@ first-long limits file lt =
 ok-sound : (limits : Limits) (file : List ℕ) → length file ≤ file_limit limits → length file ≤ total_limit limits → IsOk (if_sound (opened file)) → IsOk (opened_first limits file)
 ok-sound limits file le total ok = rw (first-within limits file le total) ok
 
+err-not-ok : (r : Result Binary Outcome) (end : Outcome) → r ≡ Err end → IsOk r → ⊥
+err-not-ok (Ok binary) end e ok = cc
+err-not-ok (Err x) end e ok = cc
+
+-- A first file that was opened is within the limits.
+pub first-fits : (limits : Limits) (file : List ℕ) → IsOk (opened_first limits file) → length file ≤ min (file_limit limits) (total_limit limits)
+first-fits limits file ok = by-test (nat_lt (min (file_limit limits) (total_limit limits)) (length file)) refl
+  where
+    by-test : (t : Bool) → nat_lt (min (file_limit limits) (total_limit limits)) (length file) ≡ t → length file ≤ min (file_limit limits) (total_limit limits)
+    by-test true e =
+        let long : min (file_limit limits) (total_limit limits) < length file = grind (arith, nat_tests) in
+        absurd (err-not-ok (opened_first limits file) (TooLong 1) (first-long limits file long) ok)
+    by-test false e = grind (arith, nat_tests)
+
 module _ (limits : Limits) (file : List ℕ) (limit : ℕ) (is : limit ≡ min (file_limit limits) (total_limit limits)) where
   -- A failed read.
   pub first-read : (end : Outcome) → Finds 1 limit file (Err end) → EndsFirst limits file (Err end)
@@ -195,6 +209,30 @@ one-held (Some pairs) first name bytes files same held = at-place
     at-place : (k : ℕ) (n : List ℕ) → slice_get (name ∷ []) k ≡ Some n → files (first + k) ≡ held_bytes pairs n
     at-place zero n at = same ∙ (held ∙ ap (held_bytes pairs) (same_Some name n at))
     at-place (suc k) n at = absurd (none-some n at)
+
+-- The bytes of a file and its debug file, which are files 1 and 2.
+abbrev pub both : List ℕ → List ℕ → ℕ → List ℕ
+both own other zero = own
+both own other (suc zero) = own
+both own other (suc (suc i)) = other
+
+pub both-held : (held : Option Pairs) (name debug own other : List ℕ) → IsHeld held name own → IsHeld held debug other → AreHeld held 1 (name ∷ debug ∷ []) (both own other)
+both-held None name debug own other a b = tt
+both-held (Some pairs) name debug own other a b = at-place
+  where
+    at-place : (k : ℕ) (n : List ℕ) → slice_get (name ∷ debug ∷ []) k ≡ Some n → both own other (1 + k) ≡ held_bytes pairs n
+    at-place zero n at = a ∙ ap (held_bytes pairs) (same_Some name n at)
+    at-place (suc zero) n at = b ∙ ap (held_bytes pairs) (same_Some debug n at)
+    at-place (suc (suc k)) n at = absurd (none-some n at)
+
+-- The first two files of those that are read.
+pub first-held : (held : Option Pairs) (name : List ℕ) (names : List (List ℕ)) (files : ℕ → List ℕ) → AreHeld held 1 (name ∷ names) files → IsHeld held name (files 1)
+first-held None name names files are = tt
+first-held (Some pairs) name names files are = are 0 name refl
+
+pub second-held : (held : Option Pairs) (name debug : List ℕ) (names : List (List ℕ)) (files : ℕ → List ℕ) → AreHeld held 1 (name ∷ debug ∷ names) files → IsHeld held debug (files 2)
+second-held None name debug names files are = tt
+second-held (Some pairs) name debug names files are = are 1 debug refl
 
 module _ (o : Options) (name debug : List ℕ) (is : IsPair o) (asked : o.debug ≡ Some debug) (named : slice_get o.files 0 ≡ Some name) where
   files-are : o.files ≡ name ∷ []

@@ -1,6 +1,6 @@
 -- Names that are read one after the other.
 use Rattle.std.proofs.Common.{◌≡◌, ℕ, zero, suc, ◌+◌, ◌<◌, ◌≤◌, List, [], ◌∷◌, ◌++◌, length, take, false, true, None, Some, Result, Ok, Err, refl, sym, ap, ◌∙◌, append_assoc, length-append, arith}
-use Rattle.std.specs.Prelude.{OnOk, slice_get}
+use Rattle.std.specs.Prelude.{IfOk, OnOk, slice_get}
 use Rattle.std.proofs.Math.Seq.{take-append-add}
 use Rattle.std.proofs.lemmas.List.{append-nil, take-append-le, take_all}
 use Rattle.std.proofs.lemmas.Option.{none-some, same_Some}
@@ -109,6 +109,10 @@ base-name o k name none at =
 pub OnOk-any : {T E : Type 0} (r : Result T E) (P : Type 0) → P → OnOk r P
 OnOk-any (Ok v) P p = p
 OnOk-any (Err e) P p = tt
+
+pub IfOk-then : {T E : Type 0} (r : Result T E) (P Q : T → Type 0) → IfOk r P → ((v : T) → P v → Q v) → IfOk r Q
+IfOk-then (Ok v) P Q p f = f v p
+IfOk-then (Err e) P Q p f = tt
 
 pub OnOk-then : {T E : Type 0} (r : Result T E) (P Q : Type 0) → (P → Q) → OnOk r P → OnOk r Q
 OnOk-then (Ok v) P Q f p = f p

@@ -1,6 +1,7 @@
 pub mod Answers
 pub mod Costs
 pub mod Devices
+pub mod FileSteps
 pub mod Given
 pub mod GrowthReport
 pub mod LocationReport
@@ -8,10 +9,12 @@ pub mod Named
 pub mod PairSteps
 pub mod PatternLists
 pub mod PlaceSteps
+pub mod PlanSteps
 pub mod Reading
 pub mod Report
 pub mod ReportLaws
 pub mod Reports
+pub mod RunSteps
 pub mod Stages
 pub mod Steps
 pub mod Verdict

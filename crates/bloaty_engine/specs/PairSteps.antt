@@ -1,5 +1,5 @@
 -- The results of the steps of a run over a file with its debug file.
-use Rattle.std.specs.Prelude.{◌≡◌, ℕ, ◌+◌, ◌<◌, Bool, List, [], ◌∷◌, length, Option, Result, Ok, Err, Vec, IsOk}
+use Rattle.std.specs.Prelude.{◌≡◌, ℕ, ◌+◌, ◌<◌, ◌≤◌, Bool, List, [], ◌∷◌, length, Option, Result, Ok, Err, Vec, IsOk}
 use Rattle.std.specs.declared.alloc.Global.{Global}
 use Rattle.size_core.specs.declared.limits.Limits.{Limits}
 use Rattle.size_model.specs.declared.view.FileView.{FileView}
@@ -8,12 +8,21 @@ use Rattle.file_profile.specs.PairViews.{pair_viewed}
 use Rattle.file_profile.specs.Sources.{Chosen}
 use Rattle.run_outcome.specs.declared.outcome.Outcome.{Outcome}
 use Rattle.bloaty_engine.specs.Steps.{EndsBy, HasCounted, Nowhere}
-use Rattle.bloaty_engine.specs.Verdict.{IsPairRead, counted_pair, if_paired, one_file, opened_first}
+use Rattle.bloaty_engine.specs.Verdict.{IsPairRead, counted_pair, file_limit, if_paired, one_file, opened_first, total_limit}
 
 -- The first file was read and opened, or the run ended at it or at its read.
 abbrev pub EndsFirst : Limits → List ℕ → Result (Vec ℕ Global) Outcome → Type 0
 EndsFirst limits file (Ok v) = (v.items ≡ file) × IsOk (opened_first limits file)
 EndsFirst limits file (Err end) = EndsBy (λ i. i ≡ 1) (opened_first limits file) end
+
+-- A file and its debug file with these bytes are within the limits.
+--
+-- fits, debug_fits: Each is within the limit of a file.
+-- lengths: The file is within the limit of all files.
+pub record FitPair (limits : Limits) (file debug : List ℕ) : Type 0 where
+  pub fits : length file ≤ file_limit limits
+  pub debug_fits : length debug ≤ file_limit limits
+  pub lengths : length file ≤ total_limit limits
 
 -- A file and its debug file were counted, or the run ended at one of them.
 abbrev pub EndsPaired : Limits → List Chosen → Option (List ℕ → Bool) → List ℕ → List ℕ → List ℕ → Result Totals Outcome → Type 0

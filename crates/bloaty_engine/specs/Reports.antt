@@ -1,11 +1,17 @@
 -- The report that a run has.
-use Rattle.std.specs.Prelude.{◌≡◌, ℕ, ◌+◌, ◌<◌, ⊤, List, [], ◌∷◌, length, Option, None, Some, Result, Ok, Err, Vec, IsOk}
+use Rattle.std.specs.Prelude.{◌≡◌, ℕ, ◌+◌, ◌<◌, ⊤, List, [], ◌∷◌, ◌++◌, length, Option, None, Some, Result, Ok, Err, Vec, IsOk}
 use Rattle.std.specs.declared.alloc.Global.{Global}
 use Rattle.size_core.specs.declared.limits.Limits.{Limits}
+use Rattle.outside.specs.declared.files.Files.{Ghosts as FilesGhosts}
+use Rattle.size_options.specs.Answers.{KeepsLimits}
 use Rattle.size_options.specs.declared.run_options.Options.{Options}
 use Rattle.run_outcome.specs.declared.outcome.Outcome.{Outcome}
+use Rattle.bloaty_engine.specs.Devices.{Reads}
+use Rattle.bloaty_engine.specs.Given.{Gives, input_pairs}
 use Rattle.bloaty_engine.specs.GrowthReport.{IsGrowthReport}
-use Rattle.run_outcome.specs.Names.{all_names, file_names, side_names}
+use Rattle.bloaty_engine.specs.Named.{AreInputs}
+use Rattle.bloaty_engine.specs.Reading.{reading_for, unmade_names}
+use Rattle.run_outcome.specs.Names.{all_names, file_names, other_names, side_names}
 use Rattle.bloaty_engine.specs.Report.{IsSizeReport}
 use Rattle.file_profile.specs.Plans.{Plans}
 use Rattle.file_profile.specs.Sources.{Chosen}
@@ -56,3 +62,29 @@ EndsCounting limits sources files o (Err end) =
 abbrev pub EndsFinding : Limits → List Chosen → (ℕ → List ℕ) → Options → Result (Vec ℕ Global) Outcome → Type 0
 EndsFinding limits sources files o (Ok text) = (f : Finding) × (found limits sources files o ≡ Ok f) × IsReport o f text.items
 EndsFinding limits sources files o (Err end) = EndsBy (IsReadFile limits sources files o) (found limits sources files o) end
+
+-- The options keep their limits, and the plan is theirs.
+pub record IsReady (o : Options) (p : Plans) : Type 0 where
+  pub limits : KeepsLimits o
+  pub planned : IsPlanned o p
+
+-- The effect of a step that reads the files of the options and then other files, whose numbers follow. `P` says which result the
+-- step has, by the bytes of the files. `before` and `after` are the files before and after it.
+--
+-- bytes, are: The files have these bytes, by their numbers.
+-- ends: The step has its result over them.
+-- gives: Its reads returned these bytes.
+-- reads: It read these files, one after the other. A synthetic file isn't read.
+pub record ReadsInputs {F X : Type 0} (f : FilesGhosts F) (limits : Limits) (o : Options) (others : List (List ℕ))
+    (P : (ℕ → List ℕ) → Result X Outcome → Type 0) (result : Result X Outcome) (before after : F) : Type 0 where
+  pub bytes : ℕ → List ℕ
+  pub are : AreInputs (f.held before) o others bytes
+  pub ends : P bytes result
+  pub gives : Gives result (f.gave before) (f.gave after) (input_pairs o others bytes)
+  pub reads : Reads f (reading_for limits o (unmade_names o.synth o.files ++ others)) result before after
+
+-- The effect of a step that makes the report of what the options ask for. It returns the report over the bytes of their files, or
+-- the outcome that these bytes decide; or a read failed; or memory ran out.
+abbrev pub MakesReport : {F : Type 0} → FilesGhosts F → Limits → List Chosen → Options → Result (Vec ℕ Global) Outcome → F → F → Type 0
+MakesReport f limits sources o result before after =
+    ReadsInputs f limits o (other_names o) (λ bytes. EndsFinding limits sources bytes o) result before after

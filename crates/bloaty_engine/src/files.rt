@@ -1,19 +1,15 @@
 //! The files of a run, read and counted one after the other.
 
-ghost use Rattle.std.specs.Prelude.{◌≡◌, ◌+◌, ◌^◌, ◌<◌, ◌≤◌, ◌++◌, ◌∷◌, [], ℕ, List, Ok, length, codes, IfOk, OnOk, IsErrOf};
-ghost use Rattle.outside.specs.Held.{IsHeld, IsTaken};
-ghost use Rattle.size_model.specs.declared.view.FileView.{FileView as FileViewSpec};
+ghost use Rattle.std.specs.Prelude.{◌≡◌, ◌+◌, ◌≤◌, ◌∷◌, [], length, codes, IfOk};
 ghost use Rattle.elf_synth.specs.Made.{made};
 ghost use Rattle.size_options.specs.Answers.{IsOneInput};
 ghost use Rattle.file_profile.specs.Counts.{filter_test};
 ghost use Rattle.bloaty_engine.specs.Costs.{CostsAtMost, file_cost, files_cost};
-ghost use Rattle.bloaty_engine.specs.Devices.{Reads};
-ghost use Rattle.bloaty_engine.specs.Given.{Gives, pairs_from};
-ghost use Rattle.bloaty_engine.specs.Named.{AreHeld};
+ghost use Rattle.bloaty_engine.specs.FileSteps.{AddsFile, CanCount, FitsTotal, ReadsBatch, ReadsFile, Tallies, UsesMade};
 ghost use Rattle.run_outcome.specs.Names.{file_names};
-ghost use Rattle.bloaty_engine.specs.Reading.{file_reading};
-ghost use Rattle.bloaty_engine.specs.Steps.{EndsAs, EndsFiles, Finds, HasCounted, batch_of, batch_reading};
-ghost use Rattle.bloaty_engine.specs.Verdict.{counted_file, end_at, file_limit, first_name, total_limit};
+ghost use Rattle.bloaty_engine.specs.RunSteps.{IsBlankOf};
+ghost use Rattle.bloaty_engine.specs.Steps.{EndsFiles, batch_of};
+ghost use Rattle.bloaty_engine.specs.Verdict.{end_at, file_limit, first_name, total_limit};
 
 use crate::profile::profile_file;
 use crate::request::Run;
@@ -38,11 +34,8 @@ pub struct Tally<L: Ledger> {
 impl<L: Ledger> Tally<L> {
     /// Returns the tally before the first file is counted. `blank` opens the counter of steps.
     pub fn begin(blank: Blank) -> Tally<L>
-        requires name { blank.name ≡ L.name }
-        requires parts { blank.parts ≡ L.parts }
-        requires some { 0 < blank.parts }
-        ensures files { result.files ≡ 0 }
-        ensures bytes { result.bytes ≡ 0 }
+        requires { IsBlankOf L.name L.parts blank.name blank.parts }
+        ensures none { (result.files ≡ 0) × (result.bytes ≡ 0) }
         ensures steps { result.steps ≡ 0 }
     {
         Tally {
@@ -75,13 +68,7 @@ pub fn read_file<F: Files>(
     number: usize,
     limit: u64,
 ) -> Result<Vec<u8>, Outcome>
-    ensures found { (bytes : List ℕ)
-        × IsHeld (F.held files.old) name.now bytes × Finds number limit bytes result
-        × Gives result (F.gave files.old) (F.gave files.new) ((name.now, bytes) ∷ []) }
-    ensures files { let reading = file_reading number name.now limit in
-        Reads F.Files reading result files.old files.new }
-    ensures taken { IfOk result (λ v.
-        IsTaken (F.held files.old) (length v.items) (F.taken files.old) (F.taken files.new)) }
+    ensures { ReadsFile F.Files number name.now limit result files.old files.new }
 {
     match files.read(alloc, name, limit) {
         Ok(bytes) => Ok(bytes),
@@ -123,26 +110,10 @@ fn count_file<L: Ledger>(
     total: &mut Rollup,
     steps: &mut Steps<L>,
 ) -> Result<(), Outcome>
-    requires depth { total.old.depth ≡ length plan.now.sources }
-    requires fits { length file.bytes.now ≤ file_limit run.now.limits }
-    requires lengths { total.old.lengths + length file.bytes.now ≤ total_limit run.now.limits }
-    ensures short { (i : ℕ) → IsErrOf result (Outcome.TooLong i) → ⊥ }
-    ensures ended { (lengths : ℕ)
-        → lengths + length file.entry.bytes.now ≤ total_limit run.now.limits
-        → EndsAs result (counted_file run.now.limits plan.now.sources file.entry.number lengths
-        total.old.mapped file.entry.name.now file.entry.bytes.now) }
-    ensures counted { OnOk result ((lengths : ℕ) (files : List FileViewSpec) (f : FileViewSpec)
-        → lengths + length file.entry.bytes.now ≤ total_limit run.now.limits
-        → counted_file run.now.limits plan.now.sources file.entry.number lengths
-        total.old.mapped file.entry.name.now file.entry.bytes.now ≡ Ok f
-        → HasCounted (filter_test plan.now.filter) (length plan.now.sources) files total.old
-        → HasCounted (filter_test plan.now.filter) (length plan.now.sources)
-        (files ++ f ∷ []) total.new) }
-    ensures depth { total.new.depth ≡ total.old.depth }
-    ensures lengths { OnOk result
-        (total.new.lengths ≡ total.old.lengths + length file.entry.bytes.now) }
-    ensures cost { steps.new ≤ steps.old
-        + file_cost run.now.limits plan.now.sources file.entry.name.now file.entry.bytes.now }
+    requires { FitsTotal run.now.limits plan.now.sources total.old file.bytes.now }
+    ensures { let bytes = file.entry.bytes.now in
+        AddsFile run.now.limits plan.now file.entry.number file.entry.name.now bytes result
+        total.old total.new steps.old steps.new }
 {
     let name = file.name.as_str();
     match profile_file(run.alloc, plan, name, file.bytes, total, &run.limits, steps) {
@@ -181,22 +152,15 @@ pub fn count_files<L: Ledger, F: Files>(
     files: &mut F,
     tally: &mut Tally<L>,
 ) -> Result<Rollup, Outcome>
-    requires few { length plan.now.sources ≤ 8 }
-    requires numbers { tally.old.files + length names.now < 2 ^ 64 }
-    requires room { tally.old.bytes ≤ total_limit run.now.limits }
-    ensures counted { let batch = batch_of tally.old.files tally.old.bytes names.now in
-        (bytes : ℕ → List ℕ) × AreHeld (F.held files.old) batch.first batch.names bytes
-        × EndsFiles run.now.limits plan.now.sources (filter_test plan.now.filter)
-        batch bytes result
-        × Gives result (F.gave files.old) (F.gave files.new)
-        (pairs_from batch.first batch.names bytes) }
-    ensures files { let batch = batch_of tally.old.files tally.old.bytes names.now in
-        Reads F.Files (batch_reading run.now.limits batch) result files.old files.new }
-    ensures tally { IfOk result (λ t. (tally.new.files ≡ tally.old.files + length names.now)
-        × (tally.new.bytes ≡ tally.old.bytes + t.lengths)) }
-    ensures room { tally.new.bytes ≤ total_limit run.now.limits }
-    ensures taken { IfOk result (λ t.
-        IsTaken (F.held files.old) t.lengths (F.taken files.old) (F.taken files.new)) }
+    requires { let batch = batch_of tally.old.files tally.old.bytes names.now in
+        CanCount run.now.limits plan.now.sources batch }
+    ensures batch { let batch = batch_of tally.old.files tally.old.bytes names.now in
+        let test = filter_test plan.now.filter in
+        ReadsBatch F.Files run.now.limits batch
+        (EndsFiles run.now.limits plan.now.sources test batch) result files.old files.new }
+    ensures tally { let batch = batch_of tally.old.files tally.old.bytes names.now in
+        Tallies F.Files run.now.limits batch 0 result tally.new.files tally.new.bytes
+        files.old files.new }
     ensures cost { CostsAtMost (files_cost run.now.limits plan.now.sources)
         (F.gave files.old) (F.gave files.new) tally.old.steps tally.new.steps }
 {
@@ -229,13 +193,12 @@ pub fn count_made<L: Ledger>(
     requires number { n ≤ 1_000_000 }
     requires few { length plan.now.sources ≤ 8 }
     requires none { (tally.old.files ≡ 0) × (tally.old.bytes ≡ 0) }
-    ensures counted { EndsFiles run.now.limits plan.now.sources (filter_test plan.now.filter)
-        (batch_of 0 0 (codes "synth" ∷ [])) (λ i. made n) result }
+    ensures made { let batch = batch_of 0 0 (codes "synth" ∷ []) in
+        let test = filter_test plan.now.filter in
+        UsesMade (EndsFiles run.now.limits plan.now.sources test batch (λ i. made n)) result }
     ensures tally { IfOk result (λ t. (tally.new.files ≡ 1) × (tally.new.bytes ≡ t.lengths)
         × (t.lengths ≡ length (made n))) }
     ensures room { tally.new.bytes ≤ total_limit run.now.limits }
-    ensures unread { (i : ℕ) → IsErrOf result (Outcome.ReadFailed i) → ⊥ }
-    ensures long { (i : ℕ) → IsErrOf result (Outcome.TooLong i) → i ≡ 1 }
     ensures cost { tally.new.steps ≤ tally.old.steps
         + file_cost run.now.limits plan.now.sources (codes "synth") (made n) }
 {

@@ -1,15 +1,12 @@
 //! The report of growth from base files.
 
-ghost use Rattle.std.specs.Prelude.{◌≡◌, ◌+◌, ◌^◌, ◌<◌, ◌≤◌, ◌++◌, ℕ, List, length, IfOk, OnOk};
+ghost use Rattle.std.specs.Prelude.{◌≡◌, ◌++◌, length, IfOk, OnOk};
 ghost use Rattle.size_growth.specs.Trees.{IsGrowthTree};
 ghost use Rattle.file_profile.specs.Counts.{filter_test};
 ghost use Rattle.bloaty_engine.specs.Costs.{CostsAtMost, files_cost};
-ghost use Rattle.bloaty_engine.specs.Devices.{Reads};
+ghost use Rattle.bloaty_engine.specs.FileSteps.{CanCount, ReadsBatch};
 ghost use Rattle.bloaty_engine.specs.GrowthReport.{EndsGrowth, PrintsGrowth, growth_printed};
-ghost use Rattle.bloaty_engine.specs.Given.{Gives, pairs_from};
-ghost use Rattle.bloaty_engine.specs.Named.{AreHeld};
-ghost use Rattle.bloaty_engine.specs.Steps.{batch_of, batch_reading};
-ghost use Rattle.bloaty_engine.specs.Verdict.{total_limit};
+ghost use Rattle.bloaty_engine.specs.Steps.{batch_of};
 
 use crate::files::{Tally, count_files};
 use crate::request::Run;
@@ -69,19 +66,16 @@ pub fn growth_report<L: Ledger, F: Files>(
     files: &mut F,
     tally: &mut Tally<L>,
 ) -> Result<Vec<u8>, Outcome>
-    requires few { length plan.now.sources ≤ 8 }
+    requires batch { let batch = batch_of tally.old.files tally.old.bytes run.now.options.bases in
+        CanCount run.now.limits plan.now.sources batch }
     requires depth { length run.now.options.sources ≡ length plan.now.sources }
     requires total { total.now.depth ≡ length plan.now.sources }
-    requires numbers { tally.old.files + length run.now.options.bases < 2 ^ 64 }
-    requires room { tally.old.bytes ≤ total_limit run.now.limits }
-    ensures counted { let batch = batch_of tally.old.files tally.old.bytes run.now.options.bases in
-        (bytes : ℕ → List ℕ) × AreHeld (F.held files.old) batch.first batch.names bytes
-        × EndsGrowth run.now.limits plan.now.sources (filter_test plan.now.filter)
-        batch bytes run.now.options total.now.rows result
-        × Gives result (F.gave files.old) (F.gave files.new)
-        (pairs_from batch.first batch.names bytes) }
-    ensures files { let batch = batch_of tally.old.files tally.old.bytes run.now.options.bases in
-        Reads F.Files (batch_reading run.now.limits batch) result files.old files.new }
+    ensures batch { let o = run.now.options in
+        let batch = batch_of tally.old.files tally.old.bytes o.bases in
+        let test = filter_test plan.now.filter in
+        ReadsBatch F.Files run.now.limits batch
+        (λ bytes. EndsGrowth run.now.limits plan.now.sources test batch bytes o total.now.rows)
+        result files.old files.new }
     ensures cost { CostsAtMost (files_cost run.now.limits plan.now.sources)
         (F.gave files.old) (F.gave files.new) tally.old.steps tally.new.steps }
 {

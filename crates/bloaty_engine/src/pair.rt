@@ -1,21 +1,17 @@
 //! A file with its debug file.
 
-ghost use Rattle.std.specs.Prelude.{◌≡◌, ◌+◌, ◌^◌, ◌<◌, ◌≤◌, ◌∷◌, [], ℕ, List, None, Some, length, min, IfOk};
-ghost use Rattle.outside.specs.Held.{IsHeld, IsTaken};
+ghost use Rattle.std.specs.Prelude.{◌≡◌, ◌+◌, ◌^◌, ◌<◌, ◌≤◌, ◌∷◌, [], None, Some, length, IfOk};
+ghost use Rattle.outside.specs.Held.{IsTaken};
 ghost use Rattle.data_sources.specs.Opened.{opened};
-ghost use Rattle.size_options.specs.Answers.{IsOneInput, KeepsLimits};
+ghost use Rattle.size_options.specs.Answers.{IsOneInput};
 ghost use Rattle.file_profile.specs.Counts.{filter_test};
 ghost use Rattle.file_profile.specs.PairViews.{pair_view};
 ghost use Rattle.bloaty_engine.specs.Costs.{CostsAtMost, pair_cost, view_cost};
-ghost use Rattle.bloaty_engine.specs.Devices.{Reads};
-ghost use Rattle.bloaty_engine.specs.Given.{Gives, input_pairs};
-ghost use Rattle.bloaty_engine.specs.Named.{AreInputs};
-ghost use Rattle.run_outcome.specs.Names.{other_names};
-ghost use Rattle.bloaty_engine.specs.PairSteps.{EndsFirst, EndsPair, EndsPaired};
-ghost use Rattle.bloaty_engine.specs.Reading.{files_to_read, reading_for};
-ghost use Rattle.bloaty_engine.specs.Reports.{EndsFinding, IsPlanned};
-ghost use Rattle.bloaty_engine.specs.Steps.{EndsAs, batch_of, batch_reading};
-ghost use Rattle.bloaty_engine.specs.Verdict.{end_of_pair, file_limit, first_name, if_sound, total_limit};
+ghost use Rattle.bloaty_engine.specs.FileSteps.{ReadsBatch};
+ghost use Rattle.bloaty_engine.specs.PairSteps.{EndsFirst, EndsPair, EndsPaired, FitPair};
+ghost use Rattle.bloaty_engine.specs.Reports.{IsReady, MakesReport};
+ghost use Rattle.bloaty_engine.specs.Steps.{EndsAs, batch_of};
+ghost use Rattle.bloaty_engine.specs.Verdict.{end_of_pair, first_name, if_sound};
 
 use crate::files::{file_limit, first_name, read_file, total_limit};
 use crate::request::Run;
@@ -70,9 +66,7 @@ fn count_opened<L: Ledger>(
 ) -> Result<Rollup, Outcome>
     requires one { IsOneInput run.now.options.synth run.now.options.files }
     requires few { length plan.now.sources ≤ 8 }
-    requires fits { length file.now ≤ file_limit run.now.limits }
-    requires debug_fits { length debug.now ≤ file_limit run.now.limits }
-    requires lengths { length file.now ≤ total_limit run.now.limits }
+    requires fit { FitPair run.now.limits file.now debug.now }
     ensures ends { EndsPaired run.now.limits plan.now.sources (filter_test plan.now.filter)
         (first_name run.now.options) file.now debug.now result }
     ensures cost { let limit = run.now.limits.claims in
@@ -100,16 +94,11 @@ fn count_opened<L: Ledger>(
 // Reads the file and checks its format.
 fn read_first<F: Files>(run: &Run, files: &mut F) -> Result<Vec<u8>, Outcome>
     requires { IsOneInput run.now.options.synth run.now.options.files }
-    ensures found { (bytes : List ℕ) × IsHeld (F.held files.old) (first_name run.now.options) bytes
-        × EndsFirst run.now.limits bytes result
-        × Gives result (F.gave files.old) (F.gave files.new)
-        ((first_name run.now.options, bytes) ∷ []) }
-    ensures files { let batch = batch_of 0 0 (first_name run.now.options ∷ []) in
-        Reads F.Files (batch_reading run.now.limits batch) result files.old files.new }
+    ensures batch { let batch = batch_of 0 0 (first_name run.now.options ∷ []) in
+        ReadsBatch F.Files run.now.limits batch (λ bytes. EndsFirst run.now.limits (bytes 1))
+        result files.old files.new }
     ensures taken { IfOk result (λ v.
         IsTaken (F.held files.old) (length v.items) (F.taken files.old) (F.taken files.new)) }
-    ensures room { IfOk result (λ v.
-        length v.items ≤ min (file_limit run.now.limits) (total_limit run.now.limits)) }
 {
     let limit = file_limit(&run.limits).min(total_limit(&run.limits));
     let file = read_file(run.alloc, files, first_name(&run.options), 1, limit)?;
@@ -127,15 +116,11 @@ fn count_pair<L: Ledger, F: Files>(
 ) -> Result<Rollup, Outcome>
     requires few { length plan.now.sources ≤ 8 }
     requires one { IsOneInput run.now.options.synth run.now.options.files }
-    ensures counted { (own : List ℕ) × (other : List ℕ)
-        × IsHeld (F.held files.old) (first_name run.now.options) own
-        × IsHeld (F.held files.old) debug.now other
-        × EndsPair run.now.limits plan.now.sources (filter_test plan.now.filter)
-        (first_name run.now.options) own other result
-        × Gives result (F.gave files.old) (F.gave files.new)
-        ((first_name run.now.options, own) ∷ (debug.now, other) ∷ []) }
-    ensures files { let batch = batch_of 0 0 (first_name run.now.options ∷ debug.now ∷ []) in
-        Reads F.Files (batch_reading run.now.limits batch) result files.old files.new }
+    ensures batch { let name = first_name run.now.options in
+        let test = filter_test plan.now.filter in
+        ReadsBatch F.Files run.now.limits (batch_of 0 0 (name ∷ debug.now ∷ []))
+        (λ bytes. EndsPair run.now.limits plan.now.sources test name (bytes 1) (bytes 2))
+        result files.old files.new }
     ensures cost { CostsAtMost (pair_cost run.now.limits plan.now.sources)
         (F.gave files.old) (F.gave files.new) steps.old steps.new }
 {
@@ -153,17 +138,11 @@ pub fn pair_report<L: Ledger, F: Files>(
     files: &mut F,
     steps: &mut Steps<L>,
 ) -> Result<Vec<u8>, Outcome>
-    requires limits { KeepsLimits run.now.options }
-    requires planned { IsPlanned run.now.options plan.now }
+    requires ready { IsReady run.now.options plan.now }
     requires debug { run.now.options.debug ≡ Some debug.now }
     requires no_place { run.now.options.place ≡ None }
-    ensures found { (bytes : ℕ → List ℕ)
-        × AreInputs (F.held files.old) run.now.options (other_names run.now.options) bytes
-        × EndsFinding run.now.limits plan.now.sources bytes run.now.options result
-        × Gives result (F.gave files.old) (F.gave files.new)
-        (input_pairs run.now.options (other_names run.now.options) bytes) }
-    ensures files { let o = run.now.options in
-        Reads F.Files (reading_for run.now.limits o (files_to_read o)) result files.old files.new }
+    ensures report { MakesReport F.Files run.now.limits plan.now.sources run.now.options
+        result files.old files.new }
     ensures cost { CostsAtMost (pair_cost run.now.limits plan.now.sources)
         (F.gave files.old) (F.gave files.new) steps.old steps.new }
 {

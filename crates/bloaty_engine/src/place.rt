@@ -1,16 +1,12 @@
 //! The explanation of one location of the only file.
 
-ghost use Rattle.std.specs.Prelude.{◌≡◌, ◌+◌, ◌≤◌, ℕ, List, Some, length, min, IfOk, IsErrOf};
+ghost use Rattle.std.specs.Prelude.{◌≡◌, ◌≤◌, Some, length, min, IfOk};
 ghost use Rattle.elf_synth.specs.Made.{made};
 ghost use Rattle.report_text.specs.Places.{place_report_text};
 ghost use Rattle.size_options.specs.Answers.{IsOneInput, KeepsLimits};
-ghost use Rattle.bloaty_engine.specs.Devices.{Reads};
-ghost use Rattle.bloaty_engine.specs.Given.{Gives, input_pairs, pairs_from};
-ghost use Rattle.bloaty_engine.specs.Named.{AreFiles, AreInputs};
-ghost use Rattle.run_outcome.specs.Names.{other_names};
+ghost use Rattle.bloaty_engine.specs.FileSteps.{ReadsFiles, UsesMade};
 ghost use Rattle.bloaty_engine.specs.PlaceSteps.{EndsExplained, explained_within};
-ghost use Rattle.bloaty_engine.specs.Reading.{files_to_read, reading_for, unmade_names};
-ghost use Rattle.bloaty_engine.specs.Reports.{EndsFinding, IsPlanned, IsUnmade};
+ghost use Rattle.bloaty_engine.specs.Reports.{IsPlanned, IsReady, MakesReport};
 ghost use Rattle.bloaty_engine.specs.Steps.{Finds};
 ghost use Rattle.bloaty_engine.specs.Verdict.{end_of_place, file_limit, total_limit};
 
@@ -45,8 +41,7 @@ fn end_of_place(answer: PlaceAnswer) -> Outcome
 // The synthetic file of `n` functions, of at most `limit` bytes.
 fn made_file(alloc: Global, n: u32, limit: u64) -> Result<Vec<u8>, Outcome>
     requires { n ≤ 1_000_000 }
-    ensures found { Finds 1 limit (made n) result }
-    ensures unread { (i : ℕ) → IsErrOf result (Outcome.ReadFailed i) → ⊥ }
+    ensures { UsesMade (Finds 1 limit (made n)) result }
 {
     let file = synth(alloc, n)?;
     if file.len() as u64 > limit {
@@ -59,16 +54,9 @@ fn made_file(alloc: Global, n: u32, limit: u64) -> Result<Vec<u8>, Outcome>
 fn only_file<F: Files>(run: &Run, files: &mut F) -> Result<Vec<u8>, Outcome>
     requires limits { KeepsLimits run.now.options }
     requires one { IsOneInput run.now.options.synth run.now.options.files }
-    ensures found { (bytes : ℕ → List ℕ)
-        × AreFiles (F.held files.old) run.now.options.synth run.now.options.files bytes
-        × Finds 1 (min (file_limit run.now.limits) (total_limit run.now.limits)) (bytes 1) result
-        × Gives result (F.gave files.old) (F.gave files.new)
-        (pairs_from 1 (unmade_names run.now.options.synth run.now.options.files) bytes) }
-    ensures unmade { (k : ℕ) → IsErrOf result (Outcome.ReadFailed (k + 1))
-        → IsUnmade run.now.options.synth k }
-    ensures files { let names = unmade_names run.now.options.synth run.now.options.files in
-        let reading = reading_for run.now.limits run.now.options names in
-        Reads F.Files reading result files.old files.new }
+    ensures { let limit = min (file_limit run.now.limits) (total_limit run.now.limits) in
+        ReadsFiles F.Files run.now.limits run.now.options (λ bytes. Finds 1 limit (bytes 1))
+        result files.old files.new }
 {
     let limit = file_limit(&run.limits).min(total_limit(&run.limits));
     match run.options.synth {
@@ -130,16 +118,10 @@ pub fn place_report<F: Files>(
     place: &Place,
     files: &mut F,
 ) -> Result<Vec<u8>, Outcome>
-    requires limits { KeepsLimits run.now.options }
-    requires planned { IsPlanned run.now.options plan.now }
+    requires ready { IsReady run.now.options plan.now }
     requires place { run.now.options.place ≡ Some place.now }
-    ensures found { (bytes : ℕ → List ℕ)
-        × AreInputs (F.held files.old) run.now.options (other_names run.now.options) bytes
-        × EndsFinding run.now.limits plan.now.sources bytes run.now.options result
-        × Gives result (F.gave files.old) (F.gave files.new)
-        (input_pairs run.now.options (other_names run.now.options) bytes) }
-    ensures files { let o = run.now.options in
-        Reads F.Files (reading_for run.now.limits o (files_to_read o)) result files.old files.new }
+    ensures { MakesReport F.Files run.now.limits plan.now.sources run.now.options
+        result files.old files.new }
 {
     let file = only_file(run, files)?;
     let sources = explained(run, plan, place, &file)?;

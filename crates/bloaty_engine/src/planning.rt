@@ -1,14 +1,15 @@
 //! The plan of a run, from its options and its configuration.
 
-ghost use Rattle.std.specs.Prelude.{◌≡◌, ◌<◌, ◌+◌, ◌^◌, None, Some, Ok, All, length, map, slice_get, IfSome, IfOk, IfErr, option_map};
+ghost use Rattle.std.specs.Prelude.{◌≡◌, ◌<◌, ◌+◌, ◌^◌, None, Some, length, slice_get, IfSome, IfOk, IfErr, MatchOption, option_map};
 ghost use Rattle.std.specs.Option.{option_copied};
 ghost use Rattle.custom_rewrites.specs.Pattern.{IsPattern};
 ghost use Rattle.bloaty_engine.specs.Devices.{Plans};
 ghost use Rattle.bloaty_engine.specs.PatternLists.{filter_patterns, plan_patterns, rewrite_patterns};
+ghost use Rattle.bloaty_engine.specs.PlanSteps.{AreChoices, Compiles, IsCustomAt};
 ghost use Rattle.file_profile.specs.Choices.{IsChoice, as_chosen, chosen_in, rewrite_lists};
 ghost use Rattle.file_profile.specs.Patterns.{AreRead, rewrites_of};
 ghost use Rattle.file_profile.specs.Plans.{HasCause, HasFilterCause, HasNameCause, HasRewriteCause, IsPlan};
-ghost use Rattle.file_profile.specs.Sources.{chosen_named, chosen_sources, custom_named};
+ghost use Rattle.file_profile.specs.Sources.{chosen_named, custom_named};
 
 use config_text::CustomSource;
 use custom_rewrites::{LabelPattern, PatternAnswer, Patterns, RewriteAnswer, Rewrites};
@@ -19,11 +20,8 @@ use std::alloc::Global;
 
 // The index of the first custom data source with this name.
 fn custom_place(custom: &[CustomSource], name: &[u8]) -> Option<usize>
-    ensures none { result ≡ None → custom_named custom.now name.now ≡ None }
-    ensures some { IfSome result
-        (λ place. IfSome (slice_get custom.now place)
-        (λ c. custom_named custom.now name.now ≡ Some (as_chosen c))) }
-    ensures within { IfSome result (λ place. place < length custom.now) }
+    ensures { MatchOption result (custom_named custom.now name.now ≡ None)
+        (IsCustomAt custom.now name.now) }
 {
     for i in 0..custom.len() {
         if custom[i].name.as_slice() == name {
@@ -58,9 +56,7 @@ fn choices_of(
     names: &Names,
     custom: &[CustomSource],
 ) -> Result<Vec<Choice>, PlanAnswer>
-    ensures chosen { IfOk result (λ choices. chosen_sources custom.now names.now
-        ≡ Ok (map (chosen_in (rewrite_lists custom.now)) choices.items)) }
-    ensures places { IfOk result (λ choices. All (IsChoice (length custom.now)) choices.items) }
+    ensures choices { IfOk result (λ choices. AreChoices custom.now names.now choices.items) }
     ensures cause { IfErr result (HasNameCause custom.now names.now) }
 {
     let mut choices = Vec::new(alloc);
@@ -79,12 +75,9 @@ fn filter_of<P: Patterns>(
     filter: Option<&Text>,
     patterns: &mut P,
 ) -> Result<Option<LabelPattern>, PlanAnswer>
-    ensures same { IfOk result (λ made. made ≡ option_copied filter.entry) }
-    ensures read { IfOk result (λ _. IfSome (option_copied filter.entry) IsPattern) }
-    ensures cause { IfErr result (HasFilterCause (option_copied filter.entry)
-        (P.refused patterns.old) (P.refused patterns.new) (P.last_refused patterns.new)) }
-    ensures patterns { let list = filter_patterns (option_copied filter.entry) in
-        Plans P.Patterns list result patterns.old patterns.new }
+    ensures { let text = option_copied filter.entry in
+        Compiles P.Patterns (filter_patterns text) result (λ made. made ≡ text)
+        (IfSome text IsPattern) (HasFilterCause text) patterns.old patterns.new }
 {
     let Some(text) = filter else {
         return Ok(None);
@@ -105,12 +98,9 @@ fn rewrites_from<P: Patterns>(
     patterns: &mut P,
 ) -> Result<Rewrites, PlanAnswer>
     requires { first + length source.now.rewrites < 2 ^ 64 }
-    ensures same { IfOk result (λ made. made ≡ source.now.rewrites) }
-    ensures read { IfOk result (λ _. AreRead source.now.rewrites) }
-    ensures cause { IfErr result (HasRewriteCause first source.now.rewrites
-        (P.refused patterns.old) (P.refused patterns.new) (P.last_refused patterns.new)) }
-    ensures patterns { let list = rewrite_patterns first source.now.rewrites in
-        Plans P.Patterns list result patterns.old patterns.new }
+    ensures { let rewrites = source.now.rewrites in
+        Compiles P.Patterns (rewrite_patterns first rewrites) result (λ made. made ≡ rewrites)
+        (AreRead rewrites) (HasRewriteCause first rewrites) patterns.old patterns.new }
 {
     match Rewrites::build(alloc, source, patterns) {
         Ok(made) => Ok(made),
@@ -126,12 +116,10 @@ fn rewrites_of<P: Patterns>(
     custom: &[CustomSource],
     patterns: &mut P,
 ) -> Result<Vec<Rewrites>, PlanAnswer>
-    ensures same { IfOk result (λ made. made.items ≡ rewrite_lists custom.now) }
-    ensures read { IfOk result (λ _. AreRead (rewrites_of custom.now)) }
-    ensures cause { IfErr result (HasRewriteCause 1 (rewrites_of custom.now)
-        (P.refused patterns.old) (P.refused patterns.new) (P.last_refused patterns.new)) }
-    ensures patterns { let list = rewrite_patterns 1 (rewrites_of custom.now) in
-        Plans P.Patterns list result patterns.old patterns.new }
+    ensures { let rewrites = rewrites_of custom.now in
+        Compiles P.Patterns (rewrite_patterns 1 rewrites) result
+        (λ made. made.items ≡ rewrite_lists custom.now)
+        (AreRead rewrites) (HasRewriteCause 1 rewrites) patterns.old patterns.new }
 {
     let mut all = Vec::new(alloc);
     let mut first = 1usize;

@@ -1,19 +1,15 @@
 //! The report of a run, up to its text.
 
-ghost use Rattle.std.specs.Prelude.{◌≡◌, ◌+◌, ◌-◌, ◌^◌, ◌<◌, ◌≤◌, ◌++◌, ℕ, List, None, Ok, length, IfOk, IfSome, OnOk, IsErrOf};
-ghost use Rattle.outside.specs.Held.{IsTaken};
+ghost use Rattle.std.specs.Prelude.{◌≡◌, ◌+◌, None, length, IfSome};
 ghost use Rattle.size_options.specs.Answers.{HasInput, KeepsLimits};
-ghost use Rattle.bloaty_engine.specs.Answers.{EndsReport};
 ghost use Rattle.bloaty_engine.specs.Costs.{CostsAtMost, counting_cost, found_cost, run_cost};
-ghost use Rattle.bloaty_engine.specs.Devices.{BuildsAsked, Reads};
 ghost use Rattle.file_profile.specs.Counts.{filter_test};
-ghost use Rattle.bloaty_engine.specs.Given.{Gives, input_pairs, pairs_from, run_pairs, seen_files};
-ghost use Rattle.bloaty_engine.specs.Named.{AreContents, AreFiles, AreInputs, Contents};
-ghost use Rattle.run_outcome.specs.Names.{file_names, other_names};
-ghost use Rattle.bloaty_engine.specs.Reading.{files_to_read, made_len, reading_for, run_reading, unmade_names};
-ghost use Rattle.bloaty_engine.specs.Reports.{EndsCounting, EndsFinding, IsPlanned, IsUnmade};
+ghost use Rattle.bloaty_engine.specs.FileSteps.{CanCount, ReadsFiles, Tallies};
+ghost use Rattle.run_outcome.specs.Names.{file_names};
+ghost use Rattle.bloaty_engine.specs.Reading.{made_len};
+ghost use Rattle.bloaty_engine.specs.Reports.{EndsCounting, IsReady, MakesReport, ReadsInputs};
+ghost use Rattle.bloaty_engine.specs.RunSteps.{MakesText};
 ghost use Rattle.bloaty_engine.specs.Steps.{EndsFiles, batch_of};
-ghost use Rattle.bloaty_engine.specs.Verdict.{total_limit};
 
 use crate::files::{Tally, count_files, count_made, file_count};
 use crate::growth::growth_report;
@@ -43,29 +39,19 @@ fn total_of<L: Ledger, F: Files>(
     files: &mut F,
     tally: &mut Tally<L>,
 ) -> Result<Rollup, Outcome>
-    requires few { length plan.now.sources ≤ 8 }
+    requires batch { let batch = batch_of 0 0 (file_names run.now.options) in
+        CanCount run.now.limits plan.now.sources batch }
     requires input { HasInput run.now.options.synth run.now.options.files }
-    requires numbers { length (file_names run.now.options) < 2 ^ 64 }
     requires none { (tally.old.files ≡ 0) × (tally.old.bytes ≡ 0) }
-    ensures counted { let batch = batch_of 0 0 (file_names run.now.options) in
-        (bytes : ℕ → List ℕ)
-        × AreFiles (F.held files.old) run.now.options.synth run.now.options.files bytes
-        × EndsFiles run.now.limits plan.now.sources (filter_test plan.now.filter)
-        batch bytes result
-        × Gives result (F.gave files.old) (F.gave files.new)
-        (pairs_from 1 (unmade_names run.now.options.synth run.now.options.files) bytes) }
-    ensures unmade { (k : ℕ) → IsErrOf result (Outcome.ReadFailed (k + 1))
-        → IsUnmade run.now.options.synth k }
-    ensures files { let names = unmade_names run.now.options.synth run.now.options.files in
-        let reading = reading_for run.now.limits run.now.options names in
-        Reads F.Files reading result files.old files.new }
-    ensures tally { IfOk result (λ t. (tally.new.files ≡ length (file_names run.now.options))
-        × (tally.new.bytes ≡ t.lengths)
-        × (made_len run.now.options.synth ≤ tally.new.bytes)) }
-    ensures room { tally.new.bytes ≤ total_limit run.now.limits }
-    ensures taken { let unread = made_len run.now.options.synth in
-        OnOk result (IsTaken (F.held files.old) (tally.new.bytes - unread)
-        (F.taken files.old) (F.taken files.new)) }
+    ensures files { let o = run.now.options in
+        let test = filter_test plan.now.filter in
+        ReadsFiles F.Files run.now.limits o
+        (EndsFiles run.now.limits plan.now.sources test (batch_of 0 0 (file_names o)))
+        result files.old files.new }
+    ensures tally { let batch = batch_of 0 0 (file_names run.now.options) in
+        let made = made_len run.now.options.synth in
+        Tallies F.Files run.now.limits batch made result tally.new.files tally.new.bytes
+        files.old files.new }
     ensures cost { CostsAtMost (counting_cost run.now.limits plan.now.sources run.now.options)
         (F.gave files.old) (F.gave files.new) tally.old.steps tally.new.steps }
 {
@@ -83,18 +69,11 @@ fn report_of_files<L: Ledger, F: Files>(
     tally: &mut Tally<L>,
 ) -> Result<Vec<u8>, Outcome>
     requires none { (tally.old.files ≡ 0) × (tally.old.bytes ≡ 0) }
-    requires few { length plan.now.sources ≤ 8 }
-    requires planned { IsPlanned run.now.options plan.now }
-    requires input { HasInput run.now.options.synth run.now.options.files }
+    requires ready { IsReady run.now.options plan.now }
     requires no_debug { run.now.options.debug ≡ None }
-    ensures counted { (bytes : ℕ → List ℕ)
-        × AreInputs (F.held files.old) run.now.options run.now.options.bases bytes
-        × EndsCounting run.now.limits plan.now.sources bytes run.now.options result
-        × Gives result (F.gave files.old) (F.gave files.new)
-        (input_pairs run.now.options run.now.options.bases bytes) }
-    ensures files { let o = run.now.options in
-        let names = unmade_names o.synth o.files ++ o.bases in
-        Reads F.Files (reading_for run.now.limits o names) result files.old files.new }
+    ensures inputs { let o = run.now.options in
+        ReadsInputs F.Files run.now.limits o o.bases
+        (λ bytes. EndsCounting run.now.limits plan.now.sources bytes o) result files.old files.new }
     ensures cost { CostsAtMost (counting_cost run.now.limits plan.now.sources run.now.options)
         (F.gave files.old) (F.gave files.new) tally.old.steps tally.new.steps }
 {
@@ -116,16 +95,10 @@ fn report_over_files<L: Ledger, F: Files>(
     tally: &mut Tally<L>,
 ) -> Result<Vec<u8>, Outcome>
     requires none { (tally.old.files ≡ 0) × (tally.old.bytes ≡ 0) }
-    requires limits { KeepsLimits run.now.options }
-    requires planned { IsPlanned run.now.options plan.now }
+    requires ready { IsReady run.now.options plan.now }
     requires no_place { run.now.options.place ≡ None }
-    ensures found { (bytes : ℕ → List ℕ)
-        × AreInputs (F.held files.old) run.now.options (other_names run.now.options) bytes
-        × EndsFinding run.now.limits plan.now.sources bytes run.now.options result
-        × Gives result (F.gave files.old) (F.gave files.new)
-        (input_pairs run.now.options (other_names run.now.options) bytes) }
-    ensures files { let o = run.now.options in
-        Reads F.Files (reading_for run.now.limits o (files_to_read o)) result files.old files.new }
+    ensures report { MakesReport F.Files run.now.limits plan.now.sources run.now.options
+        result files.old files.new }
     ensures cost { CostsAtMost (found_cost run.now.limits plan.now.sources run.now.options)
         (F.gave files.old) (F.gave files.new) tally.old.steps tally.new.steps }
 {
@@ -143,15 +116,9 @@ fn report_of_kind<L: Ledger, F: Files>(
     tally: &mut Tally<L>,
 ) -> Result<Vec<u8>, Outcome>
     requires none { (tally.old.files ≡ 0) × (tally.old.bytes ≡ 0) }
-    requires limits { KeepsLimits run.now.options }
-    requires planned { IsPlanned run.now.options plan.now }
-    ensures found { (bytes : ℕ → List ℕ)
-        × AreInputs (F.held files.old) run.now.options (other_names run.now.options) bytes
-        × EndsFinding run.now.limits plan.now.sources bytes run.now.options result
-        × Gives result (F.gave files.old) (F.gave files.new)
-        (input_pairs run.now.options (other_names run.now.options) bytes) }
-    ensures files { let o = run.now.options in
-        Reads F.Files (reading_for run.now.limits o (files_to_read o)) result files.old files.new }
+    requires ready { IsReady run.now.options plan.now }
+    ensures report { MakesReport F.Files run.now.limits plan.now.sources run.now.options
+        result files.old files.new }
     ensures cost { CostsAtMost (found_cost run.now.limits plan.now.sources run.now.options)
         (F.gave files.old) (F.gave files.new) tally.old.steps tally.new.steps }
 {
@@ -161,8 +128,8 @@ fn report_of_kind<L: Ledger, F: Files>(
     }
 }
 
-/// The text of the report that the options ask for. `tally` counts no file yet. Its count of steps is of the pieces that are
-/// read of the maps of the files.
+/// The text of the report that the options ask for. `tally` counts no file yet. It counts a step for each piece that is read
+/// of a map.
 pub fn report<L: Ledger, F: Files, P: Patterns>(
     run: &Run,
     files: &mut F,
@@ -171,15 +138,8 @@ pub fn report<L: Ledger, F: Files, P: Patterns>(
 ) -> Result<Vec<u8>, Outcome>
     requires none { (tally.old.files ≡ 0) × (tally.old.bytes ≡ 0) }
     requires limits { KeepsLimits run.now.options }
-    ensures run { (contents : Contents) × AreContents (F.held files.old) run.now.options contents
-        × EndsReport run.now.limits run.now.options (P.last_refused patterns.new) contents result
-        × Gives result (F.gave files.old) (F.gave files.new)
-        (run_pairs (Ok run.now.options) contents) }
-    ensures files { let reading = run_reading run.now.limits (Ok run.now.options) in
-        Reads F.Files reading result files.old files.new }
-    ensures patterns { let given = Ok run.now.options in
-        BuildsAsked P.Patterns (seen_files F.Files files.old files.new) run.now.limits given
-        result patterns.old patterns.new }
+    ensures text { MakesText F.Files P.Patterns run.now.limits run.now.options result
+        files.old files.new patterns.old patterns.new }
     ensures cost { CostsAtMost (run_cost run.now.limits run.now.options)
         (F.gave files.old) (F.gave files.new) tally.old.steps tally.new.steps }
 {

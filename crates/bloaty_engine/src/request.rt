@@ -1,13 +1,12 @@
 //! The input of a run: its options and limits, its configuration, and its plan.
 
-ghost use Rattle.std.specs.Prelude.{◌≡◌, ℕ, List, IfOk, IfErr};
-ghost use Rattle.bloaty_engine.specs.Devices.{Builds, Reads};
+ghost use Rattle.std.specs.Prelude.{◌≡◌, ℕ, List};
+ghost use Rattle.bloaty_engine.specs.Devices.{Reads};
 ghost use Rattle.bloaty_engine.specs.Given.{Gives, config_pairs};
 ghost use Rattle.bloaty_engine.specs.Named.{IsText};
-ghost use Rattle.bloaty_engine.specs.PatternLists.{plan_patterns};
-ghost use Rattle.file_profile.specs.Plans.{IsPlan};
+ghost use Rattle.bloaty_engine.specs.PlanSteps.{MakesPlan};
 ghost use Rattle.bloaty_engine.specs.Reading.{config_reading};
-ghost use Rattle.bloaty_engine.specs.Steps.{EndsConfig, EndsPlan};
+ghost use Rattle.bloaty_engine.specs.Steps.{EndsConfig};
 ghost use Rattle.bloaty_engine.specs.Verdict.{config_limit};
 
 use crate::files::read_file;
@@ -68,12 +67,7 @@ pub fn plan_of<P: Patterns>(
     customs: &[CustomSource],
     patterns: &mut P,
 ) -> Result<Plan, Outcome>
-    ensures plan { IfOk result (IsPlan run.now.options.sources run.now.options.filter customs.now) }
-    ensures ends { let last = P.last_refused patterns.new in
-        IfErr result (EndsPlan run.now.options.sources run.now.options.filter customs.now last) }
-    ensures patterns { let o = run.now.options in
-        Builds P.Patterns (plan_patterns o.sources o.filter customs.now) result
-        patterns.old patterns.new }
+    ensures { MakesPlan P.Patterns run.now.options customs.now result patterns.old patterns.new }
 {
     match plan(run.alloc, &run.options, customs, patterns) {
         Ok(plan) => Ok(plan),

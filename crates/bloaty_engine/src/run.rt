@@ -1,15 +1,14 @@
 //! The whole run.
 
-ghost use Rattle.std.specs.Prelude.{◌≡◌, ◌<◌, ◌⊎◌, ◌++◌, Ok, codes, false};
-ghost use Rattle.outside.specs.Grown.{Grew, GrewByPart};
+ghost use Rattle.std.specs.Prelude.{◌≡◌, ◌++◌, codes, false};
 ghost use Rattle.size_options.specs.Answers.{KeepsLimits, are_taken};
 ghost use Rattle.size_options.specs.Asked.{asked as options_of};
-ghost use Rattle.size_options.specs.declared.errors.UsageKind.{UsageKind as UsageKindSpec};
 ghost use Rattle.size_options.specs.Words.{seen_words};
 ghost use Rattle.bloaty_engine.specs.Answers.{IsRun};
 ghost use Rattle.bloaty_engine.specs.Devices.{BuildsAsked, CountsWrites, PrintsLine, Reads, ended};
 ghost use Rattle.bloaty_engine.specs.Given.{seen_files};
 ghost use Rattle.bloaty_engine.specs.Reading.{run_reading};
+ghost use Rattle.bloaty_engine.specs.RunSteps.{EndsRun, IsBlankOf, WritesReport};
 ghost use Rattle.run_outcome.specs.Line.{line_of, usage_text};
 
 use crate::files::Tally;
@@ -26,12 +25,7 @@ use std::sync::ledger::{Blank, Ledger};
 
 // Writes the report.
 fn write<O: Sink>(out: &mut O, report: &[u8]) -> Outcome
-    ensures done { (result ≡ Outcome.Done)
-        → Grew (O.written out.old) (O.written out.new) report.now }
-    ensures part { (result ≡ Outcome.WriteFailed)
-        → GrewByPart (O.written out.old) (O.written out.new) report.now }
-    ensures out { CountsWrites O.Sink result out.old out.new }
-    ensures other { (result ≡ Outcome.Done) ⊎ (result ≡ Outcome.WriteFailed) }
+    ensures { WritesReport O.Sink report.now result out.old out.new }
 {
     match write_whole(out, report) {
         Ok(()) => Outcome::Done,
@@ -47,20 +41,10 @@ fn answer<L: Ledger, F: Files, P: Patterns, O: Sink>(
     out: &mut O,
     blank: Blank,
 ) -> Outcome
-    requires name { blank.name ≡ L.name }
-    requires parts { blank.parts ≡ L.parts }
-    requires some { 0 < blank.parts }
+    requires blank { IsBlankOf L.name L.parts blank.name blank.parts }
     requires limits { KeepsLimits run.now.options }
-    ensures run { let given = Ok run.now.options in
-        IsRun (seen_files F.Files files.old files.new) run.now.limits given
-        (P.last_refused patterns.new) (O.written out.old) (O.written out.new) result }
-    ensures files { let reading = run_reading run.now.limits (Ok run.now.options) in
-        Reads F.Files reading (ended result) files.old files.new }
-    ensures patterns { let given = Ok run.now.options in
-        BuildsAsked P.Patterns (seen_files F.Files files.old files.new) run.now.limits given
-        (ended result) patterns.old patterns.new }
-    ensures out { CountsWrites O.Sink result out.old out.new }
-    ensures parsed { (kind : UsageKindSpec) → (result ≡ Outcome.Usage kind) → ⊥ }
+    ensures { EndsRun F.Files P.Patterns O.Sink run.now.limits run.now.options result
+        files.old files.new patterns.old patterns.new out.old out.new }
 {
     let mut tally = Tally::<L>::begin(blank);
     match report(run, files, patterns, &mut tally) {

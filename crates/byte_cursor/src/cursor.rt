@@ -133,7 +133,8 @@ impl<'a> Cursor<'a> {
 
     /// Reads one byte. Truncated if none is left.
     pub fn u8(&mut self) -> Result<u8, BadFile>
-        ensures value { result ≡ whole (num self.old.bytes self.old.at w8 Little) (place_of self.old) }
+        ensures value { result
+            ≡ whole (num self.old.bytes self.old.at w8 Little) (place_of self.old) }
         ensures after { self.new ≡ moved self.old (is_ok result) 1 }
     {
         if self.left() < 1 {
@@ -146,7 +147,8 @@ impl<'a> Cursor<'a> {
 
     /// Reads a number of two bytes. Truncated if fewer are left.
     pub fn u16(&mut self, order: Order) -> Result<u16, BadFile>
-        ensures value { result ≡ whole (num self.old.bytes self.old.at w16 order) (place_of self.old) }
+        ensures value { result
+            ≡ whole (num self.old.bytes self.old.at w16 order) (place_of self.old) }
         ensures after { self.new ≡ moved self.old (is_ok result) 2 }
     {
         if self.left() < 2 {
@@ -159,7 +161,8 @@ impl<'a> Cursor<'a> {
 
     /// Reads a number of four bytes. Truncated if fewer are left.
     pub fn u32(&mut self, order: Order) -> Result<u32, BadFile>
-        ensures value { result ≡ whole (num self.old.bytes self.old.at w32 order) (place_of self.old) }
+        ensures value { result
+            ≡ whole (num self.old.bytes self.old.at w32 order) (place_of self.old) }
         ensures after { self.new ≡ moved self.old (is_ok result) 4 }
     {
         if self.left() < 4 {
@@ -172,7 +175,8 @@ impl<'a> Cursor<'a> {
 
     /// Reads a number of eight bytes. Truncated if fewer are left.
     pub fn u64(&mut self, order: Order) -> Result<u64, BadFile>
-        ensures value { result ≡ whole (num self.old.bytes self.old.at w64 order) (place_of self.old) }
+        ensures value { result
+            ≡ whole (num self.old.bytes self.old.at w64 order) (place_of self.old) }
         ensures after { self.new ≡ moved self.old (is_ok result) 8 }
     {
         if self.left() < 8 {
@@ -186,8 +190,10 @@ impl<'a> Cursor<'a> {
     /// Reads an unsigned LEB128 number of any length (DWARF 5, section 7.6). Truncated if no byte with a
     /// clear top bit is left, and BadLeb if there is one and the number is above 2^64 - 1.
     pub fn uleb(&mut self) -> Result<u64, BadFile>
-        ensures value { result ≡ unsigned_value (uleb self.old.bytes self.old.at) (place_of self.old) }
-        ensures after { self.new ≡ moved self.old (is_ok result) (leb_len (uleb self.old.bytes self.old.at)) }
+        ensures value { result
+            ≡ unsigned_value (uleb self.old.bytes self.old.at) (place_of self.old) }
+        ensures after { self.new
+            ≡ moved self.old (is_ok result) (leb_len (uleb self.old.bytes self.old.at)) }
     {
         let rest = self.rest();
         let Some(last) = last_digit(rest) else {
@@ -204,8 +210,10 @@ impl<'a> Cursor<'a> {
     /// clear top bit is left, and BadLeb if there is one and the number is below -2^63 or above 2^63 -
     /// 1.
     pub fn sleb(&mut self) -> Result<i64, BadFile>
-        ensures value { result ≡ signed_value (sleb self.old.bytes self.old.at) (place_of self.old) }
-        ensures after { self.new ≡ moved self.old (is_ok result) (leb_len (sleb self.old.bytes self.old.at)) }
+        ensures value { result
+            ≡ signed_value (sleb self.old.bytes self.old.at) (place_of self.old) }
+        ensures after { self.new
+            ≡ moved self.old (is_ok result) (leb_len (sleb self.old.bytes self.old.at)) }
     {
         let rest = self.rest();
         let Some(last) = last_digit(rest) else {
@@ -222,8 +230,10 @@ impl<'a> Cursor<'a> {
     /// zero byte.
     #[tactic(auto, unfolding(crate::specs::Numbers::text))]
     pub fn cstr(&mut self) -> Result<&'a [u8], BadFile>
-        ensures value { Gives (λ t. t.now) result (whole (text self.old.bytes self.old.at) (place_of self.old)) }
-        ensures after { IfOk result (λ t. self.new ≡ record self.old { at = self.old.at + length t.now + 1 }) }
+        ensures value { Gives (λ t. t.now) result
+            (whole (text self.old.bytes self.old.at) (place_of self.old)) }
+        ensures after { IfOk result (λ t. self.new
+            ≡ record self.old { at = self.old.at + length t.now + 1 }) }
         ensures same { OnErr result (self.new ≡ self.old) }
     {
         let Some(text) = text_at(self.bytes, self.at as usize) else {

@@ -67,7 +67,8 @@ fn signed_digit(byte: u8) -> i64
 /// `None` if it doesn't fit 64 bits.
 fn with_signed_digit(high: Option<i64>, byte: u8) -> Option<i64>
     ensures { (z : ℤ) → SomeIff high (FitsSigned w64 z) z
-        → SomeIff result (FitsSigned w64 (pos (byte % 128) +ℤ pos 128 *ℤ z)) (pos (byte % 128) +ℤ pos 128 *ℤ z) }
+        → SomeIff result (FitsSigned w64 (pos (byte % 128) +ℤ pos 128 *ℤ z))
+        (pos (byte % 128) +ℤ pos 128 *ℤ z) }
 {
     let scaled = high?.checked_mul(128)?;
     scaled.checked_add((byte % 128) as i64)

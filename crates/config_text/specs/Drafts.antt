@@ -29,14 +29,14 @@ goes_on ts d begins = (if begins then sources_from ts (Opening InSource) d else 
 
 -- The next token is the one that was found.
 abbrev pub Shows : Next → Place → Place → Type 0
-Shows (next.Word at name) old new = ahead old ≡ (at, Word name.now) ∷ ahead new
+Shows (next.Word word) old new = ahead old ≡ (word.at, Word word.name.now) ∷ ahead new
 Shows (next.Mark at byte) old new = ahead old ≡ (at, Mark byte) ∷ ahead new
 Shows (next.End at) old new = ahead old ≡ (at, End) ∷ []
 Shows (next.Other at) old new = IsAhead is_other at (ahead old)
 
 -- The rest gets no longer, and it gets shorter if a name or a mark is read.
 abbrev pub LeavesLess : Next → Place → Place → Type 0
-LeavesLess (next.Word at name) old new = length new.rest < length old.rest
+LeavesLess (next.Word word) old new = length new.rest < length old.rest
 LeavesLess (next.Mark at byte) old new = length new.rest < length old.rest
 LeavesLess (next.End at) old new = length new.rest ≤ length old.rest
 LeavesLess (next.Other at) old new = length new.rest ≤ length old.rest

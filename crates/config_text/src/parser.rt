@@ -11,7 +11,7 @@ ghost use Rattle.config_text.specs.Outcomes.{Gives, Carries};
 
 use crate::config::{ConfigAnswer, ConfigKind, CustomSource, Rewrite};
 use crate::draft::{RewriteParts, SourceParts, close_rewrite, close_source, no_rewrite, no_source};
-use crate::reader::{Next, Reader};
+use crate::reader::{NameAt, Next, Reader};
 use crate::values::{base_of, name_of, replacement_of, text_of};
 use std::alloc::Global;
 
@@ -30,68 +30,67 @@ fn fault_at(kind: ConfigKind, at: usize) -> ConfigAnswer
 
 /// Reads the pattern of a rewrite, after its name at offset `at`.
 fn read_pattern(
-    alloc: Global,
     reader: &mut Reader<'_>,
     at: usize,
     parts: &mut RewriteParts,
 ) -> Result<(), ConfigAnswer>
     ensures carries { (d : Draft) → Carries result
-        (sources_after (ahead reader.old) (once parts.old.pattern Pattern (in_rewrite d parts.old) at))
+        (sources_after (ahead reader.old)
+        (once parts.old.pattern Pattern (in_rewrite d parts.old) at))
         (λ _. sources_from (ahead reader.new) (Separated InRewrite) (in_rewrite d parts.new)) }
     ensures left { OnOk result (length reader.new.rest ≤ length reader.old.rest) }
 {
     if parts.pattern.is_some() {
         return Err(fault_at(ConfigKind::RepeatedField, at));
     }
-    let value = reader.value(alloc)?;
-    parts.pattern = Some(text_of(alloc, &value)?);
+    let value = reader.value()?;
+    parts.pattern = Some(text_of(reader.alloc(), &value)?);
     Ok(())
 }
 
 /// Reads the replacement of a rewrite, after its name at offset `at`.
 fn read_replacement(
-    alloc: Global,
     reader: &mut Reader<'_>,
     at: usize,
     parts: &mut RewriteParts,
 ) -> Result<(), ConfigAnswer>
     ensures carries { (d : Draft) → Carries result
-        (sources_after (ahead reader.old) (once parts.old.replacement Replacement (in_rewrite d parts.old) at))
+        (sources_after (ahead reader.old)
+        (once parts.old.replacement Replacement (in_rewrite d parts.old) at))
         (λ _. sources_from (ahead reader.new) (Separated InRewrite) (in_rewrite d parts.new)) }
     ensures left { OnOk result (length reader.new.rest ≤ length reader.old.rest) }
 {
     if parts.replacement.is_some() {
         return Err(fault_at(ConfigKind::RepeatedField, at));
     }
-    let value = reader.value(alloc)?;
-    parts.replacement = Some(replacement_of(alloc, &value)?);
+    let value = reader.value()?;
+    parts.replacement = Some(replacement_of(reader.alloc(), &value)?);
     Ok(())
 }
 
-/// Reads a field of a rewrite. `name` is its name, at offset `at`.
+/// Reads a field of a rewrite, after its name.
 fn read_part(
-    alloc: Global,
     reader: &mut Reader<'_>,
-    at: usize,
-    name: &[u8],
+    field: NameAt<'_>,
     parts: &mut RewriteParts,
 ) -> Result<(), ConfigAnswer>
     ensures carries { (d : Draft) → Carries result
-        (sources_after (ahead reader.old) (part_begun (in_rewrite d parts.old) at name.now))
+        (sources_after (ahead reader.old)
+        (part_begun (in_rewrite d parts.old) field.entry.at field.entry.name.now))
         (λ _. sources_from (ahead reader.new) (Separated InRewrite) (in_rewrite d parts.new)) }
     ensures left { OnOk result (length reader.new.rest ≤ length reader.old.rest) }
 {
-    if name == b"pattern".as_slice() {
-        return read_pattern(alloc, reader, at, parts);
+    if field.name == b"pattern".as_slice() {
+        return read_pattern(reader, field.at, parts);
     }
-    if name == b"replacement".as_slice() {
-        return read_replacement(alloc, reader, at, parts);
+    if field.name == b"replacement".as_slice() {
+        return read_replacement(reader, field.at, parts);
     }
-    Err(fault_at(ConfigKind::UnknownField, at))
+    Err(fault_at(ConfigKind::UnknownField, field.at))
 }
 
 /// Reads the block of a rewrite.
-fn read_rewrite(alloc: Global, reader: &mut Reader<'_>) -> Result<Rewrite, ConfigAnswer>
+fn read_rewrite(reader: &mut Reader<'_>) -> Result<Rewrite, ConfigAnswer>
     ensures carries { (d : Draft) → Carries result
         (sources_from (ahead reader.old) (Opening InRewrite) (in_rewrite d no_rewrite))
         (λ made. sources_from (ahead reader.new) (Separated InSource) (rewrite_closed d made)) }
@@ -101,7 +100,7 @@ fn read_rewrite(alloc: Global, reader: &mut Reader<'_>) -> Result<Rewrite, Confi
     let mut parts = no_rewrite();
     'parts: loop {
         match reader.next() {
-            Next::Word(at, name) => read_part(alloc, reader, at, name, &mut parts)?,
+            Next::Word(field) => read_part(reader, field, &mut parts)?,
             Next::Mark(at, b'}') => return close_rewrite(parts, at),
             Next::Mark(at, _) | Next::End(at) | Next::Other(at) => {
                 return Err(fault_at(ConfigKind::Syntax, at));
@@ -113,113 +112,115 @@ fn read_rewrite(alloc: Global, reader: &mut Reader<'_>) -> Result<Rewrite, Confi
 
 /// Reads a rewrite of a source, after its name at offset `at`.
 fn add_rewrite(
-    alloc: Global,
     reader: &mut Reader<'_>,
     at: usize,
     begun: &mut usize,
     parts: &mut SourceParts,
 ) -> Result<(), ConfigAnswer>
     ensures carries { (sources : List Source) → Carries result
-        (sources_after (ahead reader.old) (rewrite_begun (in_source sources begun.old parts.old) at))
-        (λ _. sources_from (ahead reader.new) (Separated InSource) (in_source sources begun.new parts.new)) }
+        (sources_after (ahead reader.old)
+        (rewrite_begun (in_source sources begun.old parts.old) at))
+        (λ _. sources_from (ahead reader.new) (Separated InSource)
+        (in_source sources begun.new parts.new)) }
     ensures left { OnOk result (length reader.new.rest ≤ length reader.old.rest) }
 {
     if *begun >= MOST_REWRITES {
         return Err(fault_at(ConfigKind::TooMany, at));
     }
     *begun += 1;
-    let made = read_rewrite(alloc, reader)?;
+    let made = read_rewrite(reader)?;
     parts.rewrites.push(made)?;
     Ok(())
 }
 
 /// Reads the name of a source, after the field's name at offset `at`.
 fn read_name(
-    alloc: Global,
     reader: &mut Reader<'_>,
     at: usize,
     sources: &[CustomSource],
     parts: &mut SourceParts,
 ) -> Result<(), ConfigAnswer>
     ensures carries { (begun : ℕ) → Carries result
-        (sources_after (ahead reader.old) (once parts.old.name Name (in_source sources.now begun parts.old) at))
-        (λ _. sources_from (ahead reader.new) (Separated InSource) (in_source sources.now begun parts.new)) }
+        (sources_after (ahead reader.old)
+        (once parts.old.name Name (in_source sources.now begun parts.old) at))
+        (λ _. sources_from (ahead reader.new) (Separated InSource)
+        (in_source sources.now begun parts.new)) }
     ensures left { OnOk result (length reader.new.rest ≤ length reader.old.rest) }
 {
     if parts.name.is_some() {
         return Err(fault_at(ConfigKind::RepeatedField, at));
     }
-    let value = reader.value(alloc)?;
-    parts.name = Some(name_of(alloc, sources, &value)?);
+    let value = reader.value()?;
+    parts.name = Some(name_of(reader.alloc(), sources, &value)?);
     Ok(())
 }
 
 /// Reads the base of a source, after the field's name at offset `at`.
 fn read_base(
-    alloc: Global,
     reader: &mut Reader<'_>,
     at: usize,
     parts: &mut SourceParts,
 ) -> Result<(), ConfigAnswer>
     ensures carries { (sources : List Source) (begun : ℕ) → Carries result
-        (sources_after (ahead reader.old) (once parts.old.base Base (in_source sources begun parts.old) at))
-        (λ _. sources_from (ahead reader.new) (Separated InSource) (in_source sources begun parts.new)) }
+        (sources_after (ahead reader.old)
+        (once parts.old.base Base (in_source sources begun parts.old) at))
+        (λ _. sources_from (ahead reader.new) (Separated InSource)
+        (in_source sources begun parts.new)) }
     ensures left { OnOk result (length reader.new.rest ≤ length reader.old.rest) }
 {
     if parts.base.is_some() {
         return Err(fault_at(ConfigKind::RepeatedField, at));
     }
-    let value = reader.value(alloc)?;
+    let value = reader.value()?;
     parts.base = Some(base_of(&value)?);
     Ok(())
 }
 
-/// Reads a field of a source. `name` is its name, at offset `at`.
+/// Reads a field of a source, after its name.
 fn read_field(
-    alloc: Global,
     reader: &mut Reader<'_>,
-    at: usize,
-    name: &[u8],
+    field: NameAt<'_>,
     sources: &[CustomSource],
     begun: &mut usize,
     parts: &mut SourceParts,
 ) -> Result<(), ConfigAnswer>
     ensures carries { Carries result
-        (sources_after (ahead reader.old) (field_begun (in_source sources.now begun.old parts.old) at name.now))
-        (λ _. sources_from (ahead reader.new) (Separated InSource) (in_source sources.now begun.new parts.new)) }
+        (sources_after (ahead reader.old)
+        (field_begun (in_source sources.now begun.old parts.old)
+        field.entry.at field.entry.name.now))
+        (λ _. sources_from (ahead reader.new) (Separated InSource)
+        (in_source sources.now begun.new parts.new)) }
     ensures left { OnOk result (length reader.new.rest ≤ length reader.old.rest) }
 {
-    if name == b"name".as_slice() {
-        return read_name(alloc, reader, at, sources, parts);
+    if field.name == b"name".as_slice() {
+        return read_name(reader, field.at, sources, parts);
     }
-    if name == b"base_data_source".as_slice() {
-        return read_base(alloc, reader, at, parts);
+    if field.name == b"base_data_source".as_slice() {
+        return read_base(reader, field.at, parts);
     }
-    if name == b"rewrite".as_slice() {
-        return add_rewrite(alloc, reader, at, begun, parts);
+    if field.name == b"rewrite".as_slice() {
+        return add_rewrite(reader, field.at, begun, parts);
     }
-    Err(fault_at(ConfigKind::UnknownField, at))
+    Err(fault_at(ConfigKind::UnknownField, field.at))
 }
 
 /// Reads the block of a source.
 fn read_source(
-    alloc: Global,
     reader: &mut Reader<'_>,
     sources: &[CustomSource],
     begun: &mut usize,
 ) -> Result<CustomSource, ConfigAnswer>
     ensures carries { Carries result
         (sources_from (ahead reader.old) (Opening InSource) (in_file sources.now begun.old))
-        (λ made. sources_from (ahead reader.new) (Separated InFile) (in_file (sources.now ++ made ∷ []) begun.new)) }
+        (λ made. sources_from (ahead reader.new) (Separated InFile)
+        (in_file (sources.now ++ made ∷ []) begun.new)) }
     ensures left { OnOk result (length reader.new.rest ≤ length reader.old.rest) }
 {
     reader.open_block()?;
-    let mut parts = no_source(alloc);
+    let mut parts = no_source(reader.alloc());
     'fields: loop {
         match reader.next() {
-            Next::Word(at, name) => read_field(
-                alloc, reader, at, name, sources, begun, &mut parts,
-            )?,
+            Next::Word(field) => read_field(reader, field, sources, begun, &mut parts)?,
             Next::Mark(at, b'}') => return close_source(parts, at),
             Next::Mark(at, _) | Next::End(at) | Next::Other(at) => {
                 return Err(fault_at(ConfigKind::Syntax, at));
@@ -237,13 +238,13 @@ fn begins_source(reader: &mut Reader<'_>, sources: &[CustomSource]) -> Result<bo
     ensures left { PassesName result reader.old reader.new }
 {
     match reader.next() {
-        Next::Word(at, name) if name == b"custom_data_source".as_slice() => {
+        Next::Word(word) if word.name == b"custom_data_source".as_slice() => {
             if sources.len() >= MOST_SOURCES {
-                return Err(fault_at(ConfigKind::TooMany, at));
+                return Err(fault_at(ConfigKind::TooMany, word.at));
             }
             Ok(true)
         }
-        Next::Word(at, _) => Err(fault_at(ConfigKind::UnknownField, at)),
+        Next::Word(word) => Err(fault_at(ConfigKind::UnknownField, word.at)),
         Next::End(_) => Ok(false),
         Next::Mark(at, _) | Next::Other(at) => Err(fault_at(ConfigKind::Syntax, at)),
     }
@@ -261,11 +262,11 @@ pub fn parse(alloc: Global, text: &[u8]) -> Result<Vec<CustomSource>, ConfigAnsw
     ensures read { Gives (λ v. v.items) result (config text.now) }
     ensures rules { IfOk result (λ v. AreSources v.items) }
 {
-    let mut reader = Reader::new(text);
+    let mut reader = Reader::new(alloc, text);
     let mut sources = Vec::new(alloc);
     let mut begun = 0;
     'sources: while begins_source(&mut reader, sources.as_slice())? {
-        let made = read_source(alloc, &mut reader, sources.as_slice(), &mut begun)?;
+        let made = read_source(&mut reader, sources.as_slice(), &mut begun)?;
         sources.push(made)?;
         reader.skip_separator();
     }

@@ -13,11 +13,18 @@ use crate::config::{ConfigAnswer, ConfigKind};
 use std::alloc::Global;
 use std::marker::Model;
 
+/// A name in a text, with its offset in bytes.
+#[derive(Clone, Copy)]
+pub(crate) struct NameAt<'a> {
+    pub(crate) at: usize,
+    pub(crate) name: &'a [u8],
+}
+
 /// The next token of a text, with its offset in bytes.
 #[derive(Drop)]
 pub(crate) enum Next<'a> {
     /// A name.
-    Word(usize, &'a [u8]),
+    Word(NameAt<'a>),
     /// One of `: { } , ;`.
     Mark(usize, u8),
     /// The end of the text.
@@ -33,9 +40,10 @@ pub(crate) struct Value {
     pub(crate) bytes: Vec<u8>,
 }
 
-/// The rest of a text, and its offset in the text.
+/// The rest of a text, and its offset in the text. The values that are read are made with `alloc`.
 #[derive(Drop)]
 pub(crate) struct Reader<'a> {
+    alloc: Global,
     at: usize,
     rest: &'a [u8],
 }
@@ -150,7 +158,8 @@ fn parse_string(
     requires fits { start + 1 + length bytes.now < 2 ^ 64 }
     requires quote { is_quote quote ≡ true }
     ensures ok { IfOk result (λ r. IsRead quote start bytes.now r.0.items r.1 r.2.now) }
-    ensures bad { IfErr result (IsBroken start (spelled bytes.now (InString quote start []) (start + 1))) }
+    ensures bad { IfErr result
+        (IsBroken start (spelled bytes.now (InString quote start []) (start + 1))) }
 {
     let mut value = Vec::new(alloc);
     let mut at = start + 1;
@@ -178,10 +187,19 @@ fn parse_string(
 
 impl<'a> Reader<'a> {
     /// Returns a reader of the whole text.
-    pub(crate) fn new(text: &'a [u8]) -> Reader<'a>
+    pub(crate) fn new(alloc: Global, text: &'a [u8]) -> Reader<'a>
         ensures { result ≡ record { at = 0; rest = text.now } }
     {
-        Reader { at: 0, rest: text }
+        Reader {
+            alloc,
+            at: 0,
+            rest: text,
+        }
+    }
+
+    /// Returns the allocator for what is made of the values.
+    pub(crate) fn alloc(&self) -> Global {
+        self.alloc
     }
 
     /// Returns the fault Syntax at the next token.
@@ -193,7 +211,8 @@ impl<'a> Reader<'a> {
 
     /// Skips blanks and comments.
     fn skip_gap(&mut self)
-        ensures same { spelled self.new.rest Between self.new.at ≡ spelled self.old.rest Between self.old.at }
+        ensures same { spelled self.new.rest Between self.new.at
+            ≡ spelled self.old.rest Between self.old.at }
         ensures left { length self.new.rest ≤ length self.old.rest }
         ensures begins { begins_token self.new.rest ≡ true }
     {
@@ -231,7 +250,8 @@ impl<'a> Reader<'a> {
 
     /// Skips a separator, if it is the next token.
     pub(crate) fn skip_separator(&mut self)
-        ensures separated { (level : Level) (d : Draft) → sources_from (ahead self.old) (Separated level) d
+        ensures separated { (level : Level) (d : Draft)
+            → sources_from (ahead self.old) (Separated level) d
             ≡ sources_from (ahead self.new) (Item level) d }
         ensures left { length self.new.rest ≤ length self.old.rest }
     {
@@ -242,7 +262,8 @@ impl<'a> Reader<'a> {
 
     /// Skips the opening brace of a block, and a colon before it.
     pub(crate) fn open_block(&mut self) -> Result<(), ConfigAnswer>
-        ensures opened { (level : Level) (d : Draft) → Carries result (sources_from (ahead self.old) (Opening level) d)
+        ensures opened { (level : Level) (d : Draft) → Carries result
+            (sources_from (ahead self.old) (Opening level) d)
             (λ _. sources_from (ahead self.new) (Item level) d) }
         ensures left { length self.new.rest ≤ length self.old.rest }
     {
@@ -281,23 +302,27 @@ impl<'a> Reader<'a> {
                 self.rest = rest;
                 Next::Mark(at, *byte)
             }
-            [byte, ..] if begins_word(*byte) => Next::Word(at, self.word()),
+            [byte, ..] if begins_word(*byte) => Next::Word(NameAt {
+                at,
+                name: self.word(),
+            }),
             _ => Next::Other(at),
         }
     }
 
     /// Reads the string at the start of the rest.
-    fn string(&mut self, alloc: Global) -> Result<Vec<u8>, ConfigAnswer>
+    fn string(&mut self) -> Result<Vec<u8>, ConfigAnswer>
         requires { begins_string self.old.rest ≡ true }
         ensures ok { IfOk result (λ v. spelled self.old.rest Between self.old.at
             ≡ (self.old.at, Quoted v.items) ∷ spelled self.new.rest Between self.new.at) }
-        ensures bad { IfErr result (IsBroken self.old.at (spelled self.old.rest Between self.old.at)) }
+        ensures bad { IfErr result
+            (IsBroken self.old.at (spelled self.old.rest Between self.old.at)) }
         ensures left { OnOk result (length self.new.rest < length self.old.rest) }
     {
         let start = self.at;
         match self.rest {
             [quote, rest @ ..] => {
-                let (value, at, rest) = parse_string(alloc, *quote, start, rest)?;
+                let (value, at, rest) = parse_string(self.alloc, *quote, start, rest)?;
                 self.at = at;
                 self.rest = rest;
                 Ok(value)
@@ -317,16 +342,17 @@ impl<'a> Reader<'a> {
     }
 
     /// Reads consecutive strings, and returns them concatenated.
-    fn strings(&mut self, alloc: Global) -> Result<Vec<u8>, ConfigAnswer>
+    fn strings(&mut self) -> Result<Vec<u8>, ConfigAnswer>
         requires { begins_string self.old.rest ≡ true }
-        ensures ok { IfOk result (λ v. ahead self.old ≡ (self.old.at, Quoted v.items) ∷ ahead self.new) }
+        ensures ok { IfOk result (λ v. ahead self.old
+            ≡ (self.old.at, Quoted v.items) ∷ ahead self.new) }
         ensures bad { IfErr result (IsBroken self.old.at (ahead self.old)) }
         ensures left { OnOk result (length self.new.rest ≤ length self.old.rest) }
     {
-        let mut value = self.string(alloc)?;
+        let mut value = self.string()?;
         self.skip_gap();
         'strings: while self.is_at_quote() {
-            let more = self.string(alloc)?;
+            let more = self.string()?;
             value.extend_from_slice(more.as_slice())?;
             self.skip_gap();
         }
@@ -334,9 +360,11 @@ impl<'a> Reader<'a> {
     }
 
     /// Reads the colon and the value of a field.
-    pub(crate) fn value(&mut self, alloc: Global) -> Result<Value, ConfigAnswer>
-        ensures value { (field : Field) (d : Draft) → Carries result (sources_from (ahead self.old) (Colon field) d)
-            (λ v. sources_after_value (ahead self.new) field (with_value field d v.at v.bytes.items)) }
+    pub(crate) fn value(&mut self) -> Result<Value, ConfigAnswer>
+        ensures value { (field : Field) (d : Draft) → Carries result
+            (sources_from (ahead self.old) (Colon field) d)
+            (λ v. sources_after_value (ahead self.new) field
+            (with_value field d v.at v.bytes.items)) }
         ensures left { OnOk result (length self.new.rest ≤ length self.old.rest) }
     {
         if !self.mark(b':') {
@@ -347,7 +375,7 @@ impl<'a> Reader<'a> {
             return Err(self.syntax_error());
         }
         let at = self.at as u64;
-        let bytes = self.strings(alloc)?;
+        let bytes = self.strings()?;
         Ok(Value { at, bytes })
     }
 }

@@ -164,7 +164,9 @@ pub trait Patterns {
         ensures syntax { result ≡ Err PatternAnswer.Syntax → IsNoPattern pattern.now }
         ensures too_big { result ≡ Err PatternAnswer.TooBig →
             (refused self.old < refused self.new) × (last_refused self.new ≡ pattern.now) }
-        ensures kept { result ≢ Err PatternAnswer.TooBig → last_refused self.new ≡ last_refused self.old }
-        ensures uncounted { result ≢ Err PatternAnswer.TooBig → refused self.new ≡ refused self.old }
+        ensures kept { result ≢ Err PatternAnswer.TooBig
+            → last_refused self.new ≡ last_refused self.old }
+        ensures uncounted { result ≢ Err PatternAnswer.TooBig
+            → refused self.new ≡ refused self.old }
         ensures rises { refused self.old ≤ refused self.new };
 }

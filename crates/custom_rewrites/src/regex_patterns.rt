@@ -63,7 +63,8 @@ impl RegexPatterns {
 
     /// Counts a refusal and saves its pattern.
     fn refuse(&mut self, alloc: Global, pattern: &str) -> PatternAnswer
-        ensures too_big { result ≡ PatternAnswer.TooBig → self.new ≡ with_refused self.old pattern.now }
+        ensures too_big { result ≡ PatternAnswer.TooBig
+            → self.new ≡ with_refused self.old pattern.now }
         ensures kept { result ≢ PatternAnswer.TooBig → self.new ≡ self.old }
         ensures kind { result ≢ PatternAnswer.Syntax }
     {
@@ -95,7 +96,8 @@ impl Patterns for RegexPatterns {
         ensures too_big { result ≡ Err PatternAnswer.TooBig →
             (self.old.refused < self.new.refused) × (self.new.last ≡ pattern.now) }
         ensures kept { result ≢ Err PatternAnswer.TooBig → self.new.last ≡ self.old.last }
-        ensures uncounted { result ≢ Err PatternAnswer.TooBig → self.new.refused ≡ self.old.refused }
+        ensures uncounted { result ≢ Err PatternAnswer.TooBig
+            → self.new.refused ≡ self.old.refused }
         ensures rises { self.old.refused ≤ self.new.refused }
 
         // A call whose number is in the list is refused. Each call counts once, until the count reaches the

@@ -48,7 +48,8 @@ impl Model for Rewrites {
 
     ghost Value = { List Rewrite };
 
-    ghost view = { λ r. map (λ m. record { pattern = m.pattern; replacement = m.replacement }) r.made.items };
+    ghost view = { λ r.
+        map (λ m. record { pattern = m.pattern; replacement = m.replacement }) r.made.items };
 }
 
 /// Compiles the rewrite at this index.
@@ -58,9 +59,12 @@ fn build_one<P: Patterns>(
     place: usize,
     patterns: &mut P,
 ) -> Result<CompiledRewrite, RewriteAnswer>
-    ensures ok { IfOk result (λ m. (record { pattern = m.pattern; replacement = m.replacement } ≡ rewrite.now)
-        × IsPattern rewrite.now.pattern × (P.last_refused patterns.new ≡ P.last_refused patterns.old)) }
-    ensures uncounted { without_refusal result ≡ true → P.refused patterns.new ≡ P.refused patterns.old }
+    ensures ok { IfOk result (λ m.
+        (record { pattern = m.pattern; replacement = m.replacement } ≡ rewrite.now)
+        × IsPattern rewrite.now.pattern
+        × (P.last_refused patterns.new ≡ P.last_refused patterns.old)) }
+    ensures uncounted { without_refusal result ≡ true
+        → P.refused patterns.new ≡ P.refused patterns.old }
     ensures answer { IfErr result (HasOneCause rewrite.now.pattern place (P.refused patterns.old)
         (P.refused patterns.new) (P.last_refused patterns.old) (P.last_refused patterns.new)) }
     ensures rises { P.refused patterns.old ≤ P.refused patterns.new }
@@ -90,7 +94,8 @@ impl Rewrites {
         ensures ok { IfOk result (λ r. (r ≡ source.now.rewrites)
             × All (λ q. IsPattern q.pattern) source.now.rewrites
             × (P.last_refused patterns.new ≡ P.last_refused patterns.old)) }
-        ensures uncounted { without_refusal result ≡ true → P.refused patterns.new ≡ P.refused patterns.old }
+        ensures uncounted { without_refusal result ≡ true
+            → P.refused patterns.new ≡ P.refused patterns.old }
         ensures answer { IfErr result (HasCause source.now.rewrites (P.refused patterns.old)
             (P.refused patterns.new) (P.last_refused patterns.old) (P.last_refused patterns.new)) }
         ensures rises { P.refused patterns.old ≤ P.refused patterns.new }
@@ -175,7 +180,8 @@ fn replaced_by(
     label: &[u8],
 ) -> Result<Option<Vec<u8>>, NoMemory>
     ensures text { IfOk result (λ out. option_map (λ v. v.items) out
-        ≡ replaced (shown_finder ready.old).pattern (shown_finder ready.old).replacement label.now) }
+        ≡ replaced (shown_finder ready.old).pattern (shown_finder ready.old).replacement
+        label.now) }
     ensures same { ready.new ≡ ready.old }
 {
     ready
@@ -190,7 +196,8 @@ fn rewrite_by(
     label: &[u8],
     out: &mut Vec<u8>,
 ) -> Result<(), NoMemory>
-    ensures ok { OnOk result (out.new.items ≡ out.old.items ++ rewritten label.now (map shown_finder ready.old.items)) }
+    ensures ok { OnOk result (out.new.items
+        ≡ out.old.items ++ rewritten label.now (map shown_finder ready.old.items)) }
     ensures err { OnErr result (out.new.items ≡ out.old.items) }
     ensures same { ready.new.items ≡ ready.old.items }
 {

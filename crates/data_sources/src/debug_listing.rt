@@ -45,13 +45,15 @@ pub fn debug_claims(
     pool: &mut LabelPool,
     limit: u64,
 ) -> Result<Vec<Claim>, ClaimAnswer>
-    ensures claims { IfOk result (λ v. debug_claims_of source binary.now ≡ Ok (texts pool.new v.items)) }
+    ensures claims { IfOk result (λ v. debug_claims_of source binary.now
+        ≡ Ok (texts pool.new v.items)) }
     ensures numbered { IfOk result (λ v. AreNumbered pool.new v.items) }
     ensures used { IfOk result (λ v. AreUsed (length pool.old) pool.new v.items) }
     ensures few { IfOk result (λ v. length v.items ≤ limit) }
     ensures many { IsErrOf result ClaimAnswer.TooManyClaims
         → IsOkAnd (debug_claims_of source binary.now) (λ made. limit < length made) }
-    ensures bad { (bad : BadFile) → IsErrOf result (ClaimAnswer.Bad bad) → debug_claims_of source binary.now ≡ Err bad }
+    ensures bad { (bad : BadFile) → IsErrOf result (ClaimAnswer.Bad bad)
+        → debug_claims_of source binary.now ≡ Err bad }
     ensures kept { KeepsLabels pool.old pool.new }
 {
     let mut sheet = ClaimSheet::begin_on_addresses(alloc, pool, limit);

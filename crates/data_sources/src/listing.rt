@@ -114,7 +114,8 @@ pub fn claims(
     pool: &mut LabelPool,
     limit: u64,
 ) -> Result<Vec<Claim>, ClaimAnswer>
-    ensures claims { IfOk result (λ v. claims_of source name.now binary.now ≡ Ok (texts pool.new v.items)) }
+    ensures claims { IfOk result (λ v. claims_of source name.now binary.now
+        ≡ Ok (texts pool.new v.items)) }
     ensures numbered { IfOk result (λ v. AreNumbered pool.new v.items) }
     ensures used { IfOk result (λ v. AreUsed (length pool.old) pool.new v.items) }
     ensures few { IfOk result (λ v. length v.items ≤ limit) }

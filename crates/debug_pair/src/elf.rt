@@ -45,7 +45,8 @@ fn segment_build_id<'a>(file: &ElfFile<'a>, i: u32, last: &mut Searched) -> Opti
 /// Returns the first build ID in the notes of sections.
 #[tactic(auto, using(crate::proofs::IdentityLemmas::area_here, crate::proofs::IdentityLemmas::area_later, crate::proofs::IdentityLemmas::area_end))]
 fn build_id_in_sections<'a>(file: &ElfFile<'a>) -> Option<&'a [u8]>
-    ensures { option_copied result ≡ build_id (encoding_of file.now).order (section_areas file.now) }
+    ensures { option_copied result
+        ≡ build_id (encoding_of file.now).order (section_areas file.now) }
 {
     let mut last = Searched::nothing();
     for i in 0..file.header().sections {
@@ -59,7 +60,8 @@ fn build_id_in_sections<'a>(file: &ElfFile<'a>) -> Option<&'a [u8]>
 /// Returns the first build ID in the notes of segments.
 #[tactic(auto, using(crate::proofs::IdentityLemmas::area_here, crate::proofs::IdentityLemmas::area_later, crate::proofs::IdentityLemmas::area_end))]
 fn build_id_in_segments<'a>(file: &ElfFile<'a>) -> Option<&'a [u8]>
-    ensures { option_copied result ≡ build_id (encoding_of file.now).order (segment_areas file.now) }
+    ensures { option_copied result
+        ≡ build_id (encoding_of file.now).order (segment_areas file.now) }
 {
     let mut last = Searched::nothing();
     for i in 0..file.header().segments {

@@ -25,7 +25,7 @@ impl Searched {
         Searched { offset: 0, len: 0 }
     }
 
-    // Returns whether an area begins where this one does, and isn't longer.
+    // Returns true only if an area begins where this one does, and isn't longer.
     fn begins_with(&self, offset: u64, len: u64) -> bool
         ensures { result ≡ true → (offset ≡ self.now.offset) × (len ≤ self.now.len) }
     {

@@ -1,7 +1,6 @@
 -- The maps of a base: the labellings that they cut, the number of their pieces, and how much is mapped.
-use Rattle.std.proofs.Common.{◌≡◌, ◌+◌, ◌*◌, ◌^◌, ◌<◌, ◌≤◌, ℕ, max, is_some, Bool, true, false, cond, ltb, List, [], ◌∷◌, Option, Some, None, Result, Ok, Err, length, get_or, refl, sym, ap, ◌∙◌, arith}
+use Rattle.std.proofs.Common.{◌≡◌, ◌+◌, ◌*◌, ◌^◌, ◌<◌, ◌≤◌, ℕ, max, is_some, Bool, true, false, cond, ltb, List, [], ◌∷◌, Option, Some, None, length, get_or, refl, sym, ap, ◌∙◌, arith}
 use Rattle.std.specs.List.{All}
-use Rattle.std.specs.Prelude.{IfOk}
 use Rattle.std.proofs.lemmas.List.Elements.{All-head, All-tail}
 use Rattle.std.proofs.lemmas.Option.{none-some, same_Some}
 use Rattle.size_core.specs.declared.claim.Load.{Load}
@@ -67,10 +66,6 @@ size-mapped ls ps ends c =
 
 pub mapped_count_le : (ls : List Load) → mapped_count ls ≤ 2 ^ 96
 mapped_count_le ls = count_le (is_mapped ls) 0 (2 ^ 96)
-
-pub ok_more : {V E : Type 0} (P Q : V → Type 0) (r : Result V E) → ((v : V) → P v → Q v) → IfOk r P → IfOk r Q
-ok_more P Q (Ok v) f h = f v h
-ok_more P Q (Err e) f h = tt
 
 -- The number of pieces of the two maps.
 file_bound : (len : ℕ) (ls : List Load) (offsets : List Piece) (unmapped m : ℕ) (cs : List Claim) (ps : List Piece) → len < 2 ^ 63 → All IsLoad ls → IsCut (load_of_offset len ls) offsets → length offsets ≤ m → 1 ≤ m → IsCut (offset_labelling len ls unmapped cs) ps → length ps ≤ 2 * (length cs * m + 1)

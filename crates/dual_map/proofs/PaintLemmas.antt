@@ -1,13 +1,11 @@
 -- Ranges that are added one after another.
-use Rattle.std.proofs.Common.{◌≡◌, ◌+◌, ◌-◌, ◌<◌, ◌≤◌, ℕ, min, List, [], ◌∷◌, ◌++◌, Option, None, Some, length, get_or, refl, sym, ap, subst, ◌∙◌, inl, inr, arith}
+use Rattle.std.proofs.Common.{◌≡◌, ◌+◌, ◌-◌, ◌<◌, ◌≤◌, ◌^◌, ℕ, min, List, [], ◌∷◌, ◌++◌, Option, None, Some, length, get_or, refl, sym, ap, subst, ◌∙◌, inl, inr, arith}
 use Rattle.std.proofs.lemmas.Bool.{cases_lt}
-use Rattle.std.proofs.lemmas.List.Elements.{All-push}
-use Rattle.std.specs.List.{All}
 use Rattle.size_model.specs.declared.piece.Piece.{Piece}
-use Rattle.size_model.specs.Cut.{end_of, label_in}
+use Rattle.size_model.specs.Cut.{end_of, label_in, IsLaid}
 use Rattle.size_model.proofs.Cuts.{label_at_head, label_before_head}
-use Rattle.range_map.specs.Ranges.{EndsBy, IsRange}
-use Rattle.range_map.proofs.Pieces.{either, label_in-append, label_past, EndsBy-push, EndsBy-weaker}
+use Rattle.range_map.specs.Ranges.{EndsBy, IsMap}
+use Rattle.range_map.proofs.Pieces.{either, label_in-append, label_past, EndsBy-weaker}
 use Rattle.dual_map.specs.declared.layers.Layer.{Layer}
 use Rattle.dual_map.specs.declared.paint.Cursor.{Cursor}
 use Rattle.dual_map.specs.declared.stretch.Stretch.{Stretch}
@@ -34,44 +32,45 @@ label_at_push ps p x ends a b =
 abbrev pub first_part : Stretch → ℕ → Stretch
 first_part s m = record { source = s.source; target = s.target; len = m }
 
-pub paints_none : (s : Stretch) (label : ℕ → ℕ → ℕ) (ps : List Piece) → EndsBy s.target ps → All IsRange ps → Paints (first_part s 0) label ps ps
+pub paints_none : (s : Stretch) (label : ℕ → ℕ → ℕ) (ps : List Piece) → EndsBy s.target ps → IsMap ps → Paints (first_part s 0) label ps ps
 paints_none s label ps e r = record {
   ends = EndsBy-weaker ps s.target (s.target + 0) (omega arith) e;
-  ranges = r;
+  pieces = r;
   before = λ x h. refl;
   filled = λ k h. absurd (omega arith);
 }
 
 -- One more range, as long as the label lasts.
-pub paints_more : (s : Stretch) (label : ℕ → ℕ → ℕ) (old ps : List Piece) (m n : ℕ) (p : Piece) → Paints (first_part s m) label old ps → p.start ≡ s.target + m → p.len ≡ n → IsRange p
-    → ((k : ℕ) → k < n → label (s.target + m + k) (s.source + m + k) ≡ p.label) → Paints (first_part s (m + n)) label old (ps ++ p ∷ [])
-paints_more s label old ps m n p w at len fits same =
+pub paints_more : (s : Stretch) (label : ℕ → ℕ → ℕ) (old ps new : List Piece) (m n : ℕ) (p : Piece) → Paints (first_part s m) label old ps → p.start ≡ s.target + m → p.len ≡ n → end_of p ≤ 2 ^ 97
+    → IsLaid (ps ++ p ∷ []) new → EndsBy (end_of p) new → ((k : ℕ) → k < n → label (s.target + m + k) (s.source + m + k) ≡ p.label) → Paints (first_part s (m + n)) label old new
+paints_more s label old ps new m n p w at len fits laid upto same =
     let ends : EndsBy p.start ps = subst (λ n. EndsBy n ps) (sym at) w.ends in
     record {
-      ends = EndsBy-push ps p (s.target + m) (s.target + (m + n)) w.ends (omega arith) (omega arith);
-      ranges = All-push IsRange ps p w.ranges fits;
-      before = λ x h. label_before_push ps p x (omega arith) ∙ w.before x h;
+      ends = EndsBy-weaker new (end_of p) (s.target + (m + n)) (omega arith) upto;
+      pieces = record { tidy = laid.tidy; fits = EndsBy-weaker new (end_of p) (2 ^ 97) fits upto };
+      before = λ x h. laid.labels x ∙ (label_before_push ps p x (omega arith) ∙ w.before x h);
       filled = λ k h.
           elim (cases_lt k m) [
-            | inl a ↦ label_before_push ps p (s.target + k) (omega arith) ∙ w.filled k a
+            | inl a ↦ laid.labels (s.target + k) ∙ (label_before_push ps p (s.target + k) (omega arith) ∙ w.filled k a)
             | inr a ↦ let e : s.target + m + (k - m) ≡ s.target + k = omega arith in
                 let f : s.source + m + (k - m) ≡ s.source + k = omega arith in
-                label_at_push ps p (s.target + k) ends (omega arith) (omega arith) ∙ ap (λ v. Some v) (sym (same (k - m) (omega arith)) ∙ (ap (λ x. label x (s.source + m + (k - m))) e ∙ ap (label (s.target + k)) f))
+                laid.labels (s.target + k)
+                ∙ (label_at_push ps p (s.target + k) ends (omega arith) (omega arith) ∙ ap (λ v. Some v) (sym (same (k - m) (omega arith)) ∙ (ap (λ x. label x (s.source + m + (k - m))) e ∙ ap (label (s.target + k)) f)))
           ];
     }
 
 -- One more range of a stretch, at a cursor.
 pub paint_step : (labels : List ℕ) (layer : Layer) (map : List Piece) (s : Stretch) (old ps new : List Piece) (cur next : Cursor) (run : Run) (n : ℕ) (p : Piece) → Paints (first_part s (cur.target - s.target)) (λ x y. label_of labels layer map (Some y) x) old ps
     → s.target ≤ cur.target → cur.target < s.target + s.len → cur.source ≡ s.source + (cur.target - s.target) → IsSmall s → IsSteady (λ k. number_of (length labels - 1) layer map (Some (cur.source + k)) (cur.target + k)) run
-    → n ≡ min run.len (s.target + s.len - cur.target) → new ≡ ps ++ p ∷ [] → p.start ≡ cur.target → p.len ≡ n → p.label ≡ get_or labels run.number 0 → next.target ≡ cur.target + n
+    → n ≡ min run.len (s.target + s.len - cur.target) → IsLaid (ps ++ p ∷ []) new → EndsBy (end_of p) new → p.start ≡ cur.target → p.len ≡ n → p.label ≡ get_or labels run.number 0 → next.target ≡ cur.target + n
     → Paints (first_part s (next.target - s.target)) (λ x y. label_of labels layer map (Some y) x) old new
-paint_step labels layer map s old ps new cur next run n p w low high source small steady len e start same label at =
+paint_step labels layer map s old ps new cur next run n p w low high source small steady len laid upto start same label at =
     let m : ℕ = cur.target - s.target in
     let last : next.target - s.target ≡ m + n = omega arith in
     let named : (k : ℕ) → k < n → label_of labels layer map (Some (s.source + m + k)) (s.target + m + k) ≡ p.label = λ k l.
     let x : s.target + m + k ≡ cur.target + k = omega arith in
     let y : s.source + m + k ≡ cur.source + k = omega arith in
     ap (λ x. label_of labels layer map (Some (s.source + m + k)) x) x ∙ (ap (λ y. label_of labels layer map (Some y) (cur.target + k)) y ∙ (ap (λ v. get_or labels v 0) (steady.steady k (omega arith)) ∙ sym label)) in
-    let fits : IsRange p = record { start_fits = omega (arith, small.target_fits); len_fits = omega (arith, small.len_fits) } in
-    let more = paints_more s (λ x y. label_of labels layer map (Some y) x) old ps m n p w (omega arith) same fits named in
-    subst (λ k. Paints (first_part s k) (λ x y. label_of labels layer map (Some y) x) old new) (sym last) (subst (λ qs. Paints (first_part s (m + n)) (λ x y. label_of labels layer map (Some y) x) old qs) (sym e) more)
+    let fits : end_of p ≤ 2 ^ 97 = omega (arith, small.target_fits) in
+    let more = paints_more s (λ x y. label_of labels layer map (Some y) x) old ps new m n p w (omega arith) same fits laid upto named in
+    subst (λ k. Paints (first_part s k) (λ x y. label_of labels layer map (Some y) x) old new) (sym last) more

@@ -6,9 +6,9 @@ use Rattle.std.proofs.lemmas.Option.{slice_get_within}
 use Rattle.std.specs.List.{All}
 use Rattle.size_core.specs.declared.claim.Load.{Load}
 use Rattle.size_model.specs.declared.piece.Piece.{Piece}
-use Rattle.size_model.specs.Cut.{end_of, label_in, IsTidy, IsCut, IsLaid}
+use Rattle.size_model.specs.Cut.{end_of, label_in, IsTidy, IsCut}
 use Rattle.size_model.specs.Loads.{addr, place, space_of, address_of, IsLoad}
-use Rattle.range_map.specs.Ranges.{EndsBy, IsRange}
+use Rattle.range_map.specs.Ranges.{EndsBy, IsMap}
 use Rattle.range_map.specs.Sweep.{at, no_piece}
 use Rattle.range_map.proofs.LookUp.{ordered}
 use Rattle.range_map.proofs.Pieces.{label_past, EndsBy-weaker}
@@ -40,18 +40,18 @@ reaches_next ps i from t r l =
 -- The ranges label all positions before this one.
 pub record UpTo (labelling : ℕ → Option ℕ) (to : ℕ) (ps : List Piece) : Type 0 where
   pub ends : EndsBy to ps
-  pub ranges : All IsRange ps
+  pub pieces : IsMap ps
   pub labels : (x : ℕ) → x < to → label_in ps x ≡ labelling x
 
 pub up_to_none : (labelling : ℕ → Option ℕ) → UpTo labelling 0 []
-up_to_none labelling = record { ends = tt; ranges = λ k d l. absurd (omega arith); labels = λ x h. absurd (omega arith) }
+up_to_none labelling = record { ends = tt; pieces = record { tidy = tt; fits = tt }; labels = λ x h. absurd (omega arith) }
 
 -- The targets of a stretch were added.
 pub up_to_more : (labelling : ℕ → Option ℕ) (s : Stretch) (label : ℕ → ℕ → ℕ) (old new : List Piece) → UpTo labelling s.target old → Paints s label old new
     → ((k : ℕ) → k < s.len → labelling (s.target + k) ≡ Some (label (s.target + k) (s.source + k))) → UpTo labelling (s.target + s.len) new
 up_to_more labelling s label old new u w h = record {
   ends = w.ends;
-  ranges = w.ranges;
+  pieces = w.pieces;
   labels = λ x l.
       elim (cases_lt x s.target) [
         | inl a ↦ w.before x a ∙ u.labels x a
@@ -64,20 +64,20 @@ up_to_more labelling s label old new u w h = record {
 pub up_to_later : (labelling : ℕ → Option ℕ) (from to : ℕ) (ps : List Piece) → from ≤ to → UpTo labelling from ps → ((x : ℕ) → from ≤ x → x < to → labelling x ≡ None) → UpTo labelling to ps
 up_to_later labelling from to ps l u h = record {
   ends = EndsBy-weaker ps from to l u.ends;
-  ranges = u.ranges;
+  pieces = u.pieces;
   labels = λ x m.
       elim (cases_lt x from) [ inl a ↦ u.labels x a | inr a ↦ label_past ps from x u.ends a ∙ sym (h x a m) ];
 }
 
 pub up_to_all : (labelling : ℕ → Option ℕ) (to : ℕ) (ps : List Piece) → UpTo labelling to ps → ((x : ℕ) → to ≤ x → labelling x ≡ None) → IsLabelled labelling ps
 up_to_all labelling to ps u h = record {
-  ranges = u.ranges;
+  pieces = u.pieces;
   labels = λ x.
       elim (cases_lt x to) [ inl a ↦ u.labels x a | inr a ↦ label_past ps to x u.ends a ∙ sym (h x a) ];
 }
 
-pub IsCut-laid : (labelling : ℕ → Option ℕ) (rs ps : List Piece) → IsLabelled labelling rs → IsLaid rs ps → IsCut labelling ps
-IsCut-laid labelling rs ps a l = record { tidy = l.tidy; labels = λ x. l.labels x ∙ a.labels x }
+pub IsCut-labelled : (labelling : ℕ → Option ℕ) (ps : List Piece) → IsLabelled labelling ps → IsCut labelling ps
+IsCut-labelled labelling ps l = record { tidy = l.pieces.tidy; labels = l.labels }
 
 -- Offsets that no load covers.
 offset_in_gap : (len : ℕ) (ls : List Load) (l : Layers) (ps : List Piece) (i from x y : ℕ) → IsCut (load_of_offset len ls) ps → Reaches ps i from → from ≤ x → (i < length ps → x < (at ps i).start) → x < len

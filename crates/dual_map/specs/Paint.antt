@@ -1,10 +1,10 @@
 -- The labels of offsets and positions by layers of claims, and lists of ranges that have them.
-use Rattle.std.specs.Prelude.{◌≡◌, ◌+◌, ◌-◌, ◌<◌, ℕ, min, nat_lt, if◌then◌else◌, List, All, length, get_or, Option, None, Some}
+use Rattle.std.specs.Prelude.{◌≡◌, ◌+◌, ◌-◌, ◌<◌, ℕ, min, nat_lt, if◌then◌else◌, List, length, get_or, Option, None, Some}
 use Rattle.size_core.specs.declared.claim.Load.{Load}
 use Rattle.size_model.specs.declared.piece.Piece.{Piece}
 use Rattle.size_model.specs.Cut.{label_in}
 use Rattle.size_model.specs.Loads.{addr, place, is_mapped, space_of, address_of}
-use Rattle.range_map.specs.Ranges.{EndsBy, IsRange}
+use Rattle.range_map.specs.Ranges.{EndsBy, IsMap}
 use Rattle.dual_map.specs.declared.layers.Layer.{Layer}
 use Rattle.dual_map.specs.declared.layers.Layers.{Layers}
 use Rattle.dual_map.specs.declared.paint.Cursor.{Cursor}
@@ -50,11 +50,11 @@ pub record IsCursor (l : Layer) (map : List Piece) (c : Cursor) : Type 0 where
 -- The targets of a stretch were added, each with the label of the target and its source.
 pub record Paints (s : Stretch) (label : ℕ → ℕ → ℕ) (old new : List Piece) : Type 0 where
   pub ends : EndsBy (s.target + s.len) new
-  pub ranges : All IsRange new
+  pub pieces : IsMap new
   pub before : (x : ℕ) → x < s.target → label_in new x ≡ label_in old x
   pub filled : (k : ℕ) → k < s.len → label_in new (s.target + k) ≡ Some (label (s.target + k) (s.source + k))
 
--- Ranges that label exactly as a labelling does.
+-- Pieces of a map that label exactly as a labelling does.
 pub record IsLabelled (labelling : ℕ → Option ℕ) (ps : List Piece) : Type 0 where
-  pub ranges : All IsRange ps
+  pub pieces : IsMap ps
   pub labels : (x : ℕ) → label_in ps x ≡ labelling x

@@ -163,7 +163,7 @@ impl Base {
         self.offsets.len().max(self.positions.len())
     }
 
-    // The label of each offset, as ranges in ascending order.
+    // The label of each offset, as the pieces of a map.
     fn painted_offsets(&self, alloc: Global, layers: &Layers) -> Result<Vec<Piece>, AllocError>
         requires { HasNumbers layers.now.labels.items layers.now.file }
         ensures labels { IfOk result
@@ -172,7 +172,7 @@ impl Base {
     {
         let labels = layers.labels.as_slice();
         let nothing = RangeMap::new(alloc);
-        let mut out = Vec::new(alloc);
+        let mut out = Vec::with_capacity(alloc, layers.memory.alone.len())?;
         let mut from = 0;
         for i in 0..self.offsets.len() {
             let piece = piece_of(&self.offsets, i);
@@ -193,14 +193,15 @@ impl Base {
         Ok(out)
     }
 
-    // The label of each mapped position, as ranges in ascending order.
+    // The label of each mapped position, as the pieces of a map.
     fn painted_positions(&self, alloc: Global, layers: &Layers) -> Result<Vec<Piece>, AllocError>
         requires { HasNumbers layers.now.labels.items layers.now.memory }
-        ensures { IfOk result (λ v. IsLabelled (position_labels self.now.len self.now.loads layers.now) v.items) }
+        ensures { IfOk result
+            (λ v. IsLabelled (position_labels self.now.len self.now.loads layers.now) v.items) }
     {
         let labels = layers.labels.as_slice();
         let nothing = RangeMap::new(alloc);
-        let mut out = Vec::new(alloc);
+        let mut out = Vec::with_capacity(alloc, layers.memory.alone.len())?;
         for i in 0..self.positions.len() {
             let piece = piece_of(&self.positions, i);
             let stretch = to_memory(self.file_len, &self.loads[piece.label], &piece);
@@ -223,8 +224,8 @@ impl Base {
         ensures cut { IfOk result (IsCut (offset_labels self.now.len self.now.loads layers.now)) }
         ensures layout { OnOk result (IsLayout self.now) }
     {
-        let ranges = self.painted_offsets(alloc, layers)?;
-        RangeMap::build(alloc, ranges.as_slice())
+        let pieces = self.painted_offsets(alloc, layers)?;
+        Ok(RangeMap::of_pieces(alloc, pieces))
     }
 
     // The label of each mapped position, by the first claim that covers it.
@@ -232,7 +233,7 @@ impl Base {
         requires { HasNumbers layers.now.labels.items layers.now.memory }
         ensures { IfOk result (IsCut (position_labels self.now.len self.now.loads layers.now)) }
     {
-        let ranges = self.painted_positions(alloc, layers)?;
-        RangeMap::build(alloc, ranges.as_slice())
+        let pieces = self.painted_positions(alloc, layers)?;
+        Ok(RangeMap::of_pieces(alloc, pieces))
     }
 }

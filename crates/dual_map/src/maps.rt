@@ -43,7 +43,8 @@ impl DualMap {
         requires { base.now.len ≡ file_len }
         ensures file { IfOk result
             (λ m. IsCut (offset_labelling base.now.len base.now.loads unmapped claims.now) m.file) }
-        ensures vm { IfOk result (λ m. IsCut (address_labelling base.now.len base.now.loads unmapped claims.now) m.vm) }
+        ensures vm { IfOk result
+            (λ m. IsCut (address_labelling base.now.len base.now.loads unmapped claims.now) m.vm) }
         ensures over { IfOk result (IsOver base.now) }
         ensures labels { IfOk result (λ m. (n : ℕ)
             → unmapped < n → All (λ c. c.label < n) claims.now → LabelsBelow n m) }
@@ -54,7 +55,8 @@ impl DualMap {
         ensures few_vm { IfOk result (λ m. (b : ℕ) → HasPieces base.now b
             → length m.vm ≤ 2 * (length claims.now + 1) * max 1 b + 1) }
         ensures few_by_loads { IfOk result (λ m. length m.file + length m.vm
-            ≤ 4 * length claims.now * (2 * length base.now.loads + 1) + 2 * (2 * length base.now.loads + 1) + 4) }
+            ≤ 4 * length claims.now * (2 * length base.now.loads + 1)
+            + 2 * (2 * length base.now.loads + 1) + 4) }
     {
         let layers = Layers::build(alloc, claims, unmapped)?;
         let file = base.file_map(alloc, &layers)?;

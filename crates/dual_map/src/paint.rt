@@ -1,7 +1,7 @@
 //! A walk along a stretch, over the claims at its targets and the claims that are carried from its sources.
 
-ghost use Rattle.std.specs.Prelude.{◌≡◌, ◌+◌, ◌^◌, ◌≤◌, Some, OnOk, All};
-ghost use Rattle.range_map.specs.Ranges.{EndsBy, IsRange};
+ghost use Rattle.std.specs.Prelude.{◌≡◌, ◌+◌, ◌^◌, ◌≤◌, Some, OnOk};
+ghost use Rattle.range_map.specs.Ranges.{EndsBy, IsMap};
 ghost use Rattle.dual_map.specs.Paint.{label_of, number_of, IsCursor, Paints, HasNumbers};
 ghost use Rattle.dual_map.specs.Runs.{IsSteady};
 ghost use Rattle.dual_map.specs.Way.{IsSmall};
@@ -9,7 +9,7 @@ ghost use Rattle.dual_map.specs.Way.{IsSmall};
 use crate::layers::Layer;
 use crate::run::{Run, find, least, run_of, seek};
 use crate::stretch::Stretch;
-use range_map::{Piece, RangeMap};
+use range_map::{Piece, RangeMap, emit};
 use std::alloc::AllocError;
 
 // A target and its source, with the index of the first piece of each map that ends after it.
@@ -42,7 +42,8 @@ impl Cursor {
     fn run(&self, layer: &Layer, carried: &RangeMap, none: usize) -> Run
         requires at { IsCursor layer.now carried.now self.now }
         ensures { IsSteady
-            (λ k. number_of none layer.now carried.now (Some (self.now.source + k)) (self.now.target + k)) result }
+            (λ k. number_of none layer.now carried.now (Some (self.now.source + k))
+            (self.now.target + k)) result }
     {
         let alone = run_of(&layer.alone, self.alone, self.target, none);
         let both = run_of(&layer.both, self.both, self.target, none);
@@ -82,9 +83,10 @@ pub fn paint(
 ) -> Result<(), AllocError>
     requires small { IsSmall stretch.now }
     requires ends { EndsBy stretch.now.target out.old.items }
-    requires ranges { All IsRange out.old.items }
+    requires pieces { IsMap out.old.items }
     requires numbers { HasNumbers labels.now layer.now }
-    ensures { OnOk result (Paints stretch.now (λ x y. label_of labels.now layer.now carried.now (Some y) x)
+    ensures { OnOk result
+        (Paints stretch.now (λ x y. label_of labels.now layer.now carried.now (Some y) x)
         out.old.items out.new.items) }
 {
     if stretch.len == 0 {
@@ -95,11 +97,12 @@ pub fn paint(
     while cursor.target < end {
         let run = cursor.run(layer, carried, labels.len() - 1);
         let len = run.len.min(end - cursor.target);
-        out.push(Piece {
+        let piece = Piece {
             start: cursor.target,
             len,
             label: labels[run.number],
-        })?;
+        };
+        emit(out, piece)?;
         cursor = cursor.advance(layer, carried, len);
     }
     Ok(())

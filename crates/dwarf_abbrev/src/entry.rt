@@ -21,13 +21,15 @@ impl<'a> Model for Entry<'a> {
 
     ghost Value = { Declaration };
 
-    ghost view = { λ e. record { code = e.head.code; tag = e.head.tag; specs = (specs_from e.cursor).items } };
+    ghost view = { λ e.
+        record { code = e.head.code; tag = e.head.tag; specs = (specs_from e.cursor).items } };
 }
 
 impl<'a> Entry<'a> {
     /// The declaration with this head. The cursor is at its first attribute specification.
     pub(crate) fn new(head: Head, cursor: Cursor<'a>) -> Entry<'a>
-        ensures { result ≡ record { code = head.code; tag = head.tag; specs = (specs_from cursor.entry).items } }
+        ensures { result
+            ≡ record { code = head.code; tag = head.tag; specs = (specs_from cursor.entry).items } }
     {
         Entry { head, cursor }
     }
@@ -60,7 +62,8 @@ impl<'a> Entry<'a> {
 impl<'a> Iterator for Entry<'a> {
     type Item = Spec;
 
-    ghost next_gives = { λ s r t. YieldsFirst (λ e. e.specs) s r t × (t ≡ record s { specs = t.specs }) };
+    ghost next_gives = { λ s r t.
+        YieldsFirst (λ e. e.specs) s r t × (t ≡ record s { specs = t.specs }) };
 
     ghost remaining = { item_count (λ e. e.specs) };
 

@@ -1,6 +1,6 @@
 //! Attribute specifications of a declaration.
 
-ghost use Rattle.std.specs.Prelude.{◌≡◌, false};
+ghost use Rattle.std.specs.Prelude.{◌≡◌, ◌⊎◌, false};
 ghost use Rattle.dwarf_abbrev.specs.Values.{TakesNoBytes};
 
 use crate::constants::{DW_FORM_FLAG_PRESENT, DW_FORM_IMPLICIT_CONST};
@@ -18,11 +18,13 @@ pub struct Spec {
 }
 
 impl Spec {
-    /// Whether a value of this attribute may take bytes of an entry. All forms that this crate doesn't know count among
-    /// those that may.
+    /// Whether a value of this attribute may take bytes of an entry. It is false for `DW_FORM_flag_present` and
+    /// `DW_FORM_implicit_const` alone, so a form that this crate doesn't know counts as one that may take bytes.
     #[tactic(auto, using(crate::proofs::NoBytes::flag_present, crate::proofs::NoBytes::implicit_const))]
     pub fn has_bytes(&self) -> bool
-        ensures { result ≡ false → TakesNoBytes self.now }
+        ensures none { result ≡ false → TakesNoBytes self.now }
+        ensures known { (self.now.form ≡ DW_FORM_FLAG_PRESENT)
+            ⊎ (self.now.form ≡ DW_FORM_IMPLICIT_CONST) → result ≡ false }
     {
         self.form != DW_FORM_FLAG_PRESENT && self.form != DW_FORM_IMPLICIT_CONST
     }

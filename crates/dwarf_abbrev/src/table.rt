@@ -37,7 +37,12 @@ impl<'a> Model for Abbrevs<'a> {
 
     ghost Value = { Table };
 
-    ghost view = { λ a. record { place = place_of a.cursor; len = a.len; declarations = (declarations_from a.cursor).items } };
+    ghost view = { λ a.
+        record {
+          place = place_of a.cursor;
+          len = a.len;
+          declarations = (declarations_from a.cursor).items;
+        } };
 
     ghost invariant = { λ a. IsWhole a.cursor };
 }

@@ -126,7 +126,8 @@ fn layout_of_number(shape: &UnitShape, number: u64) -> Option<Layout>
 /// Reads an indirect value: the number of a form, and then a value of that form.
 #[tactic(auto, unfolding(crate::specs::Values::content_by))]
 fn indirect_content<'a>(cursor: &mut Cursor<'a>, shape: &UnitShape) -> Result<Content<'a>, BadFile>
-    ensures { Reads meaning result cursor.new (content_by shape.now (pos 0) (Some Indirect) cursor.old) }
+    ensures { Reads meaning result cursor.new
+        (content_by shape.now (pos 0) (Some Indirect) cursor.old) }
 {
     let form = uleb_from(cursor)?;
     match layout_of_number(shape, form) {
@@ -143,7 +144,8 @@ fn content_by<'a>(
     shape: &UnitShape,
 ) -> Result<Content<'a>, BadFile>
     ensures { Reads meaning result cursor.new
-        (content_by shape.now spec.now.constant (layout_of_number shape.now spec.now.form) cursor.old) }
+        (content_by shape.now spec.now.constant (layout_of_number shape.now spec.now.form)
+        cursor.old) }
 {
     match layout_of_number(shape, spec.form) {
         None => unknown_form(cursor),

@@ -1,3 +1,4 @@
+pub mod Codes
 pub mod Indexes
 pub mod KnownLabels
 pub mod KnownRanges

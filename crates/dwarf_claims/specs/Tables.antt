@@ -1,29 +1,25 @@
 -- What is kept while units are read, and that it is the same as if it were read again.
-use Rattle.std.specs.Prelude.{◌≡◌, ℕ, ◌+◌, ◌≤◌, All, List, [], ◌∷◌, map, Option, None, Some, Ok, IfSome}
+use Rattle.std.specs.Prelude.{◌≡◌, ℕ, ◌+◌, ◌≤◌, All, List, [], ◌∷◌, map, Option, None, Some, Ok}
 use Rattle.size_model.specs.declared.view.LabelledClaim.{LabelledClaim}
 use Rattle.claim_sheet.specs.Known.{AreAdded, IsKnown}
 use Rattle.claim_sheet.specs.Sheets.{Sheet}
 use Rattle.dwarf_abbrev.specs.Declarations.{table_at}
 use Rattle.dwarf_units.specs.declared.sections.Sections.{Sections}
-use Rattle.dwarf_units.specs.Filling.{IsIndexOf}
 use Rattle.dwarf_claims.specs.declared.last_program.LastProgram.{LastProgram}
 use Rattle.dwarf_claims.specs.declared.lines.LastRead.{LastRead}
 use Rattle.dwarf_claims.specs.declared.table.LastTable.{LastTable}
 use Rattle.dwarf_claims.specs.declared.table.LastTables.{LastTables}
 use Rattle.dwarf_claims.specs.declared.known.KnownUnit.{KnownUnit}
 use Rattle.dwarf_claims.specs.declared.unit.LastUnit.{LastUnit}
+use Rattle.dwarf_claims.specs.Codes.{IsKnownOf}
 use Rattle.dwarf_claims.specs.KnownRanges.{AreRangesOf}
 use Rattle.dwarf_claims.specs.KnownLabels.{IsLabelOf}
 use Rattle.dwarf_claims.specs.LineClaims.{reading_at}
 
--- The index of a table, if it has one, is of its declarations.
-abbrev pub HasIndex : LastTable → Type 0
-HasIndex t = IfSome t.index (λ index. IsIndexOf t.table.declarations index)
-
 -- A table of abbreviations is the one at its offset in `.debug_abbrev`.
 pub record IsReadTable (s : Sections) (t : LastTable) : Type 0 where
   pub table : (place : ℕ) → table_at s.abbrev t.offset place ≡ Ok t.table
-  pub index : HasIndex t
+  pub known : IsKnownOf t.table.declarations t.known
 
 -- The same, if a table is kept.
 abbrev pub IsTableOf : Sections → Option LastTable → Type 0

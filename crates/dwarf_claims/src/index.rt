@@ -44,9 +44,9 @@ fn add_spec(needed: &mut Needed, spec: Spec) -> Result<(), NoMemory>
     Ok(())
 }
 
-// Returns the attributes of a declaration that its roots depend on.
+/// Returns the attributes of a declaration that its roots depend on.
 #[tactic(auto, using(crate::proofs::IndexLemmas::same_none, crate::proofs::IndexLemmas::same_goes, crate::proofs::IndexLemmas::same_ends, crate::proofs::IndexLemmas::among_none))]
-fn needed_specs(alloc: Global, declared: Entry<'_>) -> Result<Vec<Spec>, NoMemory>
+pub fn needed_specs(alloc: Global, declared: Entry<'_>) -> Result<Vec<Spec>, NoMemory>
     ensures { IfOk result (λ v. GiveSameRoots v.items declared.entry.specs) }
 {
     let mut needed = Needed {

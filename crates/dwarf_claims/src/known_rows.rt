@@ -56,7 +56,8 @@ impl KnownRows {
     /// Returns the position of a claim that has the label of a row, if one is known.
     pub fn claim_of(&self, row: &LineRow) -> Option<usize>
         ensures { (made : List LabelledClaim) (h : LineHeader)
-            → AreKnownRows made h self.now.rows.items → IsKnownBy made (row_label h row.now) result }
+            → AreKnownRows made h self.now.rows.items
+            → IsKnownBy made (row_label h row.now) result }
     {
         let slot = slot_of(row);
         if slot >= self.rows.len() {

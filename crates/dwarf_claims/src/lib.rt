@@ -4,6 +4,7 @@
 
 mod index;
 mod known;
+mod known_codes;
 mod known_rows;
 mod label;
 mod last_label;

@@ -1,53 +1,81 @@
 //! Reading the roots of units in a row. Many units share a table of abbreviations (DWARF 5, section 7.5.3), so the last
-//! tables are kept. A table that a second unit uses gets an index.
+//! tables are kept. Of a table that a second unit uses, the code of that unit is kept, too. If another unit has another
+//! code, the table gets an index.
 
 ghost use Rattle.std.specs.Prelude.{◌≡◌, Ok, Err, IfOk, IsErrOf};
 ghost use Rattle.size_core.specs.declared.fault.BadFile.{BadFile as BadFileSpec};
 ghost use Rattle.size_core.specs.Checks.{Gives};
 ghost use Rattle.dwarf_units.specs.declared.sections.Sections.{Sections as SectionsSpec};
+ghost use Rattle.dwarf_units.specs.Filling.{code_of};
 ghost use Rattle.dwarf_units.specs.Roots.{root_in, root_of, shown_root};
-ghost use Rattle.dwarf_claims.specs.Tables.{AreTablesOf, HasIndex, IsReadTable, IsTableOf};
+ghost use Rattle.dwarf_claims.specs.Codes.{IsKnownOf};
+ghost use Rattle.dwarf_claims.specs.Tables.{AreTablesOf, IsReadTable, IsTableOf};
 
-use crate::index::index_of;
+use crate::known_codes::{KnownCode, KnownCodes, is_code};
 use claim_sheet::Stop;
-use dwarf_abbrev::{Abbrevs, Spec};
+use dwarf_abbrev::Abbrevs;
 use dwarf_units::{DwarfUnit, Root, Sections};
 use size_core::{BadFile, NoMemory};
 use std::alloc::Global;
-use std::collections::BTreeMap;
 use std::mem::swap;
 
-/// A table of abbreviations, with its offset in `.debug_abbrev`, and its index if it has one.
+/// A table of abbreviations, with its offset in `.debug_abbrev`, and what is known of its declarations.
 #[derive(Drop)]
 pub struct LastTable<'a> {
     pub offset: u64,
     pub table: Abbrevs<'a>,
-    pub index: Option<BTreeMap<u64, Vec<Spec>>>,
+    pub known: KnownCodes,
 }
 
-// Makes the index of a table that has none.
-fn add_index(alloc: Global, last: &mut LastTable<'_>) -> Result<(), NoMemory>
-    requires { HasIndex last.old }
-    ensures index { HasIndex last.new }
+// Makes the declaration of a code known for one more unit, if there is a code and its declaration isn't known.
+fn know(alloc: Global, code: Option<u64>, last: &mut LastTable<'_>) -> Result<(), NoMemory>
+    requires { IsKnownOf last.old.table.declarations last.old.known }
+    ensures known { IsKnownOf last.new.table.declarations last.new.known }
     ensures table { last.new.table ≡ last.old.table }
     ensures offset { last.new.offset ≡ last.old.offset }
 {
-    if last.index.is_some() {
+    let Some(code) = code else {
+        return Ok(());
+    };
+    if last.known.has(code) {
         return Ok(());
     }
-    let index = index_of(alloc, &last.table)?;
-    last.index = Some(index);
+    let known = last.known.with(alloc, &last.table, code)?;
+    last.known = known;
     Ok(())
 }
 
-// Returns the root of a unit of a table.
-fn root_by_index<'a>(unit: &DwarfUnit<'a>, last: &LastTable<'a>) -> Result<Root<'a>, BadFile>
-    requires { HasIndex last.now }
+// Returns the root of a unit of a table, if one code of the table is known.
+fn root_by_one<'a>(
+    unit: &DwarfUnit<'a>,
+    code: Option<u64>,
+    table: &Abbrevs<'a>,
+    known: &KnownCode,
+) -> Result<Root<'a>, BadFile>
+    requires code { code ≡ code_of unit.now }
+    requires known { IsKnownOf table.now.declarations (KnownCodes.One known.now) }
+    ensures { Gives shown_root result (root_in table.now unit.now) }
+{
+    if is_code(code, known.code) {
+        return unit.root_with(table, &known.specs);
+    }
+    unit.root_in(table)
+}
+
+// Returns the root of a unit of a table, whose root has this code.
+fn root_by_known<'a>(
+    unit: &DwarfUnit<'a>,
+    code: Option<u64>,
+    last: &LastTable<'a>,
+) -> Result<Root<'a>, BadFile>
+    requires code { code ≡ code_of unit.now }
+    requires known { IsKnownOf last.now.table.declarations last.now.known }
     ensures { Gives shown_root result (root_in last.now.table unit.now) }
 {
-    match &last.index {
-        Some(index) => unit.root_by(&last.table, index),
-        None => unit.root_in(&last.table),
+    match &last.known {
+        KnownCodes::Nothing => unit.root_in(&last.table),
+        KnownCodes::One(known) => root_by_one(unit, code, &last.table, known),
+        KnownCodes::Index(index) => unit.root_by(&last.table, index),
     }
 }
 
@@ -57,14 +85,15 @@ fn root_again<'a>(
     unit: &DwarfUnit<'a>,
     last: &mut LastTable<'a>,
 ) -> Result<Root<'a>, Stop>
-    requires { HasIndex last.old }
+    requires { IsKnownOf last.old.table.declarations last.old.known }
     ensures made { IfOk result (λ r. root_in last.old.table unit.now ≡ Ok (shown_root r)) }
     ensures bad { (bad : BadFileSpec) → IsErrOf result (Stop.Bad bad)
         → root_in last.old.table unit.now ≡ Err bad }
     ensures table { (s : SectionsSpec) → IsReadTable s last.old → IsReadTable s last.new }
 {
-    add_index(alloc, last)?;
-    let root = root_by_index(unit, last)?;
+    let code = unit.code();
+    know(alloc, code, last)?;
+    let root = root_by_known(unit, code, last)?;
     Ok(root)
 }
 
@@ -114,7 +143,7 @@ fn root_by_last<'a>(
     *last = Some(LastTable {
         offset: unit.abbrev_offset,
         table,
-        index: None,
+        known: KnownCodes::Nothing,
     });
     Ok(root?)
 }

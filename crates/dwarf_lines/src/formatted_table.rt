@@ -45,7 +45,8 @@ fn pair(cursor: &mut Cursor) -> Result<Spec, BadFile>
 /// Skips `count` pairs.
 #[tactic(auto, using(crate::proofs::TableLemmas::pass_bad, crate::proofs::TableLemmas::pass_end, crate::proofs::TableLemmas::pass_more))]
 fn pass_pairs(count: u8, cursor: &mut Cursor) -> Result<(), BadFile>
-    ensures { Reads (λ u. u) result cursor.new (passed_over (many_from pair_from count cursor.old)) }
+    ensures { Reads (λ u. u) result cursor.new
+        (passed_over (many_from pair_from count cursor.old)) }
 {
     for i in 0..count {
         let _pair = pair(cursor)?;
@@ -67,7 +68,8 @@ fn first_of_content<'a>(
     value: Value<'a>,
 ) -> Option<Value<'a>>
     ensures { option_map value_shown result
-        ≡ held_first (option_map value_shown held.entry) (if is_content then Some (value_shown value.entry) else None) }
+        ≡ held_first (option_map value_shown held.entry)
+        (if is_content then Some (value_shown value.entry) else None) }
 {
     match held {
         Some(held) => Some(held),
@@ -116,7 +118,12 @@ impl<'a> Model for Format<'a> {
 
     ghost Value = { Format };
 
-    ghost view = { λ f. record { sections = f.sections; shape = f.shape; pairs = items_of (many_from pair_from f.count f.pairs) } };
+    ghost view = { λ f.
+        record {
+          sections = f.sections;
+          shape = f.shape;
+          pairs = items_of (many_from pair_from f.count f.pairs);
+        } };
 
     ghost invariant = { λ f. is_ok (many_from pair_from f.count f.pairs) ≡ true };
 }
@@ -174,7 +181,8 @@ impl<'a> Format<'a> {
 /// Skips `count` entries.
 #[tactic(auto, using(crate::proofs::TableLemmas::pass_bad, crate::proofs::TableLemmas::pass_end, crate::proofs::TableLemmas::pass_more))]
 fn pass_entries<'a>(format: &Format<'a>, count: u64, cursor: &mut Cursor<'a>) -> Result<(), BadFile>
-    ensures { Reads (λ u. u) result cursor.new (passed_over (many_from (formatted_entry format.now) count cursor.old)) }
+    ensures { Reads (λ u. u) result cursor.new
+        (passed_over (many_from (formatted_entry format.now) count cursor.old)) }
 {
     for i in 0..count {
         let _entry = format.entry(cursor)?;
@@ -245,12 +253,15 @@ impl<'a> Model for FormattedTable<'a> {
 
     ghost view = { λ t. items_of (many_from (formatted_entry t.format) t.count t.entries) };
 
-    ghost invariant = { λ t. is_ok (many_from (formatted_entry t.format) t.count t.entries) ≡ true };
+    ghost invariant = { λ t.
+        is_ok (many_from (formatted_entry t.format) t.count t.entries) ≡ true };
 }
 
 /// Checks that there aren't more entries than bytes.
 fn can_have(count: u64, cursor: &Cursor) -> Result<(), BadFile>
-    ensures { result ≡ demand (nat_le count (length cursor.now.bytes - cursor.now.at)) Truncated (place_of cursor.now) }
+    ensures { result
+        ≡ demand (nat_le count (length cursor.now.bytes - cursor.now.at)) Truncated
+        (place_of cursor.now) }
 {
     if count > cursor.left() {
         return Err(BadFile {
@@ -269,7 +280,8 @@ impl<'a> FormattedTable<'a> {
         count: u64,
         cursor: &mut Cursor<'a>,
     ) -> Result<FormattedTable<'a>, BadFile>
-        ensures { Reads (λ t. t) result cursor.new (many_from (formatted_entry format.entry) count cursor.old) }
+        ensures { Reads (λ t. t) result cursor.new
+            (many_from (formatted_entry format.entry) count cursor.old) }
     {
         let entries = cursor.fork();
         pass_entries(&format, count, cursor)?;
@@ -287,7 +299,8 @@ impl<'a> FormattedTable<'a> {
         shape: &UnitShape,
         cursor: &mut Cursor<'a>,
     ) -> Result<FormattedTable<'a>, BadFile>
-        ensures { Reads (λ t. t) result cursor.new (formatted_table sections.now shape.now cursor.old) }
+        ensures { Reads (λ t. t) result cursor.new
+            (formatted_table sections.now shape.now cursor.old) }
     {
         let format = Format::read(sections, shape, cursor)?;
         let count = uleb_from(cursor)?;

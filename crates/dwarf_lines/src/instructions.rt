@@ -60,9 +60,11 @@ fn extended_instruction_of(
 /// Reads an extended instruction, after its first byte.
 #[tactic(auto, unfolding(crate::specs::Instructions::extended_instruction))]
 fn extended_instruction(encoding: &LineEncoding, cursor: &mut Cursor) -> Option<Instruction>
-    ensures value { result ≡ value_of (extended_instruction encoding.now cursor.old.bytes cursor.old.at) }
+    ensures value { result
+        ≡ value_of (extended_instruction encoding.now cursor.old.bytes cursor.old.at) }
     ensures after { OnSome result (cursor.new
-        ≡ moved cursor.old true (leb_len (extended_instruction encoding.now cursor.old.bytes cursor.old.at))) }
+        ≡ moved cursor.old true
+        (leb_len (extended_instruction encoding.now cursor.old.bytes cursor.old.at))) }
 {
     let size = unsigned(cursor)?;
     if size == 0 || cursor.left() < size {
@@ -89,9 +91,11 @@ fn standard_instruction(
     cursor: &mut Cursor,
     order: Order,
 ) -> Option<Instruction>
-    ensures value { result ≡ value_of (standard_instruction order cursor.old.bytes opcode count cursor.old.at) }
+    ensures value { result
+        ≡ value_of (standard_instruction order cursor.old.bytes opcode count cursor.old.at) }
     ensures after { OnSome result (cursor.new
-        ≡ moved cursor.old true (leb_len (standard_instruction order cursor.old.bytes opcode count cursor.old.at))) }
+        ≡ moved cursor.old true
+        (leb_len (standard_instruction order cursor.old.bytes opcode count cursor.old.at))) }
 {
     Some(match opcode {
         DW_LNS_COPY => Instruction::CopyRow,
@@ -122,9 +126,11 @@ fn operands(
     cursor: &mut Cursor,
 ) -> Option<Instruction>
     requires { HasLengths encoding.now lengths.now }
-    ensures value { result ≡ value_of (operands encoding.now lengths.now cursor.old.bytes opcode cursor.old.at) }
+    ensures value { result
+        ≡ value_of (operands encoding.now lengths.now cursor.old.bytes opcode cursor.old.at) }
     ensures after { OnSome result (cursor.new
-        ≡ moved cursor.old true (leb_len (operands encoding.now lengths.now cursor.old.bytes opcode cursor.old.at))) }
+        ≡ moved cursor.old true
+        (leb_len (operands encoding.now lengths.now cursor.old.bytes opcode cursor.old.at))) }
 {
     if opcode >= encoding.opcode_base {
         return Some(Instruction::Special(opcode - encoding.opcode_base));
@@ -143,9 +149,10 @@ fn opcode_and_operands(
     cursor: &mut Cursor,
 ) -> Option<Instruction>
     requires { HasLengths encoding.now lengths.now }
-    ensures value { result ≡ value_of (instruction_at encoding.now lengths.now cursor.old.bytes cursor.old.at) }
-    ensures after { OnSome result
-        (IsAt cursor.old (instruction_at encoding.now lengths.now cursor.old.bytes cursor.old.at) cursor.new) }
+    ensures value { result
+        ≡ value_of (instruction_at encoding.now lengths.now cursor.old.bytes cursor.old.at) }
+    ensures after { OnSome result (IsAt cursor.old
+        (instruction_at encoding.now lengths.now cursor.old.bytes cursor.old.at) cursor.new) }
 {
     let opcode = cursor.u8().ok()?;
     operands(encoding, lengths, opcode, cursor)
@@ -159,7 +166,8 @@ pub fn instruction(
 ) -> Result<Instruction, BadFile>
     requires { HasLengths encoding.now lengths.now }
     ensures { MatchResult result
-        (λ i. Found (instruction_at encoding.now lengths.now cursor.old.bytes cursor.old.at) cursor.old i cursor.new)
+        (λ i. Found (instruction_at encoding.now lengths.now cursor.old.bytes cursor.old.at)
+        cursor.old i cursor.new)
         (λ e. IsUnreadable encoding.now lengths.now cursor.old e) }
 {
     let place = cursor.place();

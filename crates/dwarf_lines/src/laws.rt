@@ -9,11 +9,13 @@ ghost use Rattle.dwarf_lines.specs.declared.constants.TheConstants.{EXTENDED_OPC
 /// one form that isn't allowed in line programs (section 7.5.6, table 7.6). The parts of a path are joined by
 /// `/`.
 pub fn standard_numbers()
-    ensures standard { (DW_LNS_COPY ∷ DW_LNS_ADVANCE_PC ∷ DW_LNS_ADVANCE_LINE ∷ DW_LNS_SET_FILE ∷ DW_LNS_SET_COLUMN
-        ∷ DW_LNS_NEGATE_STMT ∷ DW_LNS_SET_BASIC_BLOCK ∷ DW_LNS_CONST_ADD_PC ∷ DW_LNS_FIXED_ADVANCE_PC
-        ∷ DW_LNS_SET_PROLOGUE_END ∷ DW_LNS_SET_EPILOGUE_BEGIN ∷ DW_LNS_SET_ISA ∷ [])
+    ensures standard { (DW_LNS_COPY ∷ DW_LNS_ADVANCE_PC ∷ DW_LNS_ADVANCE_LINE ∷ DW_LNS_SET_FILE
+        ∷ DW_LNS_SET_COLUMN ∷ DW_LNS_NEGATE_STMT ∷ DW_LNS_SET_BASIC_BLOCK ∷ DW_LNS_CONST_ADD_PC
+        ∷ DW_LNS_FIXED_ADVANCE_PC ∷ DW_LNS_SET_PROLOGUE_END ∷ DW_LNS_SET_EPILOGUE_BEGIN
+        ∷ DW_LNS_SET_ISA ∷ [])
         ≡ (1 ∷ 2 ∷ 3 ∷ 4 ∷ 5 ∷ 6 ∷ 7 ∷ 8 ∷ 9 ∷ 10 ∷ 11 ∷ 12 ∷ []) }
-    ensures extended { (EXTENDED_OPCODE ∷ DW_LNE_END_SEQUENCE ∷ DW_LNE_SET_ADDRESS ∷ []) ≡ (0 ∷ 1 ∷ 2 ∷ []) }
+    ensures extended { (EXTENDED_OPCODE ∷ DW_LNE_END_SEQUENCE ∷ DW_LNE_SET_ADDRESS ∷ [])
+        ≡ (0 ∷ 1 ∷ 2 ∷ []) }
     ensures contents { (DW_LNCT_PATH ∷ DW_LNCT_DIRECTORY_INDEX ∷ []) ≡ (1 ∷ 2 ∷ []) }
     ensures forms { DW_FORM_IMPLICIT_CONST ≡ 0x21 }
     ensures slash { SLASH ≡ 47 }

@@ -36,7 +36,8 @@ pub fn name_of<'a>(
     shape: &UnitShape,
     value: Option<Value<'a>>,
 ) -> Result<&'a [u8], BadFile>
-    ensures { Gives (λ t. t.now) result (name_of sections.now shape.now (option_map shown value.entry)) }
+    ensures { Gives (λ t. t.now) result
+        (name_of sections.now shape.now (option_map shown value.entry)) }
 {
     let Some(value) = value else {
         return Ok(&[]);

@@ -16,7 +16,8 @@ use std::marker::Model;
 /// Reads the directory number of a file, and skips the file's time and length.
 #[tactic(auto, unfolding(crate::specs::PlainTables::numbers_from))]
 fn directory_number(kind: TableKind, name: &[u8], cursor: &mut Cursor) -> Result<u64, BadFile>
-    ensures { Reads (λ n. n) result cursor.new (numbers_from kind (length name.now == 0) cursor.old) }
+    ensures { Reads (λ n. n) result cursor.new
+        (numbers_from kind (length name.now == 0) cursor.old) }
 {
     if name.is_empty() {
         return Ok(0);

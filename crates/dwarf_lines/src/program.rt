@@ -97,7 +97,8 @@ fn append(out: &mut Vec<u8>, bytes: &[u8]) -> Result<(), NoMemory>
 
 /// Appends a directory, a slash and a name. On an error some of these may have been appended.
 fn append_parts(out: &mut Vec<u8>, directory: &[u8], name: &[u8]) -> Result<(), NoMemory>
-    ensures ok { OnOk result (out.new.items ≡ out.old.items ++ (directory.now ++ SLASH ∷ name.now)) }
+    ensures ok { OnOk result (out.new.items
+        ≡ out.old.items ++ (directory.now ++ SLASH ∷ name.now)) }
     ensures kept { take (vec_len out.old) out.new.items ≡ out.old.items }
 {
     append(out, directory)?;
@@ -107,7 +108,8 @@ fn append_parts(out: &mut Vec<u8>, directory: &[u8], name: &[u8]) -> Result<(), 
 
 /// Appends a directory, a slash and a name. On an error `out` is unchanged.
 fn append_both(out: &mut Vec<u8>, directory: &[u8], name: &[u8]) -> Result<(), NoMemory>
-    ensures ok { OnOk result (out.new.items ≡ out.old.items ++ (directory.now ++ SLASH ∷ name.now)) }
+    ensures ok { OnOk result (out.new.items
+        ≡ out.old.items ++ (directory.now ++ SLASH ∷ name.now)) }
     ensures err { OnErr result (out.new.items ≡ out.old.items) }
 {
     let len = out.len();

@@ -49,7 +49,8 @@ impl<'a> Table<'a> {
         kind: TableKind,
         cursor: &mut Cursor<'a>,
     ) -> Result<Table<'a>, BadFile>
-        ensures { Reads entries result cursor.new (table_from sections.now shape.now kind cursor.old) }
+        ensures { Reads entries result cursor.new
+            (table_from sections.now shape.now kind cursor.old) }
     {
         if shape.version < 5 {
             Ok(Table::Plain(PlainTable::read(kind, cursor)?))

@@ -11,13 +11,13 @@ use Rattle.dwarf_ranges.specs.Claims.{claims_nothing}
 use Rattle.dwarf_ranges.specs.Keys.{listed}
 use Rattle.dwarf_ranges.specs.Lists.{list_of}
 
--- An item after which the list goes on, and which claims nothing (DWARF 5, section 2.17.3).
+-- An item after which the list continues, and which claims nothing (DWARF 5, section 2.17.3).
 abbrev pub is_nothing : ℕ → ListItem → Bool
 is_nothing size ListItem.End = false
 is_nothing size (ListItem.Base other) = true
 is_nothing size (ListItem.Range start len) = claims_nothing size start len
 
--- The item claims nothing, and the list goes on like this. Nothing is known without an answer.
+-- The item claims nothing, and the list continues like this. Nothing is known without an answer.
 abbrev pub AddsNothing : ℕ → Option Hollow → ListItem → Type 0
 AddsNothing size None item = Unit {0}
 AddsNothing size (Some Hollow.End) item = item ≡ ListItem.End

@@ -12,7 +12,7 @@ use byte_cursor::{Cursor, Order};
 use dwarf_abbrev::UnitShape;
 use dwarf_units::Sections;
 
-/// How a list goes on after an entry that claims nothing, whatever the base is.
+/// How a list continues after an entry that claims nothing, whatever the base is.
 #[derive(Clone, Copy)]
 pub enum Hollow {
     /// The entry ends the list.
@@ -28,7 +28,7 @@ fn more_if(is_nothing: bool) -> Option<Hollow>
     if is_nothing { Some(Hollow::More) } else { None }
 }
 
-// Returns how a list goes on after a pair of `.debug_ranges`. None if it may claim something.
+// Returns how a list continues after a pair of `.debug_ranges`. None if it may claim something.
 #[tactic(auto, using(crate::proofs::HollowLemmas::equal_offsets))]
 fn after_pair(size: u8, begin: u64, end: u64) -> Option<Hollow>
     ensures { (base : ℕ) → AddsNothing size result (pair_item size base begin end) }
@@ -39,7 +39,7 @@ fn after_pair(size: u8, begin: u64, end: u64) -> Option<Hollow>
     more_if(begin == end || begin == greatest(size))
 }
 
-// Returns how a list goes on after an entry of DWARF 5. None if it may claim something, or needs `.debug_addr`.
+// Returns how a list continues after an entry of DWARF 5. None if it may claim something, or needs `.debug_addr`.
 fn after_entry(shape: &UnitShape, entry: Entry) -> Option<Hollow>
     ensures { (s : SectionsSpec) (table place base : ℕ)
         → GivesNothing shape.now.address result (item_of s shape.now table place base entry) }
@@ -78,7 +78,7 @@ fn hollow_entry(cursor: &mut Cursor, sections: &Sections, shape: &UnitShape) -> 
     }
 }
 
-// Reads an item of a range list, and returns how the list goes on. None if the item may claim something, depends on
+// Reads an item of a range list, and returns how the list continues. None if the item may claim something, depends on
 // `.debug_addr`, or has a fault.
 fn hollow_item(cursor: &mut Cursor, sections: &Sections, shape: &UnitShape) -> Option<Hollow>
     ensures { (table base : ℕ) → ReadsNothing shape.now.address result
@@ -91,8 +91,8 @@ fn hollow_item(cursor: &mut Cursor, sections: &Sections, shape: &UnitShape) -> O
     }
 }
 
-/// Returns whether the list at the cursor has no fault and no range that claims something, whatever the first base and
-/// the table of addresses are.
+/// Returns true only if the list at the cursor has no fault and no range that claims something, whatever the first base
+/// and the table of addresses are.
 pub fn is_hollow_list(sections: &Sections, shape: &UnitShape, mut cursor: Cursor) -> bool
     ensures { result ≡ true → IsHollowList sections.now shape.now cursor.entry }
 {

@@ -24,6 +24,17 @@ pub enum ListItem {
     Range(u64, u64),
 }
 
+/// What the entries of a unit's range list depend on, beside the list.
+#[derive(Clone, Copy)]
+pub struct ListUnit<'s, 'a> {
+    /// The debug sections.
+    pub sections: &'s Sections<'a>,
+    /// The format of the unit's values.
+    pub shape: UnitShape,
+    /// The offset of the unit's table of addresses in `.debug_addr`.
+    pub table: u64,
+}
+
 /// The range from a start to an end.
 fn range_between(start: u64, end: u64) -> ListItem
     ensures { result ≡ range_between start end }
@@ -31,22 +42,17 @@ fn range_between(start: u64, end: u64) -> ListItem
     ListItem::Range(start, end.saturating_sub(start))
 }
 
-/// The address at an index of the unit's table in `.debug_addr`, which begins at `table`.
+/// The address at an index of the unit's table in `.debug_addr`.
 #[tactic(auto, unfolding(dwarf_units::specs::Strings::address_by))]
-fn address_at(
-    sections: &Sections,
-    shape: &UnitShape,
-    table: u64,
-    index: u64,
-    place: u64,
-) -> Result<u64, BadFile>
-    ensures { result ≡ address_at sections.now shape.now table index place }
+fn address_at(unit: ListUnit<'_, '_>, index: u64, place: u64) -> Result<u64, BadFile>
+    ensures { result ≡ address_at unit.entry.sections.now unit.entry.shape unit.entry.table
+        index place }
 {
     let value = Value {
         place,
         content: Content::AddrIndex(index),
     };
-    match address_by(&value, shape, table, sections) {
+    match address_by(&value, &unit.shape, unit.table, unit.sections) {
         Ok(Some(address)) => Ok(address),
         Ok(None) => Err(BadFile {
             fault: Fault::OffsetOutside,
@@ -58,34 +64,28 @@ fn address_at(
 
 /// What an entry at the file offset `place` means, with this base.
 #[tactic(auto, unfolding(crate::specs::Entries::item_of))]
-fn item_of(
-    sections: &Sections,
-    shape: &UnitShape,
-    table: u64,
-    place: u64,
-    base: u64,
-    entry: Entry,
-) -> Result<ListItem, BadFile>
-    ensures { result ≡ item_of sections.now shape.now table place base entry }
+fn item_of(unit: ListUnit<'_, '_>, place: u64, base: u64, entry: Entry) -> Result<ListItem, BadFile>
+    ensures { result ≡ item_of unit.entry.sections.now unit.entry.shape unit.entry.table
+        place base entry }
 {
     match entry {
         Entry::EndOfList => Ok(ListItem::End),
         Entry::BaseAddressx(index) => {
-            let other = address_at(sections, shape, table, index, place)?;
+            let other = address_at(unit, index, place)?;
             Ok(ListItem::Base(other))
         }
         Entry::StartxEndx(first, second) => {
-            let start = address_at(sections, shape, table, first, place)?;
-            let end = address_at(sections, shape, table, second, place)?;
+            let start = address_at(unit, first, place)?;
+            let end = address_at(unit, second, place)?;
             Ok(range_between(start, end))
         }
         Entry::StartxLength(index, len) => {
-            let start = address_at(sections, shape, table, index, place)?;
+            let start = address_at(unit, index, place)?;
             Ok(ListItem::Range(start, len))
         }
         Entry::OffsetPair(first, second) => {
-            let start = base_sum(shape.address, base, first);
-            let end = base_sum(shape.address, base, second);
+            let start = base_sum(unit.shape.address, base, first);
+            let end = base_sum(unit.shape.address, base, second);
             Ok(range_between(start, end))
         }
         Entry::BaseAddress(other) => Ok(ListItem::Base(other)),
@@ -128,31 +128,30 @@ fn pair_item_from(
 #[tactic(auto, unfolding(crate::specs::Entries::entry_item_from))]
 fn entry_item_from(
     cursor: &mut Cursor,
-    sections: &Sections,
-    shape: &UnitShape,
-    table: u64,
+    unit: ListUnit<'_, '_>,
     base: u64,
 ) -> Result<ListItem, BadFile>
-    ensures { Reads (λ i. i) result cursor.new (entry_item_from sections.now shape.now table base cursor.old) }
+    ensures { Reads (λ i. i) result cursor.new
+        (entry_item_from unit.entry.sections.now unit.entry.shape unit.entry.table
+        base cursor.old) }
 {
     let place = cursor.place();
-    let entry = entry_from(cursor, sections.order, shape.address)?;
-    item_of(sections, shape, table, place, base, entry)
+    let entry = entry_from(cursor, unit.sections.order, unit.shape.address)?;
+    item_of(unit, place, base, entry)
 }
 
 /// Reads an item of a range list: an entry in DWARF 5, a pair of addresses in earlier versions.
 pub fn item_from(
     cursor: &mut Cursor,
-    sections: &Sections,
-    shape: &UnitShape,
-    table: u64,
+    unit: ListUnit<'_, '_>,
     base: u64,
 ) -> Result<ListItem, BadFile>
-    ensures { Reads (λ i. i) result cursor.new (item_from sections.now shape.now table base cursor.old) }
+    ensures { Reads (λ i. i) result cursor.new
+        (item_from unit.entry.sections.now unit.entry.shape unit.entry.table base cursor.old) }
 {
-    if shape.version == 5 {
-        entry_item_from(cursor, sections, shape, table, base)
+    if unit.shape.version == 5 {
+        entry_item_from(cursor, unit, base)
     } else {
-        pair_item_from(cursor, sections.order, shape.address, base)
+        pair_item_from(cursor, unit.sections.order, unit.shape.address, base)
     }
 }

@@ -22,6 +22,15 @@ pub enum ListName {
     Index(u64),
 }
 
+/// A reference of a unit to its range list.
+#[derive(Clone, Copy)]
+pub struct ListReference {
+    /// The file offset of the value that refers to the list.
+    pub place: u64,
+    /// The form of the reference.
+    pub name: ListName,
+}
+
 /// The list that a value of `DW_AT_ranges` refers to. The value is an offset; in DWARF 5 it can also be an
 /// index. DWARF 2 and 3 had no form for offsets, so there it can also be a constant.
 pub fn list_name(version: u16, value: &Value) -> Option<ListName>

@@ -11,8 +11,9 @@ ghost use Rattle.dwarf_ranges.specs.Ranges.{high_of, list_ranges, one_range, ran
 use crate::answer::RangeAnswer;
 use crate::claims::claims_nothing;
 use crate::hollow::is_hollow_list;
+use crate::item::ListUnit;
 use crate::list::list_of;
-use crate::list_location::{ListName, list_at, list_name, lists_header};
+use crate::list_location::{ListName, ListReference, list_at, list_name, lists_header};
 use dwarf_abbrev::{Content, UnitShape, Value};
 use dwarf_units::{Root, Sections, base_or, table_header};
 use size_core::BadFile;
@@ -114,7 +115,8 @@ fn one_range(
     sections: &Sections,
     low: Option<u64>,
 ) -> Result<Vec<(u64, u64)>, RangeAnswer>
-    ensures { MatchResult result (λ v. one_range sections.now (shown_root root.now) low ≡ Ok v.items)
+    ensures { MatchResult result
+        (λ v. one_range sections.now (shown_root root.now) low ≡ Ok v.items)
         (Refuses (one_range sections.now (shown_root root.now) low)) }
 {
     let high = high_of(root, sections)?;
@@ -131,24 +133,23 @@ fn list_ranges(
     root: &Root,
     sections: &Sections,
     low: Option<u64>,
-    place: u64,
-    name: ListName,
+    list: ListReference,
 ) -> Result<Vec<(u64, u64)>, RangeAnswer>
-    ensures { MatchResult result (λ v. list_ranges sections.now (shown_root root.now) low place name ≡ Ok v.items)
-        (Refuses (list_ranges sections.now (shown_root root.now) low place name)) }
+    ensures { MatchResult result
+        (λ v. list_ranges sections.now (shown_root root.now) low list.place list.name
+        ≡ Ok v.items)
+        (Refuses (list_ranges sections.now (shown_root root.now) low list.place list.name)) }
 {
     let wide = root.shape.wide;
     let lists = base_or(&root.list_base, lists_header(wide));
-    let cursor = list_at(sections, &root.shape, lists, place, name)?;
+    let cursor = list_at(sections, &root.shape, lists, list.place, list.name)?;
     let table = base_or(&root.addr_base, table_header(wide));
-    list_of(
-        alloc,
+    let unit = ListUnit {
         sections,
-        &root.shape,
+        shape: root.shape,
         table,
-        low.unwrap_or(0),
-        cursor,
-    )
+    };
+    list_of(alloc, unit, low.unwrap_or(0), cursor)
 }
 
 /// The ranges of a unit, given its first address.
@@ -159,14 +160,22 @@ fn attribute_ranges(
     low: Option<u64>,
 ) -> Result<Vec<(u64, u64)>, RangeAnswer>
     ensures { MatchResult result
-        (λ v. attribute_ranges sections.now (shown_root root.now) low (shown_root root.now).ranges ≡ Ok v.items)
-        (Refuses (attribute_ranges sections.now (shown_root root.now) low (shown_root root.now).ranges)) }
+        (λ v. attribute_ranges sections.now (shown_root root.now) low
+        (shown_root root.now).ranges ≡ Ok v.items)
+        (Refuses (attribute_ranges sections.now (shown_root root.now) low
+        (shown_root root.now).ranges)) }
 {
     let Some(value) = &root.ranges else {
         return one_range(alloc, root, sections, low);
     };
     match list_name(root.shape.version, value) {
-        Some(name) => list_ranges(alloc, root, sections, low, value.place, name),
+        Some(name) => {
+            let list = ListReference {
+                place: value.place,
+                name,
+            };
+            list_ranges(alloc, root, sections, low, list)
+        }
         None => one_range(alloc, root, sections, low),
     }
 }
@@ -203,7 +212,8 @@ pub fn unit_ranges(
     sections: &Sections,
     out: &mut Vec<(u64, u64)>,
 ) -> Result<(), RangeAnswer>
-    ensures added { OnOk result (appended out.old.items (ranges_of sections.now (shown_root root.now))
+    ensures added { OnOk result
+        (appended out.old.items (ranges_of sections.now (shown_root root.now))
         ≡ Ok out.new.items) }
     ensures fault { IfErr result (Refuses (ranges_of sections.now (shown_root root.now))) }
     ensures same { OnErr result (out.new.items ≡ out.old.items) }
@@ -241,14 +251,14 @@ pub fn range_key(root: &Root, sections: &Sections) -> Option<RangeKey>
 }
 
 impl RangeKey {
-    /// Returns whether two keys are the same.
+    /// Returns true only if two keys are the same.
     pub fn is_same(&self, other: &RangeKey) -> bool
         ensures { result ≡ true → self.now ≡ other.now }
     {
         self.name == other.name && self.context == other.context
     }
 
-    /// Returns whether two keys name one list, which units of different bases may do.
+    /// Returns true only if two keys name one list, which units of different bases may do.
     pub fn is_list_of(&self, other: &RangeKey) -> bool
         ensures { result ≡ true → AreOneList self.now other.now }
     {
@@ -257,7 +267,7 @@ impl RangeKey {
             && self.context.shape == other.context.shape
     }
 
-    /// Returns whether the list has no fault and no range that claims something, whatever the first base and the
+    /// Returns true only if the list has no fault and no range that claims something, whatever the first base and the
     /// table of addresses are.
     #[tactic(auto, using(crate::proofs::HollowLemmas::hollow_key))]
     pub fn is_hollow(&self, sections: &Sections) -> bool

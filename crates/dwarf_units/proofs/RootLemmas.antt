@@ -14,7 +14,7 @@ use Rattle.dwarf_abbrev.specs.Reads.{uleb_from}
 use Rattle.dwarf_abbrev.specs.Values.{ValueRecord, value_from}
 use Rattle.dwarf_units.specs.declared.constants.TheConstants.{DW_AT_NAME, DW_AT_STMT_LIST, DW_AT_LOW_PC, DW_AT_HIGH_PC, DW_AT_RANGES, DW_AT_STR_OFFSETS_BASE, DW_AT_ADDR_BASE, DW_AT_RNGLISTS_BASE}
 use Rattle.dwarf_units.specs.declared.unit.DwarfUnit.{DwarfUnit}
-use Rattle.dwarf_units.specs.Filling.{AreRootsOf, slot, with_value, known, filled, filled_from, root_code}
+use Rattle.dwarf_units.specs.Filling.{AreRootsOf, AreSpecsOf, code_in, code_of, slot, with_value, known, filled, filled_from, root_code}
 use Rattle.dwarf_units.specs.Roots.{RootRecord, declared_values, root_in, root_values, root_with, values_from, first_value}
 
 abbrev pub V : Type 0
@@ -161,3 +161,15 @@ module _ (table : Table) (unit : DwarfUnit) where
       by_declaration : (d : Option Declaration) → declared table.declarations n ≡ d → root_in table unit ≡ filled_from unit.shape specs w (root_with unit table [])
       by_declaration None e = absurd (indexed index n None (Some specs) rightly e some)
       by_declaration (Some d) e = root_declared n w d is e ∙ sym (indexed index n (Some d) (Some specs) rightly e some unit.shape w (root_with unit table []) within)
+
+  -- Attributes that give the same roots as the declaration of the code.
+  with_code : (n : ℕ) (w : Window) (specs : List Spec) → AreSpecsOf table.declarations (code_of unit) specs → root_code unit ≡ Ok (Some (n, w)) → AreRootsOf (declared table.declarations n) (Some specs)
+  with_code n w specs given is = subst (λ (r : Result (Option (ℕ × Window)) BadFile). AreSpecsOf table.declarations (code_in r) specs) is given
+
+  pub root_known : (n : ℕ) (w : Window) (specs : List Spec) → AreSpecsOf table.declarations (code_of unit) specs → root_code unit ≡ Ok (Some (n, w)) → w.at ≤ length w.bytes
+      → root_in table unit ≡ filled_from unit.shape specs w (root_with unit table [])
+  root_known n w specs given is within = by_declaration (declared table.declarations n) refl (with_code n w specs given is)
+    where
+      by_declaration : (d : Option Declaration) → declared table.declarations n ≡ d → AreRootsOf d (Some specs) → root_in table unit ≡ filled_from unit.shape specs w (root_with unit table [])
+      by_declaration None e same = absurd same
+      by_declaration (Some d) e same = root_declared n w d is e ∙ sym (same unit.shape w (root_with unit table []) within)

@@ -1,5 +1,5 @@
 -- A root while its values are read: the values known so far, and those that are still to come.
-use Rattle.std.specs.Prelude.{◌≡◌, ◌≤◌, ℕ, ◌==◌, List, length, Option, Some, None, Result, Ok, if◌then◌else◌}
+use Rattle.std.specs.Prelude.{◌≡◌, ◌≤◌, ℕ, ◌==◌, List, length, Option, Some, None, Result, Ok, Err, if◌then◌else◌}
 use Rattle.std.specs.BTreeMap.{BTreeMap, get}
 use Rattle.std.specs.Global.{Vec}
 use Rattle.std.specs.Option.{option_map}
@@ -89,3 +89,18 @@ specs_at index code = option_map (λ v. v.items) (get nat_cmp index code)
 -- An index of declarations: for the code of each, attributes that give the same roots as its own.
 abbrev pub IsIndexOf : List Declaration → BTreeMap ℕ (Vec Spec) → Type 0
 IsIndexOf declarations index = (code : ℕ) → AreRootsOf (declared declarations code) (specs_at index code)
+
+-- The code of a root, if it has one that can be read.
+abbrev pub code_in : Result (Option (ℕ × Window)) BadFile → Option ℕ
+code_in (Err bad) = None
+code_in (Ok None) = None
+code_in (Ok (Some code)) = Some code.0
+
+-- The code of a unit's root, if it has one that can be read.
+abbrev pub code_of : DwarfUnit → Option ℕ
+code_of unit = code_in (root_code unit)
+
+-- These attributes give the same roots as those that the declarations have for a code, if there is a code.
+abbrev pub AreSpecsOf : List Declaration → Option ℕ → List Spec → Type 0
+AreSpecsOf declarations None specs = Unit {0}
+AreSpecsOf declarations (Some code) specs = AreRootsOf (declared declarations code) (Some specs)

@@ -73,7 +73,7 @@ pub fn add_value<'a>(root: &mut Root<'a>, attribute: u64, value: Value<'a>)
     }
 }
 
-/// Whether a root has a value of this attribute.
+/// False only if a root has no value of this attribute.
 pub fn is_read(attribute: u64) -> bool
     ensures { result ≡ false → IsUnread attribute }
 {

@@ -3,7 +3,7 @@
 ghost use Rattle.std.specs.Prelude.{◌≡◌, []};
 ghost use Rattle.size_core.specs.Checks.{Gives, bad};
 ghost use Rattle.size_core.specs.declared.fault.Fault.TheVariants.{BadAbbrev};
-ghost use Rattle.dwarf_units.specs.Filling.{IsIndexOf, filled_from, root_code};
+ghost use Rattle.dwarf_units.specs.Filling.{AreSpecsOf, IsIndexOf, code_of, filled_from, root_code};
 ghost use Rattle.dwarf_units.specs.Roots.{root_in, root_of, root_with, shown_root};
 
 use crate::root::{Root, add_value};
@@ -116,6 +116,30 @@ impl<'a> DwarfUnit<'a> {
             Some(declared) => read_values(declared, &self.shape, cursor, root),
             None => undeclared(self.place),
         }
+    }
+
+    /// The code of the unit's root. `None` if the root has no values, or if its code can't be read.
+    pub fn code(&self) -> Option<u64>
+        ensures { result ≡ code_of self.now }
+    {
+        match root_code(self) {
+            Ok(Some((code, _))) => Some(code),
+            Ok(None) | Err(_) => None,
+        }
+    }
+
+    /// The same root, by attributes that give the same roots as those of the declaration of the root's code. Units of
+    /// one code need them found only once.
+    #[tactic(auto, using(crate::proofs::RootLemmas::root_none, crate::proofs::RootLemmas::root_bad, crate::proofs::RootLemmas::root_known))]
+    pub fn root_with(&self, table: &Abbrevs<'a>, specs: &[Spec]) -> Result<Root<'a>, BadFile>
+        requires { AreSpecsOf table.now.declarations (code_of self.now) specs.now }
+        ensures { Gives shown_root result (root_in table.now self.now) }
+    {
+        let root = bare_root(self, table);
+        let Some((_, cursor)) = root_code(self)? else {
+            return Ok(root);
+        };
+        read_listed(specs, &self.shape, cursor, root)
     }
 
     /// The same root, by an index of the table. For each code that the table declares, the index has attributes that

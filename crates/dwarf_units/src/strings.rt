@@ -210,7 +210,8 @@ pub fn address_by(
     base: u64,
     sections: &Sections,
 ) -> Result<Option<u64>, BadFile>
-    ensures { result ≡ address_by sections.now shape.now base value.now.place (meaning value.now.content) }
+    ensures { result
+        ≡ address_by sections.now shape.now base value.now.place (meaning value.now.content) }
 {
     match value.content {
         Content::Address(address) => Ok(Some(address)),

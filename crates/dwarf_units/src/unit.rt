@@ -67,7 +67,8 @@ fn bad_unit<'a>(place: u64) -> Result<Option<DwarfUnit<'a>>, BadFile>
 
 /// The position of a unit. Its length is that of the length field and the contents together.
 fn position_of(start: u64, place: u64, initial: InitialLength, contents: &Cursor) -> Position
-    ensures { (w : Window) → place ≡ place_of w → result ≡ position_of start w initial contents.now }
+    ensures { (w : Window) → place ≡ place_of w
+        → result ≡ position_of start w initial contents.now }
 {
     let length_len = if initial.wide { 12 } else { 4 };
     Position {

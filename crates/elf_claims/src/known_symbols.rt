@@ -4,19 +4,18 @@ ghost use Rattle.std.specs.Prelude.{IfOk, List};
 ghost use Rattle.size_model.specs.declared.view.LabelledClaim.{LabelledClaim};
 ghost use Rattle.elf_claims.specs.KnownSymbols.{AreKnown};
 
-use crate::last_label::LastLabel;
-use claim_sheet::KnownLabel;
+use crate::symbol_names::SymbolNames;
 use elf_file::ElfFile;
 use elf_symbols::NumbersIndex;
 use size_core::NoMemory;
 use std::alloc::Global;
 
 /// What is known of the symbols of a file while they are read: its sections with extended section indexes, and the
-/// label of the symbol that was read last.
+/// labels of the symbols that were read.
 #[derive(Drop)]
 pub struct KnownSymbols<'a> {
     pub numbers: NumbersIndex<'a>,
-    pub last: LastLabel<'a>,
+    pub names: SymbolNames<'a>,
 }
 
 impl<'a> KnownSymbols<'a> {
@@ -25,13 +24,7 @@ impl<'a> KnownSymbols<'a> {
         ensures { IfOk result (λ k. (made : List LabelledClaim) → AreKnown file.now made k) }
     {
         let numbers = NumbersIndex::of(alloc, file)?;
-        let label = KnownLabel {
-            text: b"",
-            claim: None,
-        };
-        Ok(KnownSymbols {
-            numbers,
-            last: LastLabel { name: None, label },
-        })
+        let names = SymbolNames::of(alloc, file);
+        Ok(KnownSymbols { numbers, names })
     }
 }

@@ -6,10 +6,10 @@ mod debug_claims;
 mod dwarf_sections;
 mod headers;
 mod known_symbols;
-mod last_label;
 mod load_claims;
 mod loads;
 mod sections;
+mod symbol_names;
 mod symbols;
 
 pub use debug_claims::{add_lines, add_units};

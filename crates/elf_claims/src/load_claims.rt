@@ -41,7 +41,8 @@ fn append_section_flags(text: &mut Vec<u8>, flags: u64) -> Result<(), NoMemory>
 fn segment_label(alloc: Global, file: &ElfFile<'_>, i: u32) -> Result<Vec<u8>, NoMemory>
     requires { i < segment_count file.now }
     ensures { IfOk result (λ v. v.items
-        ≡ codes "LOAD #" ++ decimal i ++ codes " [" ++ segment_flags (segment_at file.now i).flags ++ codes "]") }
+        ≡ codes "LOAD #" ++ decimal i
+        ++ codes " [" ++ segment_flags (segment_at file.now i).flags ++ codes "]") }
 {
     let mut text = Vec::new(alloc);
     append(&mut text, b"LOAD #")?;

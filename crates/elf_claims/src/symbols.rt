@@ -7,12 +7,12 @@ ghost use Rattle.elf_symbols.specs.Shown.{shown};
 ghost use Rattle.claim_sheet.specs.Adds.{Adds, AddsRead};
 ghost use Rattle.claim_sheet.specs.Known.{IsKnown};
 ghost use Rattle.claim_sheet.specs.Reaches.{claim_on_some};
-ghost use Rattle.elf_claims.specs.KnownSymbols.{AreKnown, IsLastOf};
+ghost use Rattle.elf_claims.specs.KnownSymbols.{AreKnown, AreNamed};
 ghost use Rattle.elf_claims.specs.SymbolClaims.{IsTableType, claims_of_type, has_space, is_data_or_code, is_in_section, names_bytes, symbol_address, symbol_claim, symbol_list, symbol_reach, symbol_space, symbols_claims, tables_claims};
 
 use crate::known_symbols::KnownSymbols;
-use crate::last_label::LastLabel;
 use crate::loads::{has_addresses, is_relocatable};
+use crate::symbol_names::SymbolNames;
 use claim_sheet::{ClaimSheet, KnownLabel, Reach, Stop, span};
 use elf_file::{EM_ARM, ElfFile, SHN_LORESERVE, SHN_XINDEX};
 use elf_symbols::{
@@ -111,19 +111,19 @@ fn add_symbol<'a>(
     file: &ElfFile<'_>,
     table: &SymbolTable<'a>,
     k: u32,
-    last: &mut LastLabel<'a>,
+    names: &mut SymbolNames<'a>,
     sheet: &mut ClaimSheet,
 ) -> Result<(), Stop>
     requires file { table.now.file ≡ file.now }
     requires index { k < symbol_count table.now.file table.now.index }
-    requires last { IsLastOf file.now sheet.old.made last.old }
+    requires names { AreNamed file.now sheet.old.made names.old }
     ensures adds { AddsRead result sheet.old sheet.new
         (symbol_claim file.now table.now.index k) }
-    ensures last { OnOk result (IsLastOf file.now sheet.new.made last.new) }
+    ensures names { OnOk result (AreNamed file.now sheet.new.made names.new) }
 {
-    last.read(table, k)?;
-    let symbol = table.symbol_named(k, last.label.text)?;
-    add_reach(symbol_reach(file, &symbol), &mut last.label, sheet)?;
+    names.read(table, k)?;
+    let symbol = table.symbol_named(k, names.label.text)?;
+    add_reach(symbol_reach(file, &symbol), &mut names.label, sheet)?;
     Ok(())
 }
 
@@ -132,16 +132,16 @@ fn add_symbol<'a>(
 fn add_table_symbols<'a>(
     file: &ElfFile<'_>,
     table: &SymbolTable<'a>,
-    last: &mut LastLabel<'a>,
+    names: &mut SymbolNames<'a>,
     sheet: &mut ClaimSheet,
 ) -> Result<(), Stop>
     requires file { table.now.file ≡ file.now }
-    requires last { IsLastOf file.now sheet.old.made last.old }
+    requires names { AreNamed file.now sheet.old.made names.old }
     ensures adds { AddsRead result sheet.old sheet.new (symbol_list file.now table.now.index) }
-    ensures last { OnOk result (IsLastOf file.now sheet.new.made last.new) }
+    ensures names { OnOk result (AreNamed file.now sheet.new.made names.new) }
 {
     for k in 0..table.len() {
-        add_symbol(file, table, k, last, sheet)?;
+        add_symbol(file, table, k, names, sheet)?;
     }
     Ok(())
 }
@@ -166,7 +166,7 @@ fn add_table<'a>(
         return Ok(());
     }
     let table = SymbolTable::indexed(file, i, &known.numbers)?;
-    add_table_symbols(file, &table, &mut known.last, sheet)
+    add_table_symbols(file, &table, &mut known.names, sheet)
 }
 
 // Adds the claims of the symbol tables of this type, in order.

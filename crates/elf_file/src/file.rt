@@ -12,7 +12,7 @@ ghost use Rattle.elf_file.specs.Shown.{numbers};
 use crate::constants::SHT_NULL;
 use crate::encoding::Encoding;
 use crate::header::ElfHeader;
-use crate::names::{name_of, name_table, names_of, sections_have_names};
+use crate::names::{NameTable, name_of, name_table, names_of, sections_have_names};
 use crate::section::Section;
 use crate::sections::{encoding, section_bytes, section_of_table, section_table, sections_fit};
 use crate::segment::Segment;
@@ -27,8 +27,7 @@ pub struct ElfFile<'a> {
     encoding: Encoding,
     sections: u32,
     segments: u32,
-    name_index: u32,
-    names: &'a [u8],
+    names: NameTable<'a>,
 }
 
 impl<'a> Model for ElfFile<'a> {
@@ -39,7 +38,8 @@ impl<'a> Model for ElfFile<'a> {
 
     ghost view = { λ e. e.file.now };
 
-    ghost invariant = { λ e. IsOpened e.file.now e.encoding e.sections e.segments e.name_index e.names.now };
+    ghost invariant = { λ e.
+        IsOpened e.file.now e.encoding e.sections e.segments e.names.index e.names.bytes.now };
 }
 
 impl<'a> ElfFile<'a> {
@@ -52,23 +52,25 @@ impl<'a> ElfFile<'a> {
     pub fn parse(file: &'a [u8]) -> Result<ElfFile<'a>, BadFile>
         requires { length file.now < 2 ^ 32 }
         ensures file { result ≡ opened file.now }
-        ensures first { MatchResult result (λ _. AllHold (elf_checks file.now)) (IsFirstFault (elf_checks file.now)) }
+        ensures first { MatchResult result
+            (λ _. AllHold (elf_checks file.now))
+            (IsFirstFault (elf_checks file.now)) }
         ensures well_formed { OnOk result (IsWellFormed file.now) }
     {
         let encoding = encoding(file)?;
         let sections = section_table(file, encoding)?;
         let segments = segment_table(file, encoding, sections)?;
-        let name_index = name_table(file, encoding, sections)?;
+        let index = name_table(file, encoding, sections)?;
         sections_fit(file, encoding, sections)?;
-        let names = names_of(file, encoding, sections, name_index);
-        sections_have_names(file, encoding, sections, name_index, names)?;
+        let bytes = names_of(file, encoding, sections, index);
+        let names = NameTable { index, bytes };
+        sections_have_names(file, encoding, sections, names)?;
         segments_fit(file, encoding, segments)?;
         Ok(ElfFile {
             file,
             encoding,
             sections,
             segments,
-            name_index,
             names,
         })
     }
@@ -119,14 +121,7 @@ impl<'a> ElfFile<'a> {
         ensures name { result.name.now ≡ name_of self.now i }
     {
         let header = section_of_table(self.file, self.encoding, self.sections, i);
-        let name = name_of(
-            self.file,
-            self.encoding,
-            self.name_index,
-            self.names,
-            i,
-            header.kind,
-        );
+        let name = name_of(self.file, self.encoding, self.names, i, header.kind);
         Section {
             place: header.place,
             name,

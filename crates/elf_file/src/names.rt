@@ -13,6 +13,13 @@ use crate::sections::{section_bytes, section_of_table, section_place};
 use byte_cursor::text_at;
 use size_core::{BadFile, Fault};
 
+/// The section name table: its number, which is 0 if sections have no names, and its bytes.
+#[derive(Clone, Copy)]
+pub struct NameTable<'a> {
+    pub index: u32,
+    pub bytes: &'a [u8],
+}
+
 /// Returns the number of the section name table, or 0 if sections have no names.
 #[tactic(auto, unfolding(crate::specs::Tables::name_index))]
 fn name_index(file: &[u8], encoding: Encoding, sections: u32) -> u32
@@ -81,21 +88,20 @@ fn section_has_name(
     file: &[u8],
     encoding: Encoding,
     sections: u32,
-    index: u32,
-    names: &[u8],
+    names: NameTable<'_>,
     i: u32,
 ) -> Result<(), BadFile>
     requires table { HasSections file.now encoding sections }
-    requires name_table { HasNameTable file.now sections index }
-    requires names { names.now ≡ section_bytes file.now (name_index file.now) }
+    requires name_table { HasNameTable file.now sections names.index }
+    requires names { names.bytes.now ≡ section_bytes file.now (name_index file.now) }
     requires index { i < sections }
     ensures { result ≡ section_has_name file.now i }
 {
     let section = section_of_table(file, encoding, sections, i);
-    if i == 0 || section.kind == SHT_NULL || index == 0 {
+    if i == 0 || section.kind == SHT_NULL || names.index == 0 {
         return Ok(());
     }
-    match name_text(file, encoding, names, i) {
+    match name_text(file, encoding, names.bytes, i) {
         Some(_) => Ok(()),
         None => Err(BadFile {
             fault: Fault::NameOutside,
@@ -110,16 +116,15 @@ pub fn sections_have_names(
     file: &[u8],
     encoding: Encoding,
     sections: u32,
-    index: u32,
-    names: &[u8],
+    names: NameTable<'_>,
 ) -> Result<(), BadFile>
     requires table { HasSections file.now encoding sections }
-    requires name_table { HasNameTable file.now sections index }
-    requires names { names.now ≡ section_bytes file.now (name_index file.now) }
+    requires name_table { HasNameTable file.now sections names.index }
+    requires names { names.bytes.now ≡ section_bytes file.now (name_index file.now) }
     ensures { result ≡ sections_have_names file.now }
 {
     for i in 1..sections {
-        section_has_name(file, encoding, sections, index, names, i)?;
+        section_has_name(file, encoding, sections, names, i)?;
     }
     Ok(())
 }
@@ -129,22 +134,21 @@ pub fn sections_have_names(
 pub fn name_of<'a>(
     file: &[u8],
     encoding: Encoding,
-    index: u32,
-    names: &'a [u8],
+    names: NameTable<'a>,
     i: u32,
     kind: u32,
 ) -> &'a [u8]
     requires header { HasHeader file.now encoding }
     requires within { HasSection file.now i }
-    requires name_index { index ≡ name_index file.now }
-    requires names { names.now ≡ section_bytes file.now (name_index file.now) }
+    requires name_index { names.index ≡ name_index file.now }
+    requires names { names.bytes.now ≡ section_bytes file.now (name_index file.now) }
     requires kind { kind ≡ (section_at file.now i).kind }
     ensures { result.now ≡ name_of file.now i }
 {
-    if i == 0 || kind == SHT_NULL || index == 0 {
+    if i == 0 || kind == SHT_NULL || names.index == 0 {
         return &[];
     }
-    match name_text(file, encoding, names, i) {
+    match name_text(file, encoding, names.bytes, i) {
         Some(name) => name,
         None => &[],
     }

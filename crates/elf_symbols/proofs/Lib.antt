@@ -1,3 +1,4 @@
 pub mod NameLemmas
 pub mod NumbersLemmas
+pub mod PlaceLemmas
 pub mod Within

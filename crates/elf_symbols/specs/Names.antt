@@ -1,10 +1,10 @@
 -- The names of symbols, and where they are (ELF gABI, Symbol Table: st_name).
-use Rattle.std.specs.Prelude.{◌≡◌, ℕ, List, Result, Ok}
+use Rattle.std.specs.Prelude.{◌≡◌, ℕ, ◌+◌, List, Result, Ok}
 use Rattle.size_core.specs.declared.fault.BadFile.{BadFile}
 use Rattle.elf_file.specs.Layout.{four}
 use Rattle.elf_file.specs.Tables.{section_at, section_bytes}
 use Rattle.elf_symbols.specs.declared.symbol.NameOffset.{NameOffset}
-use Rattle.elf_symbols.specs.Symbols.{name_at, names_of, symbol_place}
+use Rattle.elf_symbols.specs.Symbols.{name_at, names_of, names_place, symbol_place}
 
 -- The name of symbol k of the table in section i (gABI, Symbol Table: st_name).
 abbrev pub symbol_name : List ℕ → ℕ → ℕ → Result (List ℕ) BadFile
@@ -14,6 +14,10 @@ symbol_name file i k = name_at file (names_of file i) (symbol_place file i k)
 -- st_name).
 abbrev pub name_offset : List ℕ → ℕ → ℕ → NameOffset
 name_offset file i k = record { section = (section_at file i).link; offset = four file (symbol_place file i k) 0 0 }
+
+-- The file offset of this name, if it isn't empty (gABI, Sections: sh_link; Symbol Table: st_name).
+abbrev pub name_place : List ℕ → ℕ → ℕ → ℕ
+name_place file i k = names_place file i + four file (symbol_place file i k) 0 0
 
 -- Each symbol with this st_name, in a table that has its names in this section, has this name.
 abbrev pub IsNameAt : List ℕ → NameOffset → List ℕ → Type 0

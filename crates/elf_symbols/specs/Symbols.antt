@@ -1,5 +1,5 @@
 -- Symbol tables and their symbols (ELF gABI, Symbol Table).
-use Rattle.std.specs.Prelude.{◌≡◌, ℕ, ◌+◌, ◌*◌, ◌-◌, ◌/◌, ◌%◌, ◌<◌, ◌==◌, ◌&&◌, ◌⊎◌, Bool, List, [], Option, Some, None, Result, Ok, nat_lt, slice_index, if◌then◌else◌}
+use Rattle.std.specs.Prelude.{◌≡◌, ℕ, ◌+◌, ◌*◌, ◌-◌, ◌/◌, ◌%◌, ◌<◌, ◌==◌, ◌&&◌, ◌⊎◌, Bool, List, [], length, Option, Some, None, Result, Ok, nat_lt, slice_index, if◌then◌else◌}
 use Rattle.std.specs.Int.{w32}
 use Rattle.size_core.specs.declared.fault.BadFile.{BadFile}
 use Rattle.size_core.specs.declared.fault.Fault.{Fault}
@@ -68,6 +68,14 @@ section_number_at file numbers place k =
 -- The names of the table in section i (gABI, Sections: sh_link).
 abbrev pub names_of : List ℕ → ℕ → List ℕ
 names_of file i = section_bytes file (section_at file i).link
+
+-- The file offset of the bytes of section j, or 0 if it has none (gABI, Section Header: sh_offset).
+unfoldable pub bytes_place : List ℕ → ℕ → ℕ
+bytes_place file j = if length (section_bytes file j) == 0 then 0 else (section_at file j).offset
+
+-- The file offset of the names of the table in section i (gABI, Sections: sh_link).
+abbrev pub names_place : List ℕ → ℕ → ℕ
+names_place file i = bytes_place file (section_at file i).link
 
 -- Section j has the extended section indexes of the table in section i (gABI, Sections: SHT_SYMTAB_SHNDX).
 abbrev pub has_numbers_of : List ℕ → ℕ → ℕ → Bool

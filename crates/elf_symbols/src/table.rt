@@ -1,11 +1,12 @@
 //! Symbol tables.
 
-ghost use Rattle.std.specs.Prelude.{◌≡◌, ◌+◌, ◌*◌, ◌<◌, ◌≤◌, ◌^◌, length, IfOk, IfSome};
+ghost use Rattle.std.specs.Prelude.{◌≡◌, ◌+◌, ◌*◌, ◌<◌, ◌≤◌, ◌^◌, length, true, IfOk, IfSome, Some};
 ghost use Rattle.size_core.specs.Checks.{Gives};
+ghost use Rattle.byte_cursor.specs.Numbers.{text};
 ghost use Rattle.elf_file.specs.Layout.{encoding_of};
 ghost use Rattle.elf_file.specs.Tables.{section_at, section_count};
-ghost use Rattle.elf_symbols.specs.Symbols.{IsSymbolTable, bytes_of, has_numbers_of, numbers_index, symbol_at, symbol_count, symbol_len, symbol_place, table_at};
-ghost use Rattle.elf_symbols.specs.Names.{IsNameAt, name_offset, symbol_name};
+ghost use Rattle.elf_symbols.specs.Symbols.{IsSymbolTable, bytes_of, bytes_place, has_numbers_of, numbers_index, symbol_at, symbol_count, symbol_len, symbol_place, table_at};
+ghost use Rattle.elf_symbols.specs.Names.{IsNameAt, name_offset, name_place, symbol_name};
 ghost use Rattle.elf_symbols.specs.Shown.{shown};
 ghost use Rattle.elf_symbols.specs.TableFacts.{HasSymbol};
 
@@ -25,6 +26,8 @@ pub struct SymbolTable<'a> {
     offset: u64,
     count: u32,
     link: u32,
+    // The file offset of the names, or 0 if there are none.
+    base: u64,
     names: &'a [u8],
     numbers: &'a [u8],
 }
@@ -37,7 +40,9 @@ impl<'a> Model for SymbolTable<'a> {
 
     ghost view = { λ t. record { file = t.file.now; index = t.index } };
 
-    ghost invariant = { λ t. IsTable t.file.now t.index t.encoding t.offset t.count t.link t.names.now t.numbers.now };
+    ghost invariant = { λ t.
+        IsTable t.file.now t.index t.encoding t.offset t.count t.link t.base t.names.now
+        t.numbers.now };
 }
 
 /// Returns whether section `j` has the extended section indexes of the table in section `i`.
@@ -74,6 +79,19 @@ fn numbers_in<'a>(file: &ElfFile<'a>, section: Option<u32>) -> &'a [u8]
     }
 }
 
+/// Returns the file offset of the bytes of section `j`, or 0 if it has none.
+#[tactic(auto, unfolding(crate::specs::Symbols::bytes_place))]
+fn bytes_place(file: &ElfFile<'_>, j: u32) -> u64
+    requires { j < section_count file.now }
+    ensures { result ≡ bytes_place file.now j }
+{
+    if file.section_bytes(j).is_empty() {
+        0
+    } else {
+        file.section(j).offset
+    }
+}
+
 impl<'a> SymbolTable<'a> {
     /// Opens the symbol table in section `i`. BadIndex if `sh_link` is no section's number.
     pub fn at(file: &ElfFile<'a>, i: u32) -> Result<SymbolTable<'a>, BadFile>
@@ -99,7 +117,7 @@ impl<'a> SymbolTable<'a> {
 
     /// Opens the symbol table in section `i`, whose extended section indexes are in section `numbers`, if
     /// it has any.
-    #[tactic(auto, unfolding(crate::specs::Symbols::table_at, crate::specs::Symbols::symbol_count), using(crate::proofs::Within::table_within))]
+    #[tactic(auto, unfolding(crate::specs::Symbols::table_at, crate::specs::Symbols::symbol_count), using(crate::proofs::Within::table_within, crate::proofs::PlaceLemmas::place_small))]
     fn open_table(
         file: &ElfFile<'a>,
         i: u32,
@@ -126,6 +144,7 @@ impl<'a> SymbolTable<'a> {
             offset: section.offset,
             count: (section.size / symbol_len(encoding)) as u32,
             link: section.link,
+            base: bytes_place(file, section.link),
             names: file.section_bytes(section.link),
             numbers: numbers_in(file, numbers),
         })
@@ -158,14 +177,37 @@ impl<'a> SymbolTable<'a> {
         }
     }
 
+    /// Returns the file offset of the name of symbol `k`, if the name isn't empty.
+    pub fn name_place(&self, k: u32) -> u64
+        requires { k < symbol_count self.now.file self.now.index }
+        ensures { result ≡ name_place self.now.file self.now.index k }
+    {
+        self.base + self.encoding.four(self.file, self.offset_of(k), 0, 0) as u64
+    }
+
+    /// Returns whether symbol `k` has a name that ends in the table's names if it has the size of this one. If this one
+    /// is at the same file offset, it is then the name of the symbol.
+    #[tactic(auto, using(crate::proofs::PlaceLemmas::is_name))]
+    pub fn is_name(&self, k: u32, name: &[u8]) -> bool
+        requires { k < symbol_count self.now.file self.now.index }
+        ensures { result ≡ true
+            → text self.now.file (name_place self.now.file self.now.index k) ≡ Some name.now
+            → IsNameAt self.now.file (name_offset self.now.file self.now.index k) name.now }
+    {
+        let offset = self.encoding.four(self.file, self.offset_of(k), 0, 0);
+        0 < offset && (offset as usize) < self.names.len().saturating_sub(name.len())
+    }
+
     /// Returns the name of symbol `k`. NameOutside if it has no terminating zero byte in the table's names.
-    #[tactic(auto, using(crate::proofs::NameLemmas::name_any))]
+    #[tactic(auto, using(crate::proofs::NameLemmas::name_any, crate::proofs::PlaceLemmas::name_placed))]
     pub fn name(&self, k: u32) -> Result<&'a [u8], BadFile>
         requires { k < symbol_count self.now.file self.now.index }
         ensures name { Gives (λ name. name.now) result
             (symbol_name self.now.file self.now.index k) }
         ensures same { IfOk result
             (λ name. IsNameAt self.now.file (name_offset self.now.file self.now.index k) name.now) }
+        ensures place { IfOk result (λ name. 0 < length name.now
+            → text self.now.file (name_place self.now.file self.now.index k) ≡ Some name.now) }
     {
         name_at(self.file, self.encoding, self.names, self.offset_of(k))
     }

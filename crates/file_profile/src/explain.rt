@@ -12,7 +12,9 @@ use crate::claims::built_in_claims;
 use crate::plan::Plan;
 use crate::subject::Subject;
 use data_sources::open_binary;
-use place_explain::{Explained, PlaceSource, explain_source, is_inside, rewrites_the_label_alone};
+use place_explain::{
+    Explained, NumberedClaims, PlaceSource, explain_source, is_inside, rewrites_the_label_alone,
+};
 use size_core::{Bytes, LabelPool, Limits, Names, NoMemory, Place, Source, Text};
 use std::alloc::Global;
 
@@ -45,16 +47,12 @@ fn explain_built_in(
     let alloc = subject.alloc();
     let mut pool = LabelPool::new(alloc);
     let made = built_in_claims(subject, base, &mut pool, limit)?;
-    let explained = explain_source(
-        alloc,
-        subject.base(),
-        subject.len(),
-        &made.claims,
-        made.unmapped,
-        &pool,
-        &request.place,
-        request.shown,
-    )?;
+    let source = NumberedClaims {
+        claims: &made.claims,
+        pool: &pool,
+        unmapped: made.unmapped,
+    };
+    let explained = explain_source(alloc, subject.base(), source, &request.place, request.shown)?;
     let claims = made.claims.len() as u64;
     Ok(CountedExplanation { explained, claims })
 }

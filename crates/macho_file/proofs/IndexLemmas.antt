@@ -10,38 +10,38 @@ use Rattle.std.proofs.lemmas.List.Elements.{All-more}
 use Rattle.std.proofs.lemmas.List.Sorted.{All-permutation, Contains-permutation, ties_still_rise}
 use Rattle.std.proofs.lemmas.Option.{slice_get-get_or, slice_get_within, get_or_from_slice_get}
 use Rattle.macho_file.specs.declared.index.Key.{Key}
-use Rattle.macho_file.specs.declared.symbol.MachoSymbol.{MachoSymbol}
+use Rattle.macho_file.specs.declared.symbol.PlacedSymbol.{PlacedSymbol}
 use Rattle.macho_file.specs.Symbols.{SymbolRecord}
 use Rattle.macho_file.specs.Index.{AreAddresses, IsIndex, IsKeyIn, key_of, keys_from}
-use Rattle.macho_file.specs.Shown.{symbol_shown}
+use Rattle.macho_file.specs.Shown.{placed_shown}
 
 -- The keys of symbols, one by one.
-shown_at : (xs : List MachoSymbol) (i : ℕ) (d : MachoSymbol) → i < length xs → get_or (map symbol_shown xs) i (symbol_shown d) ≡ symbol_shown (get_or xs i d)
-shown_at xs i d lt = get_or-map symbol_shown xs i d (symbol_shown d) lt
+shown_at : (xs : List PlacedSymbol) (i : ℕ) (d : PlacedSymbol) → i < length xs → get_or (map placed_shown xs) i (placed_shown d) ≡ placed_shown (get_or xs i d)
+shown_at xs i d lt = get_or-map placed_shown xs i d (placed_shown d) lt
 
-pub key_next : (front : List Key) (xs : List MachoSymbol) (i : ℕ) (d : MachoSymbol) → i < length xs
-    → front ++ keys_from i (drop i (map symbol_shown xs))
-    ≡ (front ++ key_of i (symbol_shown (get_or xs i d)) ∷ []) ++ keys_from (i + 1) (drop (i + 1) (map symbol_shown xs))
+pub key_next : (front : List Key) (xs : List PlacedSymbol) (i : ℕ) (d : PlacedSymbol) → i < length xs
+    → front ++ keys_from i (drop i (map placed_shown xs))
+    ≡ (front ++ key_of i (placed_shown (get_or xs i d)) ∷ []) ++ keys_from (i + 1) (drop (i + 1) (map placed_shown xs))
 key_next front xs i d lt =
-    let within : i < length (map symbol_shown xs) = omega (arith, length-map xs symbol_shown) in
-    rw (drop_more (map symbol_shown xs) i (symbol_shown d) within, shown_at xs i d lt, append_assoc) refl
+    let within : i < length (map placed_shown xs) = omega (arith, length-map xs placed_shown) in
+    rw (drop_more (map placed_shown xs) i (placed_shown d) within, shown_at xs i d lt, append_assoc) refl
 
-pub keys_over : (front : List Key) (xs : List MachoSymbol) (i : ℕ) → length xs ≤ i → front ++ keys_from i (drop i (map symbol_shown xs)) ≡ front
+pub keys_over : (front : List Key) (xs : List PlacedSymbol) (i : ℕ) → length xs ≤ i → front ++ keys_from i (drop i (map placed_shown xs)) ≡ front
 keys_over front xs i le =
-    let past : length (map symbol_shown xs) ≤ i = omega (arith, length-map xs symbol_shown) in
-    rw (drop_all i (map symbol_shown xs) past) (append-nil front)
+    let past : length (map placed_shown xs) ≤ i = omega (arith, length-map xs placed_shown) in
+    rw (drop_all i (map placed_shown xs) past) (append-nil front)
 
-pub addresses_more : (xs : List MachoSymbol) (i : ℕ) (d : MachoSymbol) → i < length xs → (get_or xs i d).value < 2 ^ 64
-    → AreAddresses (take i (map symbol_shown xs)) → AreAddresses (take (i + 1) (map symbol_shown xs))
+pub addresses_more : (xs : List PlacedSymbol) (i : ℕ) (d : PlacedSymbol) → i < length xs → (get_or xs i d).value < 2 ^ 64
+    → AreAddresses (take i (map placed_shown xs)) → AreAddresses (take (i + 1) (map placed_shown xs))
 addresses_more xs i d lt small all =
-    let within : i < length (map symbol_shown xs) = omega (arith, length-map xs symbol_shown) in
+    let within : i < length (map placed_shown xs) = omega (arith, length-map xs placed_shown) in
     let P : SymbolRecord → Type 0 = λ s. s.value < 2 ^ 64 in
-    record { small = All-more P (map symbol_shown xs) i (symbol_shown d) within all.small (subst P (sym (shown_at xs i d lt)) small) }
+    record { small = All-more P (map placed_shown xs) i (placed_shown d) within all.small (subst P (sym (shown_at xs i d lt)) small) }
 
-pub addresses_whole : (xs : List MachoSymbol) (i : ℕ) → length xs ≤ i → AreAddresses (take i (map symbol_shown xs)) → AreAddresses (map symbol_shown xs)
+pub addresses_whole : (xs : List PlacedSymbol) (i : ℕ) → length xs ≤ i → AreAddresses (take i (map placed_shown xs)) → AreAddresses (map placed_shown xs)
 addresses_whole xs i le all =
-    let past : length (map symbol_shown xs) ≤ i = omega (arith, length-map xs symbol_shown) in
-    record { small = rw (take_all i (map symbol_shown xs) past) at all.small }
+    let past : length (map placed_shown xs) ≤ i = omega (arith, length-map xs placed_shown) in
+    record { small = rw (take_all i (map placed_shown xs) past) at all.small }
 
 -- Key k of them.
 length-keys : (i : ℕ) (all : List SymbolRecord) → length (keys_from i all) ≡ length all

@@ -6,11 +6,11 @@ use Rattle.std.proofs.lemmas.Bool.{cases_Bool, cases_lt}
 use Rattle.std.proofs.lemmas.List.{get_or-map, length-map}
 use Rattle.std.proofs.lemmas.Option.{slice_get-get_or, slice_get_within}
 use Rattle.macho_file.specs.declared.index.Key.{Key}
-use Rattle.macho_file.specs.declared.symbol.MachoSymbol.{MachoSymbol}
+use Rattle.macho_file.specs.declared.symbol.PlacedSymbol.{PlacedSymbol}
 use Rattle.macho_file.specs.Symbols.{SymbolRecord}
 use Rattle.macho_file.specs.Spans.{is_above, least_above, lesser}
 use Rattle.macho_file.specs.Index.{AreAddresses, IsIndex, position}
-use Rattle.macho_file.specs.Shown.{symbol_shown}
+use Rattle.macho_file.specs.Shown.{placed_shown}
 use Rattle.macho_file.proofs.FirstLemmas.{address, key_there}
 
 -- No symbol is above.
@@ -81,14 +81,14 @@ is_greater s all v e =
     omega (arith, more)
 
 -- A symbol of a slice as contracts see it.
-pub shown_get : (xs : List MachoSymbol) (i : ℕ) (d : MachoSymbol) → i < length (map symbol_shown xs) → slice_get (map symbol_shown xs) i ≡ Some (symbol_shown (get_or xs i d))
+pub shown_get : (xs : List PlacedSymbol) (i : ℕ) (d : PlacedSymbol) → i < length (map placed_shown xs) → slice_get (map placed_shown xs) i ≡ Some (placed_shown (get_or xs i d))
 shown_get xs i d lt =
-    let within : i < length xs = omega (arith, length-map xs symbol_shown) in
-    slice_get-get_or (map symbol_shown xs) i (symbol_shown d) lt ∙ ap Some (get_or-map symbol_shown xs i d (symbol_shown d) within)
+    let within : i < length xs = omega (arith, length-map xs placed_shown) in
+    slice_get-get_or (map placed_shown xs) i (placed_shown d) lt ∙ ap Some (get_or-map placed_shown xs i d (placed_shown d) within)
 
-pub shown_at : (xs : List MachoSymbol) (i : ℕ) (d : MachoSymbol) → i < length xs → slice_get (map symbol_shown xs) i ≡ Some (symbol_shown (get_or xs i d))
+pub shown_at : (xs : List PlacedSymbol) (i : ℕ) (d : PlacedSymbol) → i < length xs → slice_get (map placed_shown xs) i ≡ Some (placed_shown (get_or xs i d))
 shown_at xs i d lt =
-    let within : i < length (map symbol_shown xs) = omega (arith, length-map xs symbol_shown) in
+    let within : i < length (map placed_shown xs) = omega (arith, length-map xs placed_shown) in
     shown_get xs i d within
 
 module _ (all : List SymbolRecord) (keys : List Key) (s : SymbolRecord) (next : ℕ) (d : Key) (index : IsIndex all keys) (small : AreAddresses all) (address_s : s.value < 2 ^ 64)

@@ -5,6 +5,7 @@ pub mod LeastLemmas
 pub mod OpenedLemmas
 pub mod PartLemmas
 pub mod LookupLemmas
+pub mod NameLemmas
 pub mod SectionLemmas
 pub mod SegmentLemmas
 pub mod SpanLemmas

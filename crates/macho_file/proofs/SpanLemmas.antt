@@ -7,12 +7,12 @@ use Rattle.std.proofs.lemmas.List.Elements.{filter_passes}
 use Rattle.size_core.specs.declared.fault.BadFile.{BadFile}
 use Rattle.size_core.specs.Checks.{◌>>=◌}
 use Rattle.macho_file.specs.declared.extent.Extent.{Extent}
-use Rattle.macho_file.specs.declared.symbol.MachoSymbol.{MachoSymbol}
+use Rattle.macho_file.specs.declared.symbol.PlacedSymbol.{PlacedSymbol}
 use Rattle.macho_file.specs.declared.symbol_table.SymbolTable.{SymbolTable}
 use Rattle.macho_file.specs.Symbols.{SymbolRecord, table}
 use Rattle.macho_file.specs.Spans.{SpanRecord, extents, is_at, span_of, spans, spans_from, spans_of_taking, symbols, symbols_from, takes_part}
 use Rattle.macho_file.specs.Taken.{TakePart, taken_from}
-use Rattle.macho_file.specs.Shown.{symbol_shown}
+use Rattle.macho_file.specs.Shown.{placed_shown}
 
 pub one_more : {X Y : Type 0} (f : X → Y) (front : List Y) (xs : List X) (x : X) (rest : List X) → xs ≡ x ∷ rest → front ++ map f xs ≡ (front ++ f x ∷ []) ++ map f rest
 one_more f front xs x rest is = rw (is, append_assoc) refl
@@ -26,19 +26,19 @@ span_one : (ext : List Extent) (front : List SpanRecord) (all : List SymbolRecor
     ≡ (front ++ (if list_any (is_at s) (take i all) then [] else span_of ext all s ∷ [])) ++ spans_from ext all (take (i + 1) all) (drop (i + 1) all)
 span_one ext front all i s lt is = rw (drop_more all i s lt, take_more all i s lt, is, append_assoc) refl
 
-pub span_next : (ext : List Extent) (front : List SpanRecord) (xs : List MachoSymbol) (i : ℕ) (d : MachoSymbol) → i < length xs
-    → front ++ spans_from ext (map symbol_shown xs) (take i (map symbol_shown xs)) (drop i (map symbol_shown xs))
-    ≡ (front ++ (if list_any (is_at (symbol_shown (get_or xs i d))) (take i (map symbol_shown xs)) then [] else span_of ext (map symbol_shown xs) (symbol_shown (get_or xs i d)) ∷ []))
-    ++ spans_from ext (map symbol_shown xs) (take (i + 1) (map symbol_shown xs)) (drop (i + 1) (map symbol_shown xs))
+pub span_next : (ext : List Extent) (front : List SpanRecord) (xs : List PlacedSymbol) (i : ℕ) (d : PlacedSymbol) → i < length xs
+    → front ++ spans_from ext (map placed_shown xs) (take i (map placed_shown xs)) (drop i (map placed_shown xs))
+    ≡ (front ++ (if list_any (is_at (placed_shown (get_or xs i d))) (take i (map placed_shown xs)) then [] else span_of ext (map placed_shown xs) (placed_shown (get_or xs i d)) ∷ []))
+    ++ spans_from ext (map placed_shown xs) (take (i + 1) (map placed_shown xs)) (drop (i + 1) (map placed_shown xs))
 span_next ext front xs i d lt =
-    let within : i < length (map symbol_shown xs) = omega (arith, length-map xs symbol_shown) in
-    span_one ext front (map symbol_shown xs) i (symbol_shown (get_or xs i d)) within (get_or-map symbol_shown xs i d (symbol_shown (get_or xs i d)) lt)
+    let within : i < length (map placed_shown xs) = omega (arith, length-map xs placed_shown) in
+    span_one ext front (map placed_shown xs) i (placed_shown (get_or xs i d)) within (get_or-map placed_shown xs i d (placed_shown (get_or xs i d)) lt)
 
-pub spans_end : (ext : List Extent) (front : List SpanRecord) (xs : List MachoSymbol) (i : ℕ) → length xs ≤ i
-    → front ++ spans_from ext (map symbol_shown xs) (take i (map symbol_shown xs)) (drop i (map symbol_shown xs)) ≡ front
+pub spans_end : (ext : List Extent) (front : List SpanRecord) (xs : List PlacedSymbol) (i : ℕ) → length xs ≤ i
+    → front ++ spans_from ext (map placed_shown xs) (take i (map placed_shown xs)) (drop i (map placed_shown xs)) ≡ front
 spans_end ext front xs i le =
-    let past : length (map symbol_shown xs) ≤ i = omega (arith, length-map xs symbol_shown) in
-    rw (drop_all i (map symbol_shown xs) past) (append-nil front)
+    let past : length (map placed_shown xs) ≤ i = omega (arith, length-map xs placed_shown) in
+    rw (drop_all i (map placed_shown xs) past) (append-nil front)
 
 pub spans_begin : (ext : List Extent) (all : List SymbolRecord) → spans_of_taking ext all ≡ spans_from ext all (take 0 all) (drop 0 all)
 unfolding spans_of_taking
@@ -46,11 +46,11 @@ spans_begin ext [] = refl
 spans_begin ext (s ∷ rest) = refl
 
 -- Each of the symbols takes part.
-pub part_at : (ext : List Extent) (xs : List MachoSymbol) (i : ℕ) (d : MachoSymbol) → TakePart ext (map symbol_shown xs) → i < length xs → takes_part ext (symbol_shown (get_or xs i d)) ≡ true
+pub part_at : (ext : List Extent) (xs : List PlacedSymbol) (i : ℕ) (d : PlacedSymbol) → TakePart ext (map placed_shown xs) → i < length xs → takes_part ext (placed_shown (get_or xs i d)) ≡ true
 part_at ext xs i d part lt =
-    let within : i < length (map symbol_shown xs) = omega (arith, length-map xs symbol_shown) in
+    let within : i < length (map placed_shown xs) = omega (arith, length-map xs placed_shown) in
     let P : SymbolRecord → Type 0 = λ s. takes_part ext s ≡ true in
-    subst P (get_or-map symbol_shown xs i d (symbol_shown d) lt) (part.each i (symbol_shown d) within)
+    subst P (get_or-map placed_shown xs i d (placed_shown d) lt) (part.each i (placed_shown d) within)
 
 filter_takes : (ext : List Extent) (read : List SymbolRecord) → All (λ (s : SymbolRecord). takes_part ext s ≡ true) (filter (takes_part ext) read)
 filter_takes ext read = filter_passes (takes_part ext) read

@@ -1,14 +1,16 @@
 -- The symbols that a loop collects.
-use Rattle.std.proofs.Common.{◌≡◌, ℕ, suc, ◌+◌, ◌-◌, ◌<◌, ◌≤◌, Bool, true, false, List, [], ◌∷◌, ◌++◌, length, Result, Ok, Err, refl, sym, ap, arith, append_assoc, length-append, if◌then◌else◌}
+use Rattle.std.proofs.Common.{◌≡◌, ℕ, suc, ◌+◌, ◌-◌, ◌<◌, ◌≤◌, Bool, true, false, List, [], ◌∷◌, ◌++◌, length, Result, Ok, Err, refl, sym, ap, ◌∙◌, arith, append_assoc, length-append, if◌then◌else◌}
 use Rattle.std.specs.List.{filter}
 use Rattle.std.proofs.lemmas.List.{append-nil}
 use Rattle.size_core.specs.declared.fault.BadFile.{BadFile}
 use Rattle.size_core.specs.Checks.{◌>>=◌}
+use Rattle.macho_file.specs.declared.answer.SpanAnswer.{SpanAnswer}
+use Rattle.macho_file.specs.declared.answer.SpanAnswer.TheVariants.{Bad, NoMemory}
 use Rattle.macho_file.specs.declared.extent.Extent.{Extent}
 use Rattle.macho_file.specs.declared.symbol_table.SymbolTable.{SymbolTable}
 use Rattle.macho_file.specs.Symbols.{SymbolRecord, symbol_of}
 use Rattle.macho_file.specs.Spans.{symbols_from, takes_part}
-use Rattle.macho_file.specs.Taken.{prepend, taken_from}
+use Rattle.macho_file.specs.Taken.{ForBad, prepend, taken_from}
 
 filter_one : (p : SymbolRecord → Bool) (s : SymbolRecord) (rest : List SymbolRecord) (b : Bool) → p s ≡ b
     → filter p (s ∷ rest) ≡ (if b then s ∷ [] else []) ++ filter p rest
@@ -43,6 +45,12 @@ pub taken_bad : (file : List ℕ) (t : SymbolTable) (all : List Extent) (front :
     → prepend front (taken_from file t all k (n - k)) ≡ Err e
 unfolding prepend taken_from symbols_from
 taken_bad file t all front k n e lt is = let m : n - k ≡ suc (n - (k + 1)) = omega arith in rw (m, is) refl
+
+-- The fault of a symbol is that of the symbols from it on.
+pub taken_for_bad : (file : List ℕ) (t : SymbolTable) (all : List Extent) (front : List SymbolRecord) (k n : ℕ) (whole : Result (List SymbolRecord) BadFile) (e : SpanAnswer) → k < n
+    → prepend front (taken_from file t all k (n - k)) ≡ whole → ForBad e (λ bad. symbol_of file t k ≡ Err bad) → ForBad e (λ bad. whole ≡ Err bad)
+taken_for_bad file t all front k n whole (Bad bad) lt same is = sym same ∙ taken_bad file t all front k n bad lt is
+taken_for_bad file t all front k n whole NoMemory lt same is = tt
 
 pub taken_end : (file : List ℕ) (t : SymbolTable) (all : List Extent) (front : List SymbolRecord) (k n : ℕ) → n ≤ k → prepend front (taken_from file t all k (n - k)) ≡ Ok front
 unfolding prepend taken_from symbols_from

@@ -4,6 +4,7 @@ pub mod Index
 pub mod Known
 pub mod Layout
 pub mod LinkEdit
+pub mod Names
 pub mod Shown
 pub mod Spans
 pub mod Symbols

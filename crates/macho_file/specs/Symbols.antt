@@ -70,6 +70,11 @@ unfoldable pub symbol_name : List ℕ → SymbolTable → ℕ → Result (List �
 symbol_name file t place = let strx = four (encoding_of file) file place in
     if strx == 0 then Ok [] else present (text (strings file t) strx) NameOutside place
 
+-- The file offset of the name of the symbol at file offset place, if the name isn't empty (mach-o/loader.h: stroff;
+-- mach-o/nlist.h: n_strx).
+abbrev pub place_of_name : List ℕ → SymbolTable → ℕ → ℕ
+place_of_name file t place = t.stroff + four (encoding_of file) file place
+
 -- The symbol at file offset place, with this name (mach-o/nlist.h: nlist, nlist_64).
 abbrev pub symbol_named : List ℕ → List ℕ → ℕ → SymbolRecord
 symbol_named file name place = record {

@@ -186,7 +186,8 @@ fn command_fits(file: &[u8], encoding: Encoding, end: u64, place: u64) -> Result
     requires header { HasHeader file.now encoding }
     requires end { end ≡ commands_end file.now }
     requires place { place ≤ end }
-    ensures value { let c = command_at file.now place in result ≡ checked (command_checks file.now c) (place + c.size) }
+    ensures value { let c = command_at file.now place in
+        result ≡ checked (command_checks file.now c) (place + c.size) }
     ensures place { IfOk result (λ next. next ≤ end) }
 {
     let command = checked_command(file, encoding, end, place)?;

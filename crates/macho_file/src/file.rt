@@ -10,7 +10,8 @@ ghost use Rattle.macho_file.specs.Symbols.{symbol_at, symbol_count, table};
 ghost use Rattle.macho_file.specs.Checks.{macho_checks, opened};
 ghost use Rattle.macho_file.specs.Known.{HasTable};
 ghost use Rattle.macho_file.specs.WellFormed.{IsWellFormed};
-ghost use Rattle.macho_file.specs.Shown.{section_shown, segment_shown, span_shown, symbol_shown};
+ghost use Rattle.macho_file.specs.Names.{AreNamedSpans, IsNamed};
+ghost use Rattle.macho_file.specs.Shown.{named_shown, section_shown, segment_shown, span_shown, symbol_shown};
 ghost use Rattle.macho_file.specs.Spans.{spans};
 ghost use Rattle.macho_file.specs.Taken.{ForBad};
 
@@ -27,7 +28,7 @@ use crate::sections::Sections;
 use crate::segment::MachoSegment;
 use crate::segments::Segments;
 use crate::span_symbols::symbols_taking_part;
-use crate::spans::{SymbolSpan, spans_of};
+use crate::spans::{NamedSpan, SymbolSpan, spans_of, without_offsets};
 use crate::survey::{Survey, count_tables};
 use crate::symbol::MachoSymbol;
 use crate::symbol_table::{SymbolTable, symbol_of, table_of};
@@ -53,7 +54,8 @@ impl<'a> Model for MachoFile<'a> {
 
     ghost view = { λ m. m.file.now };
 
-    ghost invariant = { λ m. IsOpened m.file.now m.encoding m.found.segments m.found.sections m.found.symtab };
+    ghost invariant = { λ m.
+        IsOpened m.file.now m.encoding m.found.segments m.found.sections m.found.symtab };
 }
 
 impl<'a> MachoFile<'a> {
@@ -292,11 +294,23 @@ impl<'a> MachoFile<'a> {
     /// value of the symbols that take part in the same section, or at the end of the section. Of several
     /// symbols with one value, the first has the span. Bad if the table has a fault (TablePastEnd), and
     /// else at the first symbol with a fault (NameOutside), whether or not it takes part.
-    #[tactic(auto, using(crate::proofs::SpanLemmas::spans_is, crate::proofs::SpanLemmas::taken_part))]
     pub fn spans(&self, alloc: Global) -> Result<Vec<SymbolSpan<'a>>, SpanAnswer>
         ensures { MatchResult result
             (λ v. spans self.now ≡ Ok (map span_shown v.items))
             (λ e. ForBad e (λ bad. spans self.now ≡ Err bad)) }
+    {
+        let named = self.named_spans(alloc)?;
+        let spans = without_offsets(alloc, &named)?;
+        Ok(spans)
+    }
+
+    /// Returns the same spans, each with the file offset of its name.
+    #[tactic(auto, using(crate::proofs::SpanLemmas::spans_is, crate::proofs::SpanLemmas::taken_part))]
+    pub fn named_spans(&self, alloc: Global) -> Result<Vec<NamedSpan<'a>>, SpanAnswer>
+        ensures spans { MatchResult result
+            (λ v. spans self.now ≡ Ok (map named_shown v.items))
+            (λ e. ForBad e (λ bad. spans self.now ≡ Err bad)) }
+        ensures names { IfOk result (λ v. AreNamedSpans self.now v.items) }
     {
         let table = self.table()?;
         let extents = extents_of(alloc, self.sections())?;

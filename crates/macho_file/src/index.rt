@@ -4,9 +4,9 @@ ghost use Rattle.std.specs.Prelude.{◌≡◌, ◌+◌, ◌*◌, ◌≤◌, ◌<
 ghost use Rattle.std.specs.List.Sorted.{IsNonDecreasingBy, IsPartitionPoint};
 ghost use Rattle.macho_file.specs.declared.index.Key.{Key as KeySpec};
 ghost use Rattle.macho_file.specs.Index.{AreAddresses, IsIndex, keys_from, position};
-ghost use Rattle.macho_file.specs.Shown.{symbol_shown};
+ghost use Rattle.macho_file.specs.Shown.{placed_shown};
 
-use crate::symbol::MachoSymbol;
+use crate::symbol::PlacedSymbol;
 use size_core::NoMemory;
 use std::alloc::Global;
 
@@ -18,8 +18,8 @@ pub struct Key {
 }
 
 /// Returns the position of a symbol.
-pub fn position(symbol: &MachoSymbol<'_>) -> u128
-    ensures value { result ≡ position (symbol_shown symbol.now) }
+pub fn position(symbol: &PlacedSymbol<'_>) -> u128
+    ensures value { result ≡ position (placed_shown symbol.now) }
     ensures address { symbol.now.value < 2 ^ 64 }
 {
     symbol.sect as u128 * (1 << 64) + symbol.value as u128
@@ -27,10 +27,10 @@ pub fn position(symbol: &MachoSymbol<'_>) -> u128
 
 /// Returns the keys of symbols, in symbol order.
 #[tactic(auto, using(crate::proofs::IndexLemmas::key_next, crate::proofs::IndexLemmas::keys_over, crate::proofs::IndexLemmas::addresses_more, crate::proofs::IndexLemmas::addresses_whole))]
-fn keys_of(alloc: Global, symbols: &[MachoSymbol<'_>]) -> Result<Vec<Key>, NoMemory>
+fn keys_of(alloc: Global, symbols: &[PlacedSymbol<'_>]) -> Result<Vec<Key>, NoMemory>
     requires { length symbols.now < 2 ^ 32 }
-    ensures keys { IfOk result (λ v. v.items ≡ keys_from 0 (map symbol_shown symbols.now)) }
-    ensures addresses { IfOk result (λ _. AreAddresses (map symbol_shown symbols.now)) }
+    ensures keys { IfOk result (λ v. v.items ≡ keys_from 0 (map placed_shown symbols.now)) }
+    ensures addresses { IfOk result (λ _. AreAddresses (map placed_shown symbols.now)) }
 {
     let mut keys = Vec::new(alloc);
     'rows: for (i, symbol) in symbols.iter().enumerate() {
@@ -43,10 +43,10 @@ fn keys_of(alloc: Global, symbols: &[MachoSymbol<'_>]) -> Result<Vec<Key>, NoMem
 }
 
 /// Returns the keys of symbols, sorted by position, and those of one position in symbol order.
-pub fn index_of(alloc: Global, symbols: &[MachoSymbol<'_>]) -> Result<Vec<Key>, NoMemory>
+pub fn index_of(alloc: Global, symbols: &[PlacedSymbol<'_>]) -> Result<Vec<Key>, NoMemory>
     requires { length symbols.now < 2 ^ 32 }
-    ensures index { IfOk result (λ v. IsIndex (map symbol_shown symbols.now) v.items) }
-    ensures addresses { IfOk result (λ _. AreAddresses (map symbol_shown symbols.now)) }
+    ensures index { IfOk result (λ v. IsIndex (map placed_shown symbols.now) v.items) }
+    ensures addresses { IfOk result (λ _. AreAddresses (map placed_shown symbols.now)) }
 {
     let mut keys = keys_of(alloc, symbols)?;
     keys.sort_by_key(|key| key.position)?;

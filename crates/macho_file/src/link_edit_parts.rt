@@ -15,52 +15,53 @@ use crate::sizes::is_dyld_info;
 use crate::walk::Walk;
 use std::marker::Model;
 
+/// A load command in its file.
+#[derive(Clone, Copy)]
+struct FileCommand<'f> {
+    file: &'f [u8],
+    encoding: Encoding,
+    command: Command,
+}
+
 /// Returns the range whose file offset is a field of the command. The next field is its length, in units of
 /// `unit` bytes.
 #[tactic(auto, unfolding(crate::specs::LinkEdit::part_at))]
-fn part_at(
-    file: &[u8],
-    encoding: Encoding,
-    command: Command,
-    kind: LinkEdit,
-    field: u64,
-    unit: u64,
-) -> LinkEditPart
-    requires encoding { encoding ≡ encoding_of file.now }
-    requires within { command.place + field + 8 ≤ length file.now }
-    requires small { length file.now < 2 ^ 32 }
+fn part_at(at: FileCommand<'_>, kind: LinkEdit, field: u64, unit: u64) -> LinkEditPart
+    requires encoding { at.encoding ≡ encoding_of at.file.now }
+    requires within { at.command.place + field + 8 ≤ length at.file.now }
+    requires small { length at.file.now < 2 ^ 32 }
     requires unit { unit ≤ 16 }
-    ensures { result ≡ part_at file.now command kind field unit }
+    ensures { result ≡ part_at at.entry.file.now at.entry.command kind field unit }
 {
-    let at = command.place + field;
+    let place = at.command.place + field;
     LinkEditPart {
         kind,
-        offset: encoding.four(file, at) as u64,
-        len: encoding.four(file, at + 4) as u64 * unit,
+        offset: at.encoding.four(at.file, place) as u64,
+        len: at.encoding.four(at.file, place + 4) as u64 * unit,
     }
 }
 
 /// Returns range `i` of a `symtab_command`.
-fn table_part(file: &[u8], encoding: Encoding, command: Command, i: u32) -> Option<LinkEditPart>
-    requires encoding { encoding ≡ encoding_of file.now }
-    requires within { command.place + 24 ≤ length file.now }
-    requires small { length file.now < 2 ^ 32 }
-    ensures { result ≡ slice_get (table_parts file.now command) i }
+fn table_part(at: FileCommand<'_>, i: u32) -> Option<LinkEditPart>
+    requires encoding { at.encoding ≡ encoding_of at.file.now }
+    requires within { at.command.place + 24 ≤ length at.file.now }
+    requires small { length at.file.now < 2 ^ 32 }
+    ensures { result ≡ slice_get (table_parts at.entry.file.now at.entry.command) i }
 {
-    let unit = encoding.pick(12, 16);
+    let unit = at.encoding.pick(12, 16);
     match i {
-        0 => Some(part_at(file, encoding, command, LinkEdit::SymbolTable, 8, unit)),
-        1 => Some(part_at(file, encoding, command, LinkEdit::StringTable, 16, 1)),
+        0 => Some(part_at(at, LinkEdit::SymbolTable, 8, unit)),
+        1 => Some(part_at(at, LinkEdit::StringTable, 16, 1)),
         _ => None,
     }
 }
 
 /// Returns range `i` of a `dyld_info_command`.
-fn dyld_part(file: &[u8], encoding: Encoding, command: Command, i: u32) -> Option<LinkEditPart>
-    requires encoding { encoding ≡ encoding_of file.now }
-    requires within { command.place + 48 ≤ length file.now }
-    requires small { length file.now < 2 ^ 32 }
-    ensures { result ≡ slice_get (dyld_parts file.now command) i }
+fn dyld_part(at: FileCommand<'_>, i: u32) -> Option<LinkEditPart>
+    requires encoding { at.encoding ≡ encoding_of at.file.now }
+    requires within { at.command.place + 48 ≤ length at.file.now }
+    requires small { length at.file.now < 2 ^ 32 }
+    ensures { result ≡ slice_get (dyld_parts at.entry.file.now at.entry.command) i }
 {
     let kind = match i {
         0 => LinkEdit::RebaseInfo,
@@ -70,30 +71,31 @@ fn dyld_part(file: &[u8], encoding: Encoding, command: Command, i: u32) -> Optio
         4 => LinkEdit::ExportInfo,
         _ => return None,
     };
-    Some(part_at(file, encoding, command, kind, 8 + 8 * i as u64, 1))
+    Some(part_at(at, kind, 8 + 8 * i as u64, 1))
 }
 
 /// Returns range `i` of a command.
 #[tactic(auto, unfolding(crate::specs::LinkEdit::parts_of, crate::specs::Commands::least_size, crate::specs::Commands::least_by_kind))]
-fn part_of(file: &[u8], encoding: Encoding, command: Command, i: u32) -> Option<LinkEditPart>
-    requires header { HasHeader file.now encoding }
-    requires inside { IsInside file.now command }
-    ensures { result ≡ slice_get (parts_of file.now command) i }
+fn part_of(at: FileCommand<'_>, i: u32) -> Option<LinkEditPart>
+    requires header { HasHeader at.file.now at.encoding }
+    requires inside { IsInside at.file.now at.command }
+    ensures { result ≡ slice_get (parts_of at.entry.file.now at.entry.command) i }
 {
-    if command.kind == LC_SYMTAB {
-        return table_part(file, encoding, command, i);
+    let kind = at.command.kind;
+    if kind == LC_SYMTAB {
+        return table_part(at, i);
     }
-    if is_dyld_info(command.kind) {
-        return dyld_part(file, encoding, command, i);
+    if is_dyld_info(kind) {
+        return dyld_part(at, i);
     }
     if i != 0 {
         return None;
     }
-    if command.kind == LC_DYSYMTAB {
-        return Some(part_at(file, encoding, command, LinkEdit::IndirectSymbols, 56, 4));
+    if kind == LC_DYSYMTAB {
+        return Some(part_at(at, LinkEdit::IndirectSymbols, 56, 4));
     }
-    let kind = data_kind(command.kind)?;
-    Some(part_at(file, encoding, command, kind, 8, 1))
+    let data = data_kind(kind)?;
+    Some(part_at(at, data, 8, 1))
 }
 
 /// The ranges of the link-edit data that `next` has not returned yet, in the order of the commands.
@@ -113,7 +115,8 @@ impl<'a> Model for LinkEditParts<'a> {
 
     ghost Value = { List LinkEditPart };
 
-    ghost view = { λ p. drop p.next (parts_of_some p.walk.file p.command) ++ flat_map (parts_of p.walk.file) p.walk.rest };
+    ghost view = { λ p. drop p.next (parts_of_some p.walk.file p.command)
+        ++ flat_map (parts_of p.walk.file) p.walk.rest };
 
     ghost invariant = { λ p. IsSomeInside p.walk.file p.command };
 }
@@ -142,7 +145,14 @@ fn part_of_some(
     ensures { result ≡ slice_get (parts_of_some file.now command) i }
 {
     match command {
-        Some(command) => part_of(file, encoding, command, i),
+        Some(command) => {
+            let at = FileCommand {
+                file,
+                encoding,
+                command,
+            };
+            part_of(at, i)
+        }
         None => None,
     }
 }

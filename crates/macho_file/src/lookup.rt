@@ -50,7 +50,8 @@ pub fn segment_of<'a>(mut segments: Segments<'a>, k: u32) -> MachoSegment<'a>
 #[tactic(auto, using(crate::proofs::LookupLemmas::section_here, crate::proofs::LookupLemmas::section_fits_here, crate::proofs::LookupLemmas::section_later, crate::proofs::LookupLemmas::section_left, crate::proofs::LookupLemmas::section_within, crate::proofs::TableLemmas::segment_within))]
 pub fn section_of<'a>(mut walk: Walk<'a>, k: u32) -> MachoSection<'a>
     requires { k < length (flat_map (sections_of walk.file) walk.rest) }
-    ensures value { slice_get (flat_map (sections_of walk.entry.file) walk.entry.rest) k ≡ Some (section_shown result) }
+    ensures value { slice_get (flat_map (sections_of walk.entry.file) walk.entry.rest) k
+        ≡ Some (section_shown result) }
     ensures fits { section_fits walk.entry.file (section_shown result) ≡ Ok tt }
 {
     let file = walk.bytes();

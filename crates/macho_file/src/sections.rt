@@ -30,7 +30,8 @@ impl<'a> Model for Sections<'a> {
 
     ghost Value = { List SectionRecord };
 
-    ghost view = { λ s. sections_from s.walk.file s.form s.place s.left ++ flat_map (sections_of s.walk.file) s.walk.rest };
+    ghost view = { λ s. sections_from s.walk.file s.form s.place s.left
+        ++ flat_map (sections_of s.walk.file) s.walk.rest };
 
     ghost invariant = { λ s. s.place + s.left * section_len s.form ≤ length s.walk.file };
 }

@@ -51,7 +51,8 @@ impl<'a> Model for Segments<'a> {
 
     ghost view = { λ s. segments_from s.walk.file s.first s.walk.rest };
 
-    ghost invariant = { λ s. s.first + length (flat_map (sections_of s.walk.file) s.walk.rest) < 2 ^ 32 };
+    ghost invariant = { λ s.
+        s.first + length (flat_map (sections_of s.walk.file) s.walk.rest) < 2 ^ 32 };
 }
 
 impl<'a> Segments<'a> {

@@ -1,8 +1,9 @@
 //! The symbols that take part in the spans.
 
-ghost use Rattle.std.specs.Prelude.{◌≡◌, ◌+◌, ◌≤◌, ◌<◌, ◌^◌, ◌++◌, ◌∷◌, [], IfOk, MatchResult, OnOk, Ok, Err, length, map, if◌then◌else◌};
+ghost use Rattle.std.specs.Prelude.{◌≡◌, ℕ, List, true, ◌+◌, ◌≤◌, ◌<◌, ◌^◌, ◌++◌, ◌∷◌, [], IfOk, MatchResult, OnOk, Ok, Err, length, map, if◌then◌else◌};
 ghost use Rattle.macho_file.specs.Known.{HasHeader, HasTable};
-ghost use Rattle.macho_file.specs.Shown.{symbol_shown};
+ghost use Rattle.macho_file.specs.Names.{AreNamed, IsNamed};
+ghost use Rattle.macho_file.specs.Shown.{placed_shown};
 ghost use Rattle.macho_file.specs.Spans.{extent_numbered, lies_in, takes_part};
 ghost use Rattle.macho_file.specs.Taken.{ForBad, taken_from};
 
@@ -10,8 +11,9 @@ use crate::answer::SpanAnswer;
 use crate::constants::{N_SECT, N_STAB, N_TYPE};
 use crate::encoding::Encoding;
 use crate::extent::Extent;
-use crate::symbol::MachoSymbol;
-use crate::symbol_table::{SymbolTable, symbol_of};
+use crate::names::Names;
+use crate::symbol::PlacedSymbol;
+use crate::symbol_table::{SymbolTable, next_symbol, strings_of};
 use size_core::NoMemory;
 use std::alloc::Global;
 
@@ -31,8 +33,9 @@ fn lies_in(extents: &[Extent], sect: u8, value: u64) -> bool
 /// Returns whether a symbol takes part: it isn't for a debugger, it is defined in a section, it has a name,
 /// and its value lies in its section.
 #[tactic(auto, unfolding(crate::specs::Spans::takes_part))]
-fn takes_part(extents: &[Extent], symbol: &MachoSymbol<'_>) -> bool
-    ensures { result ≡ takes_part extents.now (symbol_shown symbol.now) }
+fn takes_part(extents: &[Extent], symbol: &PlacedSymbol<'_>) -> bool
+    ensures part { result ≡ takes_part extents.now (placed_shown symbol.now) }
+    ensures named { result ≡ true → 0 < length symbol.now.name.now }
 {
     if symbol.kind & N_STAB != 0 || symbol.kind & N_TYPE != N_SECT {
         return false;
@@ -44,14 +47,18 @@ fn takes_part(extents: &[Extent], symbol: &MachoSymbol<'_>) -> bool
 }
 
 /// Adds a symbol if it takes part.
+#[tactic(auto, using(crate::proofs::NameLemmas::named_more))]
 fn push_if_taking_part<'a>(
-    taking: &mut Vec<MachoSymbol<'a>>,
+    taking: &mut Vec<PlacedSymbol<'a>>,
     extents: &[Extent],
-    symbol: MachoSymbol<'a>,
+    symbol: PlacedSymbol<'a>,
 ) -> Result<(), NoMemory>
-    ensures { OnOk result (map symbol_shown taking.new.items
-        ≡ map symbol_shown taking.old.items
-        ++ (if takes_part extents.now (symbol_shown symbol.entry) then symbol_shown symbol.entry ∷ [] else [])) }
+    ensures taking { OnOk result (map placed_shown taking.new.items
+        ≡ map placed_shown taking.old.items
+        ++ (if takes_part extents.now (placed_shown symbol.entry)
+        then placed_shown symbol.entry ∷ [] else [])) }
+    ensures named { (file : List ℕ) → AreNamed file taking.old.items → IsNamed file symbol.entry
+        → OnOk result (AreNamed file taking.new.items) }
 {
     if takes_part(extents, &symbol) {
         taking.push(symbol)?;
@@ -60,24 +67,26 @@ fn push_if_taking_part<'a>(
 }
 
 /// Returns the symbols of a table that take part, in table order. Each symbol of the table is read.
-#[tactic(auto, using(crate::proofs::TakenLemmas::taken_next, crate::proofs::TakenLemmas::taken_bad, crate::proofs::TakenLemmas::taken_end, crate::proofs::TakenLemmas::taken_none, crate::proofs::TakenLemmas::few_more))]
+#[tactic(auto, using(crate::proofs::NameLemmas::none_named, crate::proofs::TakenLemmas::taken_for_bad, crate::proofs::TakenLemmas::taken_next, crate::proofs::TakenLemmas::taken_bad, crate::proofs::TakenLemmas::taken_end, crate::proofs::TakenLemmas::taken_none, crate::proofs::TakenLemmas::few_more))]
 pub fn symbols_taking_part<'a>(
     alloc: Global,
     file: &'a [u8],
     encoding: Encoding,
     table: SymbolTable,
     extents: &[Extent],
-) -> Result<Vec<MachoSymbol<'a>>, SpanAnswer>
+) -> Result<Vec<PlacedSymbol<'a>>, SpanAnswer>
     requires header { HasHeader file.now encoding }
     requires table { HasTable file.now table }
     ensures value { MatchResult result
-        (λ v. taken_from file.now table extents.now 0 table.nsyms ≡ Ok (map symbol_shown v.items))
+        (λ v. taken_from file.now table extents.now 0 table.nsyms ≡ Ok (map placed_shown v.items))
         (λ e. ForBad e (λ bad. taken_from file.now table extents.now 0 table.nsyms ≡ Err bad)) }
-    ensures few { IfOk result (λ v. length (map symbol_shown v.items) ≤ table.nsyms) }
+    ensures few { IfOk result (λ v. length (map placed_shown v.items) ≤ table.nsyms) }
+    ensures named { IfOk result (λ v. AreNamed file.now v.items) }
 {
+    let mut names = Names::of(alloc, strings_of(file, table));
     let mut taking = Vec::new(alloc);
     'rows: for k in 0..table.nsyms {
-        let symbol = symbol_of(file, encoding, table, k)?;
+        let symbol = next_symbol(file, encoding, table, k, &mut names)?;
         push_if_taking_part(&mut taking, extents, symbol)?;
     }
     Ok(taking)

@@ -1,15 +1,19 @@
 //! The symbol table.
 
-ghost use Rattle.std.specs.Prelude.{◌≡◌, ◌+◌, ◌*◌, ◌≤◌, ◌<◌, ◌^◌, IfOk, length};
+ghost use Rattle.std.specs.Prelude.{◌≡◌, ◌+◌, ◌*◌, ◌≤◌, ◌<◌, ◌^◌, IfOk, MatchResult, Ok, Err, length};
 ghost use Rattle.size_core.specs.Checks.{Gives};
 ghost use Rattle.macho_file.specs.Layout.{encoding_of};
-ghost use Rattle.macho_file.specs.Symbols.{strings, symbol_name, symbol_len, symbol_of, table_at, table_of};
+ghost use Rattle.macho_file.specs.Symbols.{place_of_name, strings, symbol_len, symbol_name, symbol_named, symbol_of, table_at, table_of};
 ghost use Rattle.macho_file.specs.Known.{HasHeader, HasTable, IsSomeTable};
-ghost use Rattle.macho_file.specs.Shown.{symbol_shown};
+ghost use Rattle.macho_file.specs.Names.{IsNamed};
+ghost use Rattle.macho_file.specs.Shown.{placed_shown, symbol_shown};
+ghost use Rattle.macho_file.specs.Taken.{ForBad};
 
+use crate::answer::SpanAnswer;
 use crate::command::Command;
 use crate::encoding::Encoding;
-use crate::symbol::MachoSymbol;
+use crate::names::Names;
+use crate::symbol::{MachoSymbol, PlacedSymbol};
 use byte_cursor::text_at;
 use size_core::{BadFile, Fault};
 
@@ -76,6 +80,15 @@ pub fn table_of(
     Ok(table)
 }
 
+/// Returns the bytes of the string table of a symbol table.
+pub fn strings_of<'a>(file: &'a [u8], table: SymbolTable) -> &'a [u8]
+    requires { HasTable file.now table }
+    ensures { result.now ≡ strings file.now table }
+{
+    let first = table.stroff as usize;
+    &file[first..first + table.strsize as usize]
+}
+
 /// Returns the name of the symbol at file offset `place`.
 #[tactic(auto, unfolding(crate::specs::Symbols::symbol_name))]
 fn symbol_name<'a>(
@@ -93,14 +106,58 @@ fn symbol_name<'a>(
     if strx == 0 {
         return Ok(&[]);
     }
-    let first = table.stroff as usize;
-    let strings = &file[first..first + table.strsize as usize];
-    match text_at(strings, strx as usize) {
+    match text_at(strings_of(file, table), strx as usize) {
         Some(name) => Ok(name),
         None => Err(BadFile {
             fault: Fault::NameOutside,
             offset: place,
         }),
+    }
+}
+
+/// Returns the name of the symbol at file offset `place`. A long name that was read before isn't read again.
+#[tactic(auto, unfolding(crate::specs::Symbols::symbol_name))]
+fn name_of<'a>(
+    file: &[u8],
+    encoding: Encoding,
+    table: SymbolTable,
+    place: u64,
+    names: &mut Names<'a>,
+) -> Result<&'a [u8], SpanAnswer>
+    requires header { HasHeader file.now encoding }
+    requires names { names.old ≡ strings file.now table }
+    requires within { place + 4 ≤ length file.now }
+    ensures name { MatchResult result
+        (λ name. symbol_name file.now table place ≡ Ok name.now)
+        (λ e. ForBad e (λ bad. symbol_name file.now table place ≡ Err bad)) }
+    ensures names { names.new ≡ names.old }
+{
+    let strx = encoding.four(file, place);
+    if strx == 0 {
+        return Ok(&[]);
+    }
+    match names.read(strx)? {
+        Some(name) => Ok(name),
+        None => Err(SpanAnswer::Bad(BadFile {
+            fault: Fault::NameOutside,
+            offset: place,
+        })),
+    }
+}
+
+/// Returns the symbol at file offset `place`, with this name.
+fn symbol_named<'a>(file: &[u8], encoding: Encoding, place: u64, name: &'a [u8]) -> MachoSymbol<'a>
+    requires header { HasHeader file.now encoding }
+    requires within { place + symbol_len file.now ≤ length file.now }
+    ensures symbol { symbol_shown result ≡ symbol_named file.now name.now place }
+    ensures name { result.name ≡ name.entry }
+{
+    MachoSymbol {
+        place,
+        name,
+        kind: file[place as usize + 4],
+        sect: file[place as usize + 5],
+        value: encoding.word(file, place, 8, 8),
     }
 }
 
@@ -119,11 +176,30 @@ pub fn symbol_of<'a>(
 {
     let place = table.symoff as u64 + k as u64 * encoding.pick(12, 16);
     let name = symbol_name(file, encoding, table, place)?;
-    Ok(MachoSymbol {
-        place,
-        name,
-        kind: file[place as usize + 4],
-        sect: file[place as usize + 5],
-        value: encoding.word(file, place, 8, 8),
-    })
+    Ok(symbol_named(file, encoding, place, name))
+}
+
+/// Returns symbol `k` of a table, with the file offset of its name. A long name that was read before isn't read again.
+#[tactic(auto, unfolding(crate::specs::Symbols::symbol_of), using(crate::proofs::SymbolLemmas::symbol_within, crate::proofs::SymbolLemmas::name_placed, crate::proofs::SymbolLemmas::symbol_bad))]
+pub fn next_symbol<'a>(
+    file: &[u8],
+    encoding: Encoding,
+    table: SymbolTable,
+    k: u32,
+    names: &mut Names<'a>,
+) -> Result<PlacedSymbol<'a>, SpanAnswer>
+    requires header { HasHeader file.now encoding }
+    requires table { HasTable file.now table }
+    requires number { k < table.nsyms }
+    requires names { names.old ≡ strings file.now table }
+    ensures symbol { MatchResult result
+        (λ s. symbol_of file.now table k ≡ Ok (placed_shown s))
+        (λ e. ForBad e (λ bad. symbol_of file.now table k ≡ Err bad)) }
+    ensures name { IfOk result (λ s. IsNamed file.now s) }
+    ensures names { names.new ≡ names.old }
+{
+    let place = table.symoff as u64 + k as u64 * encoding.pick(12, 16);
+    let name = name_of(file, encoding, table, place, names)?;
+    let name_place = table.stroff as u64 + encoding.four(file, place) as u64;
+    Ok(symbol_named(file, encoding, place, name).placed(name_place))
 }

@@ -26,7 +26,8 @@ impl<'a> Model for Walk<'a> {
 
     ghost Value = { Listing };
 
-    ghost view = { λ w. record { file = w.file.now; rest = commands_from w.file.now w.place w.left } };
+    ghost view = { λ w.
+        record { file = w.file.now; rest = commands_from w.file.now w.place w.left } };
 
     ghost invariant = { λ w. HasCommands w.file.now w.encoding w.place w.left };
 }

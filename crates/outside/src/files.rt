@@ -67,12 +67,16 @@ pub trait Files {
 
         ensures within { IfOk result (λ v. length v.items ≤ limit) }
         ensures bytes { IfOk result (λ v. IsHeld (held self.old) name.now v.items) }
-        ensures taken { IfOk result (λ v. IsTaken (held self.old) (length v.items) (taken self.old) (taken self.new)) }
+        ensures taken { IfOk result (λ v.
+            IsTaken (held self.old) (length v.items) (taken self.old) (taken self.new)) }
 
-        ensures failed { IsErrOf result FileAnswer.Failed → Rose (faults self.old) (faults self.new) }
+        ensures failed { IsErrOf result FileAnswer.Failed
+            → Rose (faults self.old) (faults self.new) }
         ensures uncounted { ¬ IsErrOf result FileAnswer.Failed → faults self.new ≡ faults self.old }
-        ensures told { IsErrOf result FileAnswer.Failed → IfSome (last_failed self.new) (λ n. n ≡ name.now) }
-        ensures untold { ¬ IsErrOf result FileAnswer.Failed → last_failed self.new ≡ last_failed self.old }
+        ensures told { IsErrOf result FileAnswer.Failed
+            → IfSome (last_failed self.new) (λ n. n ≡ name.now) }
+        ensures untold { ¬ IsErrOf result FileAnswer.Failed
+            → last_failed self.new ≡ last_failed self.old }
 
         ensures too_long { IsErrOf result FileAnswer.TooLong
             → IsLonger (held self.old) name.now limit (taken self.old) (taken self.new) };

@@ -37,7 +37,8 @@ impl<W: Write + Drop> Model for HostSink<W> {
 
     ghost Value = { SeenSink W };
 
-    ghost view = { λ s. record { writer = s.writer; faults = s.faults; accepted = concat s.pieces.items } };
+    ghost view = { λ s.
+        record { writer = s.writer; faults = s.faults; accepted = concat s.pieces.items } };
 }
 
 impl<W: Write + Drop> HostSink<W> {
@@ -110,7 +111,8 @@ impl<'r, R: rt::Files> Model for HostFiles<'r, R> {
 
     ghost Value = { SeenHost };
 
-    ghost view = { λ f. record { faults = f.faults; turns = f.turns; asked = f.asked.items; gave = f.gave } };
+    ghost view = { λ f.
+        record { faults = f.faults; turns = f.turns; asked = f.asked.items; gave = f.gave } };
 }
 
 impl<'r, R: rt::Files> HostFiles<'r, R> {
@@ -153,12 +155,15 @@ impl<'r, R: rt::Files> Files for HostFiles<'r, R> {
         ensures most { taken_by self.new ≤ taken_by self.old + (limit + 1) }
         ensures within { IfOk result (λ v. length v.items ≤ limit) }
         ensures untold { IfOk result (λ v. IsHeld None name.now v.items) }
-        ensures taken { IfOk result (λ v. IsTaken None (length v.items) (taken_by self.old) (taken_by self.new)) }
+        ensures taken { IfOk result (λ v.
+            IsTaken None (length v.items) (taken_by self.old) (taken_by self.new)) }
         ensures failed { IsErrOf result FileAnswer.Failed → Rose self.old.faults self.new.faults }
         ensures uncounted { ¬ IsErrOf result FileAnswer.Failed → self.new.faults ≡ self.old.faults }
-        ensures too_long { IsErrOf result FileAnswer.TooLong → RoseBy (limit + 1) (taken_by self.old) (taken_by self.new) }
+        ensures too_long { IsErrOf result FileAnswer.TooLong
+            → RoseBy (limit + 1) (taken_by self.old) (taken_by self.new) }
 
-        ensures counted { IsErrOf result FileAnswer.Failed → self.new.faults ≡ raised self.old.faults }
+        ensures counted { IsErrOf result FileAnswer.Failed
+            → self.new.faults ≡ raised self.old.faults }
         ensures turns { TookAtMost (limit + 1) self.old.turns self.new.turns }
         ensures all { IfOk result (λ v. Took self.old.turns self.new.turns v.items) }
     {

@@ -34,9 +34,19 @@ impl Model for MemSink {
 
     ghost Value = { SinkInMemory };
 
-    ghost view = { λ s. record { written = s.bytes.items; room = s.room; most = s.most; failing = s.failing.items; calls = s.calls; faults = s.faults } };
+    ghost view = { λ s.
+        record {
+          written = s.bytes.items;
+          room = s.room;
+          most = s.most;
+          failing = s.failing.items;
+          calls = s.calls;
+          faults = s.faults;
+        } };
 
-    ghost invariant = { λ s. (vec_len s.bytes ≤ s.room) × (s.room ≤ vec_capacity s.bytes) × (0 < s.most) };
+    ghost invariant = { λ s. (vec_len s.bytes ≤ s.room)
+        × (s.room ≤ vec_capacity s.bytes)
+        × (0 < s.most) };
 }
 
 impl MemSink {
@@ -80,7 +90,8 @@ impl Sink for MemSink {
         requires { 0 < length piece.now }
         ensures some { IfOk result (λ n. 0 < n) }
         ensures bound { IfOk result (λ n. n ≤ length piece.now) }
-        ensures bytes { IfOk result (λ n. Grew (Some self.old.written) (Some self.new.written) (take n piece.now)) }
+        ensures bytes { IfOk result (λ n.
+            Grew (Some self.old.written) (Some self.new.written) (take n piece.now)) }
         ensures kept { OnErr result (Some self.new.written ≡ Some self.old.written) }
         ensures later { self.old.faults ≤ self.new.faults }
         ensures uncounted { OnOk result (self.new.faults ≡ self.old.faults) }
@@ -133,7 +144,16 @@ impl Model for MemFiles {
 
     ghost Value = { FilesInMemory };
 
-    ghost view = { λ f. record { pairs = seen_pairs f.pairs.items; failing = f.failing.items; calls = f.calls; faults = f.faults; last_failed = name_of_failed f.last_failed; asked = f.asked.items; gave = f.gave } };
+    ghost view = { λ f.
+        record {
+          pairs = seen_pairs f.pairs.items;
+          failing = f.failing.items;
+          calls = f.calls;
+          faults = f.faults;
+          last_failed = name_of_failed f.last_failed;
+          asked = f.asked.items;
+          gave = f.gave;
+        } };
 }
 
 impl MemFiles {
@@ -209,8 +229,10 @@ impl Files for MemFiles {
         ensures failed { IsErrOf result FileAnswer.Failed → Rose self.old.faults self.new.faults }
         ensures uncounted { ¬ IsErrOf result FileAnswer.Failed → self.new.faults ≡ self.old.faults }
         ensures told { IsErrOf result FileAnswer.Failed → self.new.last_failed ≡ name.now }
-        ensures untold { ¬ IsErrOf result FileAnswer.Failed → Some self.new.last_failed ≡ Some self.old.last_failed }
-        ensures too_long { IsErrOf result FileAnswer.TooLong → limit < length (held_bytes self.old.pairs name.now) }
+        ensures untold { ¬ IsErrOf result FileAnswer.Failed
+            → Some self.new.last_failed ≡ Some self.old.last_failed }
+        ensures too_long { IsErrOf result FileAnswer.TooLong
+            → limit < length (held_bytes self.old.pairs name.now) }
 
         ensures answer { Reads result (read_answer self.old name.now limit) }
         ensures after { self.new ≡ files_after self.old name.now result }
@@ -239,7 +261,8 @@ impl Model for NoFaultFiles {
 
     ghost Value = { SoundFiles };
 
-    ghost view = { λ f. record { pairs = seen_pairs f.pairs.items; asked = f.asked.items; gave = f.gave } };
+    ghost view = { λ f.
+        record { pairs = seen_pairs f.pairs.items; asked = f.asked.items; gave = f.gave } };
 }
 
 impl NoFaultFiles {

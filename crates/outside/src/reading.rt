@@ -24,10 +24,13 @@ pub fn take_up_to<F: Read + Drop>(
     most: u64,
 ) -> (Vec<u8>, io::Result<()>)
     ensures within { length result.0.items ≤ most }
-    ensures taken { Consumes (F.remaining file.old.file) (F.remaining file.new.file) result.0.items }
-    ensures all { OnOk result.1 (length result.0.items < most → IsAtEnd (F.remaining file.new.file)) }
+    ensures taken { Consumes (F.remaining file.old.file) (F.remaining file.new.file)
+        result.0.items }
+    ensures all { OnOk result.1
+        (length result.0.items < most → IsAtEnd (F.remaining file.new.file)) }
     ensures turns { Took file.old.turns file.new.turns result.0.items }
-    ensures failed { IfErr result.1 (λ e. error_kind e ≢ OutOfMemory → file.new.failures ≡ raised file.old.failures) }
+    ensures failed { IfErr result.1 (λ e. error_kind e ≢ OutOfMemory
+        → file.new.failures ≡ raised file.old.failures) }
     ensures unfailed { OnOk result.1 (file.new.failures ≡ file.old.failures) }
 {
     let mut bytes = Vec::new(alloc);
@@ -65,9 +68,11 @@ fn read_more<F: Read + Drop>(
         (take n (drop filled bytes.new.items))) }
     ensures err { OnErr result (Keeps (F.remaining file.old.file) (F.remaining file.new.file)) }
     ensures end { IfOk result (λ n. n ≡ 0 → IsAtEnd (F.remaining file.new.file)) }
-    ensures turn { IfOk result (λ n. file.new.turns ≡ file.old.turns ++ take n (drop filled bytes.new.items) ∷ []) }
+    ensures turn { IfOk result (λ n. file.new.turns
+        ≡ file.old.turns ++ take n (drop filled bytes.new.items) ∷ []) }
     ensures turn_of_none { OnErr result (Took file.old.turns file.new.turns []) }
-    ensures failed { IfErr result (λ e. error_kind e ≢ OutOfMemory → file.new.failures ≡ raised file.old.failures) }
+    ensures failed { IfErr result (λ e. error_kind e ≢ OutOfMemory
+        → file.new.failures ≡ raised file.old.failures) }
     ensures unfailed { OnOk result (file.new.failures ≡ file.old.failures) }
 {
     make_room(bytes, filled, most)?;

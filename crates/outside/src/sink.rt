@@ -24,7 +24,8 @@ pub trait Sink {
         requires { 0 < length piece.now }
         ensures some { IfOk result (λ n. 0 < n) }
         ensures bound { IfOk result (λ n. n ≤ length piece.now) }
-        ensures bytes { IfOk result (λ n. Grew (written self.old) (written self.new) (take n piece.now)) }
+        ensures bytes { IfOk result (λ n.
+            Grew (written self.old) (written self.new) (take n piece.now)) }
 
         ensures kept { OnErr result (written self.new ≡ written self.old) }
         ensures later { faults self.old ≤ faults self.new }

@@ -82,7 +82,8 @@ impl<F: Read + Drop> Read for TurnReader<F> {
 
     fn read(&mut self, buf: &mut [u8]) -> io::Result<usize>
         ensures bound { ReadsAtMost result buf.new }
-        ensures bytes { ReadConsumes (F.remaining self.old.file) (F.remaining self.new.file) result buf.new }
+        ensures bytes { ReadConsumes (F.remaining self.old.file) (F.remaining self.new.file)
+            result buf.new }
         ensures turn { IfOk result (λ n. self.new.turns ≡ self.old.turns ++ take n buf.new ∷ []) }
         ensures turn_of_none { OnErr result (self.new.turns ≡ self.old.turns ++ [] ∷ []) }
         ensures failed { OnErr result (self.new.failures ≡ raised self.old.failures) }

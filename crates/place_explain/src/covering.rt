@@ -40,8 +40,8 @@ pub fn explain(
 ) -> Result<Numbers, NoMemory>
     requires len { base.now.len ≡ file_len }
     requires inside { IsTrue (is_inside file_len base.now.loads place.now) }
-    ensures { IfOk result
-        (λ numbers. numbers ≡ numbers_of (claim_covers file_len base.now.loads place.now) 1 claims.now) }
+    ensures { IfOk result (λ numbers. numbers
+        ≡ numbers_of (claim_covers file_len base.now.loads place.now) 1 claims.now) }
 {
     let spot = Spot::of(base, place);
     let mut numbers = Numbers::new(alloc);

@@ -8,4 +8,6 @@ mod spot;
 
 pub use covering::{covers, explain, is_inside};
 pub use laws::{first_has_label, rewrites_the_label_alone};
-pub use named::{Explained, NamedClaim, NamedClaims, Numbers, PlaceSource, explain_source};
+pub use named::{
+    Explained, NamedClaim, NamedClaims, NumberedClaims, Numbers, PlaceSource, explain_source,
+};

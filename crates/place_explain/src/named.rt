@@ -47,6 +47,15 @@ pub struct PlaceSource {
     pub more: u64,
 }
 
+/// The claims of a data source. The labels of the claims are numbers in the pool, and `unmapped` is the number of the
+/// label for uncovered bytes.
+#[derive(Clone, Copy)]
+pub struct NumberedClaims<'c, 'p> {
+    pub claims: &'c [Claim],
+    pub pool: &'p LabelPool,
+    pub unmapped: usize,
+}
+
 // The claim with this number, and its label.
 fn named_claim(
     alloc: Global,
@@ -87,7 +96,8 @@ fn named_claims(
 ) -> Result<NamedClaims, NoMemory>
     requires numbered { All (λ (c : ClaimSpec). c.label < length pool.now) claims.now }
     requires numbers { All (IsNumber claims.now) numbers.now }
-    ensures { IfOk result (λ v. v ≡ map (named_at pool.now claims.now) (within_limit limit numbers.now)) }
+    ensures { IfOk result (λ v. v
+        ≡ map (named_at pool.now claims.now) (within_limit limit numbers.now)) }
 {
     let mut named = NamedClaims::new(alloc);
     for k in 0..count_within(limit, numbers.len()) {
@@ -113,26 +123,29 @@ fn label_of_first(
     claims.get(0).label.copy()
 }
 
-/// The explanation of a byte of a file of `file_len` bytes by a data source, before labels are rewritten. The labels of
-/// claims are numbers in the pool, and `unmapped` is the number of the label for uncovered bytes. A `limit` above 0
+/// The explanation of a byte of the file of this base by a data source, before labels are rewritten. A `limit` above 0
 /// keeps the first claim that covers the byte and up to `limit` more. Only the labels of these claims are copied.
 pub fn explain_source(
     alloc: Global,
     base: &Base,
-    file_len: u64,
-    claims: &[Claim],
-    unmapped: usize,
-    pool: &LabelPool,
+    source: NumberedClaims<'_, '_>,
     place: &Place,
     limit: u32,
 ) -> Result<Explained, NoMemory>
-    requires len { base.now.len ≡ file_len }
-    requires inside { IsTrue (is_inside file_len base.now.loads place.now) }
-    requires numbered { All (λ (c : ClaimSpec). c.label < length pool.now) claims.now }
-    requires unmapped { unmapped < length pool.now }
-    ensures { IfOk result
-        (λ e. e ≡ explained file_len base.now.loads place.now limit (numbered_view pool.now claims.now unmapped)) }
+    requires inside { IsTrue (is_inside base.now.len base.now.loads place.now) }
+    requires numbered { All (λ (c : ClaimSpec). c.label < length source.pool.now)
+        source.claims.now }
+    requires unmapped { source.unmapped < length source.pool.now }
+    ensures { IfOk result (λ e. e
+        ≡ explained base.now.len base.now.loads place.now limit
+        (numbered_view source.entry.pool.now source.entry.claims.now source.entry.unmapped)) }
 {
+    let NumberedClaims {
+        claims,
+        pool,
+        unmapped,
+    } = source;
+    let file_len = base.len();
     let numbers = explain(alloc, base, file_len, claims, place)?;
     let claims = named_claims(alloc, &numbers, claims, pool, limit)?;
     let label = label_of_first(alloc, &claims, pool, unmapped)?;

@@ -63,7 +63,8 @@ impl Spot {
 
     /// Whether a claim covers the byte.
     pub fn is_covered_by(&self, claim: &Claim) -> bool
-        ensures { (len : ℕ) (loads : List Load) (place : PlaceSpec) → IsSpot len loads place self.now
+        ensures { (len : ℕ) (loads : List Load) (place : PlaceSpec)
+            → IsSpot len loads place self.now
             → result ≡ claim_covers len loads place claim.now }
     {
         match claim.side {

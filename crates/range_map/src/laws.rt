@@ -7,5 +7,6 @@ ghost use Rattle.range_map.specs.Ranges.{IsAddedTo};
 
 /// The pieces that `RangeMap::build` makes of ranges are those that adding the ranges in order leaves.
 pub fn adding_in_order_builds()
-    ensures { (ranges added built : List Piece) → IsAddedTo [] ranges added → IsLaid ranges built → added ≡ built }
+    ensures { (ranges added built : List Piece)
+        → IsAddedTo [] ranges added → IsLaid ranges built → added ≡ built }
 {}

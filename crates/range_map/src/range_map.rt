@@ -2,9 +2,9 @@
 
 ghost use Rattle.std.specs.Prelude.{◌≡◌, ◌+◌, ◌*◌, ◌^◌, ◌<◌, ◌≤◌, ℕ, [], ◌∷◌, ◌++◌, length, slice_get, Some, OnOk, OnErr, IfOk, All};
 ghost use Rattle.size_model.specs.Cut.{end_of, label_in, place_count, IsLaid, IsTidy};
-ghost use Rattle.range_map.specs.Ranges.{EndsBy, IsRange, KeepsPlaces};
+ghost use Rattle.range_map.specs.Ranges.{EndsBy, IsMap, IsRange, KeepsPlaces};
 
-use crate::emit::{emit, fill};
+use crate::appending::{emit, fill};
 use crate::sweep::laid;
 use size_core::{NoMemory, Steps};
 use size_model::Piece;
@@ -61,11 +61,12 @@ impl RangeMap {
     /// unchanged.
     pub fn add(&mut self, start: u128, len: u64, label: usize) -> Result<(), NoMemory>
         requires { start < 2 ^ 96 }
-        ensures ok { OnOk result
-            (IsLaid (self.old ++ record { start = start; len = len; label = label } ∷ []) self.new) }
-        ensures places { OnOk result
-            (KeepsPlaces (self.old ++ record { start = start; len = len; label = label } ∷ []) self.new) }
-        ensures place_count { OnOk result ((n : ℕ) → place_count self.new n ≤ place_count self.old n + 2) }
+        ensures ok { OnOk result (IsLaid
+            (self.old ++ record { start = start; len = len; label = label } ∷ []) self.new) }
+        ensures places { OnOk result (KeepsPlaces
+            (self.old ++ record { start = start; len = len; label = label } ∷ []) self.new) }
+        ensures place_count { OnOk result ((n : ℕ)
+            → place_count self.new n ≤ place_count self.old n + 2) }
         ensures err { OnErr result (self.new ≡ self.old) }
     {
         let range = Piece {
@@ -95,6 +96,14 @@ impl RangeMap {
     {
         let pieces = laid(alloc, claims)?;
         Ok(RangeMap { alloc, pieces })
+    }
+
+    /// The map of pieces that are those of a map already.
+    pub fn of_pieces(alloc: Global, pieces: Vec<Piece>) -> RangeMap
+        requires { IsMap pieces.items }
+        ensures { result ≡ pieces.items }
+    {
+        RangeMap { alloc, pieces }
     }
 
     /// The number of pieces.

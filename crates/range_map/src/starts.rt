@@ -26,7 +26,8 @@ pub enum Starts {
 fn packed(alloc: Global, claims: &[Piece]) -> Result<Vec<u128>, AllocError>
     requires ranges { All IsRange claims.now }
     requires few { length claims.now ≤ 2 ^ 32 }
-    ensures same { IfOk result (λ v. IsPermutation (starts_from 0 claims.now) (map pair_of v.items)) }
+    ensures same { IfOk result
+        (λ v. IsPermutation (starts_from 0 claims.now) (map pair_of v.items)) }
     ensures sorted { IfOk result (λ v. IsNonDecreasingBy (λ p. p.0) (map pair_of v.items)) }
 {
     let mut keys = Vec::with_capacity(alloc, claims.len())?;

@@ -9,7 +9,7 @@ ghost use Rattle.range_map.specs.Ranges.{EndsBy, IsRange};
 ghost use Rattle.range_map.specs.Starts.{pairs_of};
 ghost use Rattle.range_map.specs.Sweep.{Holds, IsFirst, IsLaidTo, IsOpen, Keeps, at, lowest_first, numbered, starts_from};
 
-use crate::emit::{emit, fill};
+use crate::appending::{emit, fill};
 use crate::starts::{END, Starts};
 use size_model::Piece;
 use std::alloc::{AllocError, Global};

@@ -1,9 +1,12 @@
 pub mod AscendLemmas
 pub mod CutLemmas
 pub mod EntryLemmas
+pub mod FirstLemmas
 pub mod FirstLevelLemmas
 pub mod GatherLemmas
 pub mod GroupLemmas
+pub mod InsertLemmas
+pub mod LeadingLemmas
 pub mod LevelLemmas
 pub mod LimitLemmas
 pub mod ListLemmas
@@ -13,6 +16,7 @@ pub mod PlacingLemmas
 pub mod RootLemmas
 pub mod RowLemmas
 pub mod RunLemmas
+pub mod SelectLemmas
 pub mod ShownLemmas
 pub mod SizeOrderLemmas
 pub mod SortLemmas

@@ -1,5 +1,5 @@
 -- Sorted lists: inserting an element, and that a sorted list is determined by its elements.
-use Rattle.std.proofs.Common.{◌≡◌, ℕ, zero, suc, ◌+◌, List, [], ◌∷◌, get_or, refl, sym, ap, ◌∙◌, Bool, true, false, cond, arith, add-one, inl, inr}
+use Rattle.std.proofs.Common.{◌≡◌, ℕ, zero, suc, ◌+◌, List, [], ◌∷◌, ◌++◌, get_or, refl, sym, ap, ◌∙◌, Bool, true, false, cond, append_assoc, arith, add-one, inl, inr}
 use Rattle.std.specs.Prelude.{All}
 use Rattle.std.specs.declared.cmp.Ordering.{Ordering}
 use Rattle.std.specs.declared.cmp.Ordering.TheVariants.{Less, Equal, Greater}
@@ -9,9 +9,9 @@ use Rattle.std.specs.List.{sum_by, count_by}
 use Rattle.std.specs.List.Sorted.{IsPermutation, IsSorted}
 use Rattle.std.proofs.lemmas.Bool.{cases_Bool}
 use Rattle.std.proofs.lemmas.Cmp.{upto}
-use Rattle.std.proofs.lemmas.List.Elements.{All-cons, All-head, All-tail, All-nil}
+use Rattle.std.proofs.lemmas.List.Elements.{All-append, All-cons, All-head, All-tail, All-nil}
 use Rattle.std.proofs.lemmas.List.Sums.{sum_by-cons}
-use Rattle.std.proofs.lemmas.List.Sorted.{ranks_by, sorted_far, sum_by-IsPermutation}
+use Rattle.std.proofs.lemmas.List.Sorted.{IsPermutation-append_right, IsPermutation-cons, IsPermutation-middle, IsPermutation-refl, IsPermutation-trans, ranks_by, sorted_far, sum_by-IsPermutation}
 use Rattle.report_rows.specs.Order.{placed, in_order}
 
 -- Sums over a list with one more element.
@@ -69,10 +69,10 @@ not-gt Equal e = refl
 not-gt Greater e = cc e
 
 module _ {X : Type 0} (R : X → X → Ordering) (o : IsTotalOrder R) where
-  turn : (x y : X) → is_lt (R x y) ≡ is_gt (R y x)
+  pub turn : (x y : X) → is_lt (R x y) ≡ is_gt (R y x)
   turn x y = turned (R x y) (R y x) (o.antisymm x y)
 
-  chain : (x y z : X) → is_lt (R y x) ≡ false → is_lt (R z y) ≡ false → is_lt (R z x) ≡ false
+  pub chain : (x y z : X) → is_lt (R y x) ≡ false → is_lt (R z y) ≡ false → is_lt (R z x) ≡ false
   chain x y z a b = turn z x ∙ upto o x y z (sym (turn y x) ∙ a) (sym (turn z y) ∙ b)
 
   pub head-least : (x : X) (xs : List X) → IsSorted R (x ∷ xs) → All (λ z. is_lt (R z x) ≡ false) xs
@@ -94,6 +94,31 @@ module _ {X : Type 0} (R : X → X → Ordering) (o : IsTotalOrder R) where
   unfolding in_order
   in_order-sorted [] = λ k d low high. absurd (omega arith)
   in_order-sorted (x ∷ xs) = placed-sorted x (in_order R xs) (in_order-sorted xs)
+
+  -- An element between two sorted lists.
+  pub sorted-join : (x : X) (xs ys : List X) → IsSorted R xs → All (λ z. is_lt (R x z) ≡ false) xs → All (λ z. is_lt (R z x) ≡ false) ys → IsSorted R ys → IsSorted R (xs ++ x ∷ ys)
+  sorted-join x [] ys sorted before after rest = sorted-cons R x ys after rest
+  sorted-join x (a ∷ xs) ys sorted before after rest =
+      let here : is_lt (R x a) ≡ false = All-head (λ z. is_lt (R x z) ≡ false) a xs before in
+      let later : All (λ z. is_lt (R z a) ≡ false) (x ∷ ys) = All-cons (λ z. is_lt (R z a) ≡ false) x ys here (λ k d lt. chain a x (get_or ys k d) here (after k d lt)) in
+      sorted-cons R a (xs ++ x ∷ ys) (All-append (λ z. is_lt (R z a) ≡ false) xs (x ∷ ys) (head-least a xs sorted) later)
+      (sorted-join x xs ys (tail-sorted R a xs sorted) (All-tail (λ z. is_lt (R x z) ≡ false) a xs before) after rest)
+
+-- A sorted list has the same elements.
+placed-permutation : {X : Type 0} (cmp : X → X → Ordering) (x : X) (xs : List X) → IsPermutation (x ∷ xs) (placed cmp x xs)
+unfolding placed
+placed-permutation cmp x [] = IsPermutation-refl (x ∷ [])
+placed-permutation {X} cmp x (y ∷ ys) = at (is_lt (cmp y x)) (placed-permutation cmp x ys)
+  where
+    at : (b : Bool) → IsPermutation (x ∷ ys) (placed cmp x ys) → IsPermutation (x ∷ y ∷ ys) (cond b (y ∷ placed cmp x ys) (x ∷ y ∷ ys))
+    at true rest = IsPermutation-trans (x ∷ y ∷ ys) (y ∷ x ∷ ys) (y ∷ placed cmp x ys) (IsPermutation-middle (x ∷ []) y ys) (IsPermutation-cons y (x ∷ ys) (placed cmp x ys) rest)
+    at false rest = IsPermutation-refl (x ∷ y ∷ ys)
+
+pub in_order-permutation : {X : Type 0} (cmp : X → X → Ordering) (xs : List X) → IsPermutation xs (in_order cmp xs)
+unfolding in_order
+in_order-permutation cmp [] = IsPermutation-refl []
+in_order-permutation cmp (x ∷ xs) =
+    IsPermutation-trans (x ∷ xs) (x ∷ in_order cmp xs) (placed cmp x (in_order cmp xs)) (IsPermutation-cons x xs (in_order cmp xs) (in_order-permutation cmp xs)) (placed-permutation cmp x (in_order cmp xs))
 
 -- A test that no element passes counts none.
 count-none : {X : Type 0} (p : X → Bool) (xs : List X) → All (λ x. p x ≡ false) xs → count_by p xs ≡ 0
@@ -139,3 +164,12 @@ one_list R o is (x ∷ xs) (y ∷ ys) s t same =
 pub in_order_is : {X : Type 0} (R : X → X → Ordering) → IsTotalOrder R → ((a b : X) → R a b ≡ Equal → a ≡ b) → (xs ys : List X) → IsPermutation xs ys → IsSorted R ys → ys ≡ in_order R xs
 in_order_is R o is xs ys same sorted =
     one_list R o is ys (in_order R xs) sorted (in_order-sorted R o xs) (λ p. sum_by-in_order R (λ x. cond (p x) 1 0) xs ∙ sym (sum_by-IsPermutation (λ x. cond (p x) 1 0) xs ys same))
+
+-- Elements that come first in order, and then the others in order, are the sorted list.
+pub first-in-order : {X : Type 0} (R : X → X → Ordering) → IsTotalOrder R → ((a b : X) → R a b ≡ Equal → a ≡ b) → (all front left : List X) (x : X) → IsPermutation all (front ++ x ∷ left)
+    → IsSorted R front → All (λ z. is_lt (R x z) ≡ false) front → All (λ z. is_lt (R z x) ≡ false) left → in_order R all ≡ (front ++ x ∷ []) ++ in_order R left
+first-in-order R o is all front left x same sorted before after =
+    let rest = in_order R left in
+    let moved = IsPermutation-trans all (front ++ x ∷ left) (front ++ x ∷ rest) same (IsPermutation-append_right front (x ∷ left) (x ∷ rest) (IsPermutation-cons x left rest (in_order-permutation R left))) in
+    let ordered = sorted-join R o x front rest sorted before (All-in_order R (λ z. is_lt (R z x) ≡ false) left after) (in_order-sorted R o left) in
+    sym (in_order_is R o is all (front ++ x ∷ rest) moved ordered) ∙ sym (append_assoc front (x ∷ []) rest)

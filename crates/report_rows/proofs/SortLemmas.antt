@@ -14,7 +14,7 @@ use Rattle.rollup.specs.declared.table.RollupRow.{RollupRow}
 use Rattle.report_rows.specs.contracts.groups.GroupOrd.TheImpl as group_ord
 use Rattle.report_rows.specs.declared.groups.Group.{Group}
 use Rattle.report_rows.specs.declared.row.RowOptions.{RowOptions}
-use Rattle.report_rows.specs.Groups.{table_at, group_label, IsPart, IsGroup}
+use Rattle.report_rows.specs.Groups.{table_at, group_cmp, group_label, IsPart, IsGroup}
 use Rattle.report_rows.specs.Keys.{key_of}
 use Rattle.report_rows.specs.Order.{in_order}
 use Rattle.report_rows.specs.Tables.{Table, vm_sum, file_sum, under, first_labels}
@@ -39,15 +39,27 @@ least-turned Less Greater e h = cc h
 least-turned Equal s e h = refl
 least-turned Greater s e h = refl
 
-not-less : (m n : ℕ) (rest : Ordering) (r : Ordering) → r ≡ nat_cmp m n → is_lt (ordering_then r rest) ≡ false → n ≤ m
-not-less m n rest Less e h = cc h
-not-less m n rest Equal e h = let q : m ≡ n = ranked m n Equal e in omega arith
-not-less m n rest Greater e h = let q : n < m = ranked m n Greater e in omega arith
+from-order : (m n : ℕ) (r : Ordering) → r ≡ nat_cmp m n → is_lt r ≡ false → n ≤ m
+from-order m n Less e h = cc h
+from-order m n Equal e h = let q : m ≡ n = ranked m n Equal e in omega arith
+from-order m n Greater e h = let q : n < m = ranked m n Greater e in omega arith
 
 by-parts : (r s q : Ordering) → is_lt (ordering_then r s) ≡ false → (is_lt s ≡ false → is_lt q ≡ false) → is_lt (ordering_then r q) ≡ false
 by-parts Less s q h f = h
 by-parts Equal s q h f = f h
 by-parts Greater s q h f = refl
+
+not-then : (r s : Ordering) → is_lt (ordering_then r s) ≡ false → is_lt r ≡ false
+not-then Less s h = cc h
+not-then Equal s h = refl
+not-then Greater s h = refl
+
+-- Groups that the code sorts are in order.
+pub derived-order : (g h : Group) → is_lt (group_ord.ghosts.cmp g h) ≡ false → is_lt (group_cmp g h) ≡ false
+derived-order g h e = by-parts (nat_cmp h.key.0 g.key.0) _ (nat_cmp g.from h.from) e (λ later. not-then (nat_cmp g.from h.from) _ later)
+
+pub derived_sorted : (groups : List Group) → IsSorted (λ x y. group_ord.ghosts.cmp x y) groups → IsSorted group_cmp groups
+derived_sorted groups sorted k d low high = derived-order (get_or groups (k + 1) d) (get_or groups k d) (sorted k d low high)
 
 module _ (o : RowOptions) (depth level : ℕ) (all : List RollupRow) (part : IsPart depth level all) (below : level < depth) where
   abbrev table : Table
@@ -59,13 +71,13 @@ module _ (o : RowOptions) (depth level : ℕ) (all : List RollupRow) (part : IsP
   key-is : (g : Group) → IsGroup o level all g → g.key.0 ≡ label_key o table (lab g)
   key-is g group = group.key ∙ ap (λ (e : Entry). key_of o e.vm e.file) group.entry
 
-  order-step : (a b : Group) → IsGroup o level all a → IsGroup o level all b → is_lt (group_ord.ghosts.cmp b a) ≡ false → is_lt (label_cmp o table (lab b) (lab a)) ≡ false
+  pub order-step : (a b : Group) → IsGroup o level all a → IsGroup o level all b → is_lt (group_cmp b a) ≡ false → is_lt (label_cmp o table (lab b) (lab a)) ≡ false
   order-step a b ga gb h =
       rw (sym (key-is a ga), sym (key-is b gb)) (by-parts (nat_cmp a.key.0 b.key.0) _ (slice_cmp nat_cmp (lab b) (lab a)) h
       (λ later. least-turned (slice_cmp nat_cmp (lab b) (lab a)) (slice_cmp nat_cmp (lab a) (lab b)) (nat_list_cmp_total.antisymm (lab b) (lab a))
-      (ascend level all a.from b.from part.ordered (deep_of depth level all part below) (not-less b.from a.from _ (nat_cmp b.from a.from) refl later) (omega (arith, gb.some, gb.within)))))
+      (ascend level all a.from b.from part.ordered (deep_of depth level all part below) (from-order b.from a.from (nat_cmp b.from a.from) refl later) (omega (arith, gb.some, gb.within)))))
 
-  sorted-labels : (groups : List Group) → All (IsGroup o level all) groups → IsSorted (λ x y. group_ord.ghosts.cmp x y) groups → IsSorted (label_cmp o table) (map lab groups)
+  pub sorted-labels : (groups : List Group) → All (IsGroup o level all) groups → IsSorted group_cmp groups → IsSorted (label_cmp o table) (map lab groups)
   sorted-labels [] every sorted k d low high = absurd (omega arith)
   sorted-labels (g ∷ groups) every sorted k d low high =
       let inside : k + 1 < length (g ∷ groups) = rw length-map at high in
@@ -74,7 +86,7 @@ module _ (o : RowOptions) (depth level : ℕ) (all : List RollupRow) (part : IsP
       (order-step (get_or (g ∷ groups) k g) (get_or (g ∷ groups) (k + 1) g) (every k g here) (every (k + 1) g inside) (sorted k g low inside))
 
   -- Sorted groups are the children.
-  pub sorted-children : (given sorted : List Group) → IsPermutation given sorted → IsSorted (λ x y. group_ord.ghosts.cmp x y) sorted → All (IsGroup o level all) sorted
+  pub sorted-children : (given sorted : List Group) → IsPermutation given sorted → IsSorted group_cmp sorted → All (IsGroup o level all) sorted
       → map lab given ≡ filter (has_shown o table) (first_labels table) → map lab sorted ≡ children o table
   unfolding children
   sorted-children given sorted same order every labels =

@@ -1,7 +1,9 @@
 -- Groups of rows that share their label at a level, and the entries of a table that they represent.
-use Rattle.std.specs.Prelude.{◌≡◌, ◌≢◌, ℕ, ◌+◌, ◌-◌, ◌^◌, ◌<◌, ◌≤◌, List, [], All, length, map, take, drop, get_or}
+use Rattle.std.specs.Prelude.{◌≡◌, ◌≢◌, ℕ, ◌+◌, ◌-◌, ◌^◌, ◌<◌, ◌≤◌, false, List, [], ◌∷◌, ◌++◌, All, length, map, take, drop, get_or}
 use Rattle.std.specs.List.{sum_by}
-use Rattle.std.specs.List.Sorted.{IsStrictlySortedBy}
+use Rattle.std.specs.List.Sorted.{IsPermutation, IsSorted, IsStrictlySortedBy}
+use Rattle.std.specs.declared.cmp.Ordering.{Ordering}
+use Rattle.std.specs.Ordering.{is_lt, nat_cmp, ordering_then}
 use Rattle.rollup.specs.Totals.{row_cmp}
 use Rattle.rollup.specs.declared.table.RollupRow.{RollupRow}
 use Rattle.report_rows.specs.declared.row.RowOptions.{RowOptions}
@@ -9,6 +11,7 @@ use Rattle.report_rows.specs.declared.groups.Kind.TheVariants.{Label, Others}
 use Rattle.report_rows.specs.declared.groups.Group.{Group}
 use Rattle.report_rows.specs.GroupKinds.{kind_of}
 use Rattle.report_rows.specs.Keys.{key_of}
+use Rattle.report_rows.specs.Order.{placed}
 use Rattle.report_rows.specs.Tables.{Table, vm_sum, file_sum}
 use Rattle.report_rows.specs.Rows.{Entry, label_entry}
 
@@ -74,3 +77,19 @@ others_group o left =
     let vm = sum_by (λ (g : Group). g.vm) left in
     let file = sum_by (λ (g : Group). g.file) left in
     record { key = record { 0 = key_of o vm file }; from = 0; to = 0; kind = Others (length left); vm = vm; file = file }
+
+-- The order of groups: the larger key comes first, and for equal keys the group whose rows come first.
+abbrev pub group_cmp : Group → Group → Ordering
+group_cmp g h = ordering_then (nat_cmp h.key.0 g.key.0) (nat_cmp g.from h.from)
+
+-- Groups within a limit: as many as the limit of those that come first in order, with one group for those that are left.
+pub record AreFirst (o : RowOptions) (groups made : List Group) : Type 0 where
+  pub front : List Group
+  pub last : Group
+  pub left : List Group
+  pub count : length front + 1 ≡ o.limit
+  pub same : IsPermutation groups (front ++ last ∷ left)
+  pub ordered : IsSorted group_cmp front
+  pub before : All (λ g. is_lt (group_cmp last g) ≡ false) front
+  pub after : All (λ g. is_lt (group_cmp g last) ≡ false) left
+  pub are : made ≡ placed (λ g h. nat_cmp h.key.0 g.key.0) (others_group o left) (front ++ last ∷ [])

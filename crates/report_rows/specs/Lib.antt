@@ -2,6 +2,7 @@ pub mod GroupKinds
 pub mod Groups
 pub mod Keys
 pub mod Laws
+pub mod Leading
 pub mod Levels
 pub mod Order
 pub mod Ordered

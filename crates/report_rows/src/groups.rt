@@ -1,13 +1,15 @@
 //! The labels of a level, grouped with their rows, in the order of a report.
 
 ghost use Rattle.std.specs.Prelude.{◌≡◌, ◌≢◌, ◌+◌, ◌-◌, ◌^◌, ◌<◌, ◌≤◌, ◌++◌, [], ◌∷◌, ℕ, All, length, map, filter, get_or, IfOk, OnOk, if◌then◌else◌};
-ghost use Rattle.report_rows.specs.Groups.{table_at, labels_at, group_label, group_entry, IsPart, IsGroup, IsBorder, IsRange, Fits, others_group};
+ghost use Rattle.std.specs.List.Sorted.{IsPermutation, IsSorted};
+ghost use Rattle.report_rows.specs.Groups.{table_at, labels_at, group_cmp, group_label, group_entry, AreFirst, IsPart, IsGroup, IsBorder, IsRange, Fits, others_group};
 ghost use Rattle.report_rows.specs.Keys.{is_shown};
-ghost use Rattle.report_rows.specs.Rows.{children, entries_of, has_shown};
+ghost use Rattle.report_rows.specs.Rows.{entries_of, has_shown};
 ghost use Rattle.report_rows.specs.Tables.{vm_sum, file_sum, first_labels};
 
 use crate::keys::{is_shown, key};
-use crate::limits::{Grouped, limit};
+use crate::leading::{has_small_limit, leading_entries};
+use crate::limits::{Grouped, leaves_out, place};
 use crate::paths::{HasPath, run_len};
 use crate::row::RowOptions;
 use rollup::RollupRow;
@@ -61,8 +63,8 @@ impl<'a> HasPath for &'a RollupRow {
     }
 }
 
-// The group whose first row is at `from`. No earlier row has its label.
-fn make_group(
+/// The group whose first row is at `from`. No earlier row has its label.
+pub fn make_group(
     options: &RowOptions,
     depth: u32,
     rows: &[&RollupRow],
@@ -94,7 +96,8 @@ fn make_group(
 // Appends a group if one of its shown sizes is above 0.
 fn keep(options: &RowOptions, groups: &mut Vec<Group>, group: Group) -> Result<(), NoMemory>
     ensures { OnOk result (groups.new.items
-        ≡ groups.old.items ++ (if is_shown options.now group.vm group.file then group ∷ [] else [])) }
+        ≡ groups.old.items
+        ++ (if is_shown options.now group.vm group.file then group ∷ [] else [])) }
 {
     if is_shown(options, group.vm, group.file) {
         groups.push(group)?;
@@ -115,9 +118,10 @@ fn groups_of(
     ensures labels { let all = map (λ r. r.now) rows.now in let table = table_at level all in
         IfOk result (λ groups. map (group_label level all) groups.items
         ≡ filter (has_shown options.now table) (first_labels table)) }
-    ensures groups { IfOk result (λ groups. All (IsGroup options.now level (map (λ r. r.now) rows.now)) groups.items) }
+    ensures groups { IfOk result
+        (λ groups. All (IsGroup options.now level (map (λ r. r.now) rows.now)) groups.items) }
 {
-    let mut groups = Vec::new(alloc);
+    let mut groups = Vec::with_capacity(alloc, rows.len())?;
     let mut from = 0;
     while from < rows.len() {
         let group = make_group(options, depth, rows, level, from);
@@ -127,22 +131,26 @@ fn groups_of(
     Ok(groups)
 }
 
-// The labels of a level with a shown size above 0, in the order of a report.
-fn children(
-    alloc: Global,
-    options: &RowOptions,
-    depth: u32,
-    rows: &[&RollupRow],
-    level: u32,
-) -> Result<Vec<Group>, NoMemory>
-    requires part { IsPart depth level (map (λ r. r.now) rows.now) }
-    requires below { level < depth }
-    ensures labels { let all = map (λ r. r.now) rows.now in
-        IfOk result (λ groups. map (group_label level all) groups.items ≡ children options.now (table_at level all)) }
-    ensures groups { IfOk result (λ groups. All (IsGroup options.now level (map (λ r. r.now) rows.now)) groups.items) }
+// Sorts groups.
+#[tactic(auto, using(crate::proofs::SortLemmas::derived_sorted))]
+fn sort(groups: &mut Vec<Group>)
+    ensures permutation { IsPermutation groups.old.items groups.new.items }
+    ensures sorted { IsSorted group_cmp groups.new.items }
 {
-    let mut groups = groups_of(alloc, options, depth, rows, level)?;
     groups.sort_unstable();
+}
+
+// Returns these groups, sorted, and a last one.
+#[tactic(auto, using(crate::proofs::SortLemmas::derived_sorted))]
+fn sorted_with(alloc: Global, front: &mut [Group], last: Group) -> Result<Vec<Group>, NoMemory>
+    ensures permutation { IsPermutation front.old front.new }
+    ensures sorted { IsSorted group_cmp front.new }
+    ensures items { IfOk result (λ groups. groups.items ≡ front.new ++ last ∷ []) }
+{
+    front.sort_unstable();
+    let mut groups = Vec::new(alloc);
+    groups.extend_from_slice(front)?;
+    groups.push(last)?;
     Ok(groups)
 }
 
@@ -175,6 +183,25 @@ impl Grouped for Group {
     }
 }
 
+// The groups that come first, as many as the limit, with one group for the others. Those aren't sorted.
+fn first_groups(
+    alloc: Global,
+    options: &RowOptions,
+    mut groups: Vec<Group>,
+) -> Result<Vec<Group>, NoMemory>
+    requires some { 0 < options.now.limit }
+    requires more { options.now.limit < length groups.items }
+    requires fits { Fits groups.items }
+    ensures { IfOk result (λ first. AreFirst options.now groups.items first.items) }
+{
+    let kept = options.limit as usize;
+    let (front, last, left) = groups.select_nth_unstable(kept - 1);
+    let mut first = sorted_with(alloc, front, *last)?;
+    let others = Group::together(options, left);
+    place(&mut first, others)?;
+    Ok(first)
+}
+
 /// The groups of a level of these rows, within the limit, in the order of a report.
 pub fn entries(
     alloc: Global,
@@ -186,10 +213,18 @@ pub fn entries(
     requires part { IsPart depth level (map (λ r. r.now) rows.now) }
     requires below { level < depth }
     ensures entries { let all = map (λ r. r.now) rows.now in
-        IfOk result (λ groups. map (group_entry level all) groups.items ≡ entries_of options.now (table_at level all)) }
-    ensures ranges { IfOk result (λ groups. All (IsRange level (map (λ r. r.now) rows.now)) groups.items) }
+        IfOk result (λ groups. map (group_entry level all) groups.items
+        ≡ entries_of options.now (table_at level all)) }
+    ensures ranges { IfOk result
+        (λ groups. All (IsRange level (map (λ r. r.now) rows.now)) groups.items) }
 {
-    let mut groups = children(alloc, options, depth, rows, level)?;
-    limit(options, &mut groups)?;
+    if has_small_limit(options) {
+        return leading_entries(alloc, options, depth, rows, level);
+    }
+    let mut groups = groups_of(alloc, options, depth, rows, level)?;
+    if leaves_out(options, groups.len()) {
+        return first_groups(alloc, options, groups);
+    }
+    sort(&mut groups);
     Ok(groups)
 }

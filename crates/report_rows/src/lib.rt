@@ -5,6 +5,7 @@
 mod groups;
 mod keys;
 mod laws;
+mod leading;
 mod limits;
 mod listing;
 mod paths;

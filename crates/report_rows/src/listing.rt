@@ -13,11 +13,19 @@ use rollup::{Rollup, RollupRow};
 use size_core::NoMemory;
 use std::alloc::Global;
 
+// The number of levels of a report, and its options, which are those of each level.
+#[derive(Clone, Copy)]
+struct Levels {
+    depth: u32,
+    options: RowOptions,
+}
+
 // The row of a group.
 fn make_row(rows: &[&RollupRow], level: u32, group: &Group) -> Result<Row, NoMemory>
     requires some { group.now.kind ≡ Label → group.now.from < length rows.now }
     requires deep { All (λ r. level < length r.now.path) rows.now }
-    ensures { IfOk result (λ r. r ≡ row_of level (group_entry level (map (λ r. r.now) rows.now) group.now)) }
+    ensures { IfOk result (λ r. r
+        ≡ row_of level (group_entry level (map (λ r. r.now) rows.now) group.now)) }
 {
     let kind = match group.kind {
         Kind::Label => RowKind::Label(rows[group.from].path.get(level as usize).copy()?),
@@ -34,25 +42,25 @@ fn make_row(rows: &[&RollupRow], level: u32, group: &Group) -> Result<Row, NoMem
 // Appends the rows of the levels from this one on.
 fn list(
     alloc: Global,
-    options: &RowOptions,
-    depth: u32,
+    levels: Levels,
     rows: &[&RollupRow],
     level: u32,
     out: &mut Rows,
 ) -> Result<(), NoMemory>
-    requires part { IsPart depth level (map (λ r. r.now) rows.now) }
-    requires within { level ≤ depth }
+    requires part { IsPart levels.depth level (map (λ r. r.now) rows.now) }
+    requires within { level ≤ levels.depth }
     ensures { OnOk result (out.new
-        ≡ out.old ++ listing options.now (depth - level) level (table_at level (map (λ r. r.now) rows.now))) }
+        ≡ out.old ++ listing levels.options (levels.depth - level) level
+        (table_at level (map (λ r. r.now) rows.now))) }
 {
-    if level == depth {
+    if level == levels.depth {
         return Ok(());
     }
-    let groups = entries(alloc, options, depth, rows, level)?;
+    let groups = entries(alloc, &levels.options, levels.depth, rows, level)?;
     for group in &groups {
         let below = &rows[group.from..group.to];
         out.push(make_row(rows, level, group)?)?;
-        list(alloc, options, depth, below, level + 1, out)?;
+        list(alloc, levels, below, level + 1, out)?;
     }
     Ok(())
 }
@@ -67,10 +75,19 @@ fn tree(
     requires { IsPart depth 0 (map (λ r. r.now) rows.now) }
     ensures { let all = map (λ r. r.now) rows.now in
         IfOk result (λ t. t
-        ≡ record { depth = depth; vm = vm_sum all; file = file_sum all; rows = listing options.now depth 0 all }) }
+        ≡ record {
+          depth = depth;
+          vm = vm_sum all;
+          file = file_sum all;
+          rows = listing options.now depth 0 all;
+        }) }
 {
     let mut out = Rows::new(alloc);
-    list(alloc, options, depth, rows, 0, &mut out)?;
+    let levels = Levels {
+        depth,
+        options: *options,
+    };
+    list(alloc, levels, rows, 0, &mut out)?;
     let (vm, file) = sums(rows);
     Ok(RowTree {
         depth,
@@ -88,7 +105,7 @@ pub fn rows(alloc: Global, rollup: &Rollup, options: &RowOptions) -> Result<RowT
     ensures levels { IfOk result (λ t. IsTree t.depth t.rows) }
     ensures sums { IfOk result (AddsUp options.now.domain) }
 {
-    let mut all = Vec::new(alloc);
+    let mut all = Vec::with_capacity(alloc, rollup.len())?;
     for i in 0..rollup.len() {
         all.push(rollup.row(i))?;
     }

@@ -12,7 +12,8 @@ use std::alloc::Global;
 
 /// Appends a field.
 pub fn push<'a>(fields: &mut Vec<&'a [u8]>, field: &'a [u8]) -> Result<(), NoMemory>
-    ensures { OnOk result (map (λ f. f.now) fields.new.items ≡ map (λ f. f.now) fields.old.items ++ field.now ∷ []) }
+    ensures { OnOk result (map (λ f. f.now) fields.new.items
+        ≡ map (λ f. f.now) fields.old.items ++ field.now ∷ []) }
 {
     fields.push(field)?;
     Ok(())

@@ -5,7 +5,7 @@ ghost use Rattle.size_growth.specs.Trees.{IsGrowthTree, new_row};
 ghost use Rattle.report_text.specs.Growth.{sign, growth_text, change_text, growth_column, growth_columns, growth_report_text, growth, growth_fields, growth_csv_text, growth_tsv_text};
 
 use crate::fields::push_shown;
-use crate::lines::{lines, push_column};
+use crate::lines::{LineFormat, lines, push_column};
 use crate::numbers::{push_percent, push_size};
 use crate::pieces::push;
 use crate::records::table;
@@ -14,6 +14,12 @@ use itoa::Buffer;
 use size_core::{Domain, Names, NoMemory};
 use size_growth::{GrowthKind, GrowthRow, GrowthRows, GrowthSizes, GrowthTree};
 use std::alloc::Global;
+
+// The width of a change in a column.
+const CHANGE_WIDTH: usize = 9;
+
+// The width of a growth in a column.
+const GROWTH_WIDTH: usize = 9;
 
 impl ReportRow for GrowthRow {
     ghost as_row = { new_row };
@@ -103,7 +109,13 @@ fn push_growth_column(alloc: Global, out: &mut Vec<u8>, new: u64, base: u64) -> 
     push_change(&mut change, new, base)?;
     let mut amount = Vec::new(alloc);
     push_growth(&mut amount, new, base)?;
-    push_column(out, 9, change.as_slice(), 9, amount.as_slice())
+    push_column(
+        out,
+        CHANGE_WIDTH,
+        change.as_slice(),
+        GROWTH_WIDTH,
+        amount.as_slice(),
+    )
 }
 
 // Appends the columns of the shown sizes.
@@ -129,7 +141,7 @@ fn push_columns(
 impl ReportTree for GrowthTree {
     type Entry = GrowthRow;
 
-    const PLACES: usize = 19;
+    const PLACES: usize = CHANGE_WIDTH + 1 + GROWTH_WIDTH;
 
     ghost PLACES = { 19 };
 
@@ -176,10 +188,11 @@ pub fn growth_text(
     wide: bool,
     out: &mut Vec<u8>,
 ) -> Result<(), NoMemory>
-    ensures ok { OnOk result (out.new.items ≡ out.old.items ++ growth_report_text tree.now domain wide) }
+    ensures ok { OnOk result (out.new.items
+        ≡ out.old.items ++ growth_report_text tree.now domain wide) }
     ensures err { OnErr result (out.new.items ≡ out.old.items) }
 {
-    let text = lines(alloc, tree, domain, wide)?;
+    let text = lines(alloc, tree, LineFormat { domain, wide })?;
     out.extend_from_slice(text.as_slice())?;
     Ok(())
 }
@@ -197,7 +210,8 @@ pub fn growth_csv(
 ) -> Result<(), NoMemory>
     requires names { length sources.now ≡ tree.now.depth }
     requires levels { IsGrowthTree tree.now.depth tree.now.rows }
-    ensures ok { OnOk result (out.new.items ≡ out.old.items ++ growth_csv_text tree.now domain sources.now) }
+    ensures ok { OnOk result (out.new.items
+        ≡ out.old.items ++ growth_csv_text tree.now domain sources.now) }
     ensures err { OnErr result (out.new.items ≡ out.old.items) }
 {
     let text = table(alloc, b',', tree, domain, sources)?;
@@ -216,7 +230,8 @@ pub fn growth_tsv(
 ) -> Result<(), NoMemory>
     requires names { length sources.now ≡ tree.now.depth }
     requires levels { IsGrowthTree tree.now.depth tree.now.rows }
-    ensures ok { OnOk result (out.new.items ≡ out.old.items ++ growth_tsv_text tree.now domain sources.now) }
+    ensures ok { OnOk result (out.new.items
+        ≡ out.old.items ++ growth_tsv_text tree.now domain sources.now) }
     ensures err { OnErr result (out.new.items ≡ out.old.items) }
 {
     let text = table(alloc, b'\t', tree, domain, sources)?;

@@ -9,6 +9,15 @@ use itoa::Buffer;
 use size_core::NoMemory;
 use std::alloc::Global;
 
+// The most bytes of a text that isn't shortened.
+const MOST_BYTES: usize = 60;
+
+// How many bytes of a shortened text are before the mark `[...]`.
+const FIRST_BYTES: usize = 28;
+
+// How many bytes of a shortened text are after the mark.
+const LAST_BYTES: usize = 27;
+
 // A hexadecimal digit.
 fn hex_digit(digit: u8) -> u8
     requires { digit < 16 }
@@ -47,9 +56,9 @@ fn push_ends(out: &mut Vec<u8>, text: &[u8]) -> Result<(), NoMemory>
     requires { 60 < length text.now }
     ensures { OnOk result (out.new.items ≡ out.old.items ++ escaped (ends text.now)) }
 {
-    push_escaped(out, &text[..28])?;
+    push_escaped(out, &text[..FIRST_BYTES])?;
     push_escaped(out, b"[...]")?;
-    push_escaped(out, &text[text.len() - 27..])?;
+    push_escaped(out, &text[text.len() - LAST_BYTES..])?;
     Ok(())
 }
 
@@ -57,7 +66,7 @@ fn push_ends(out: &mut Vec<u8>, text: &[u8]) -> Result<(), NoMemory>
 pub fn push_shortened(out: &mut Vec<u8>, text: &[u8], wide: bool) -> Result<(), NoMemory>
     ensures { OnOk result (out.new.items ≡ out.old.items ++ escaped (shortened wide text.now)) }
 {
-    if wide || text.len() <= 60 {
+    if wide || text.len() <= MOST_BYTES {
         return push_escaped(out, text);
     }
     push_ends(out, text)

@@ -9,6 +9,15 @@ use crate::rows::{ReportRow, ReportTree};
 use size_core::{Domain, NoMemory};
 use std::alloc::Global;
 
+/// How a report shows rows as lines.
+#[derive(Clone, Copy)]
+pub struct LineFormat {
+    /// The sizes that have a column.
+    pub domain: Domain,
+    /// Whether long labels are written whole.
+    pub wide: bool,
+}
+
 /// Appends a column: a percentage and a size, each right-aligned.
 #[tactic(auto, unfolding(crate::specs::Lines::column))]
 pub fn push_column(
@@ -18,7 +27,8 @@ pub fn push_column(
     amount_places: usize,
     amount: &[u8],
 ) -> Result<(), NoMemory>
-    ensures { OnOk result (out.new.items ≡ out.old.items ++ column part_places part.now amount_places amount.now) }
+    ensures { OnOk result (out.new.items
+        ≡ out.old.items ++ column part_places part.now amount_places amount.now) }
 {
     push_right(out, part_places, part)?;
     push(out, b" ")?;
@@ -63,17 +73,16 @@ fn push_title_line(out: &mut Vec<u8>, places: usize, domain: Domain) -> Result<(
 fn push_row<T: ReportTree>(
     alloc: Global,
     out: &mut Vec<u8>,
-    domain: Domain,
-    wide: bool,
+    format: LineFormat,
     tree: &T,
     row: &T::Entry,
 ) -> Result<(), NoMemory>
-    ensures { OnOk result (out.new.items
-        ≡ out.old.items ++ row_line T.Entry.as_row (T.columns domain tree.now) wide row.now) }
+    ensures { OnOk result (out.new.items ≡ out.old.items
+        ++ row_line T.Entry.as_row (T.columns format.domain tree.now) format.wide row.now) }
 {
-    tree.push_columns(alloc, out, domain, row)?;
+    tree.push_columns(alloc, out, format.domain, row)?;
     push_spaces(out, 2 * row.level() as usize)?;
-    push_label(alloc, out, row.name(), wide)?;
+    push_label(alloc, out, row.name(), format.wide)?;
     push(out, b"\n")
 }
 
@@ -96,18 +105,18 @@ fn push_total<T: ReportTree>(
 pub fn lines<T: ReportTree>(
     alloc: Global,
     tree: &T,
-    domain: Domain,
-    wide: bool,
+    format: LineFormat,
 ) -> Result<Vec<u8>, NoMemory>
-    ensures { IfOk result (λ v. v.items ≡ lines T.PLACES domain T.Entry.as_row (T.columns domain tree.now) wide
-        (T.rows tree.now) (T.total domain tree.now)) }
+    ensures { IfOk result (λ v. v.items
+        ≡ lines T.PLACES format.domain T.Entry.as_row (T.columns format.domain tree.now)
+        format.wide (T.rows tree.now) (T.total format.domain tree.now)) }
 {
     let mut text = Vec::new(alloc);
-    push_title_line(&mut text, T::PLACES, domain)?;
+    push_title_line(&mut text, T::PLACES, format.domain)?;
     let rows = tree.rows();
     for i in 0..rows.len() {
-        push_row(alloc, &mut text, domain, wide, tree, rows.get(i))?;
+        push_row(alloc, &mut text, format, tree, rows.get(i))?;
     }
-    push_total(alloc, &mut text, domain, tree)?;
+    push_total(alloc, &mut text, format.domain, tree)?;
     Ok(text)
 }

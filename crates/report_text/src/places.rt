@@ -163,7 +163,8 @@ pub fn place_text(
     wide: bool,
     out: &mut Vec<u8>,
 ) -> Result<(), NoMemory>
-    ensures ok { OnOk result (out.new.items ≡ out.old.items ++ place_report_text place.now sources.now wide) }
+    ensures ok { OnOk result (out.new.items
+        ≡ out.old.items ++ place_report_text place.now sources.now wide) }
     ensures err { OnErr result (out.new.items ≡ out.old.items) }
 {
     let text = lines(alloc, place, sources, wide)?;

@@ -16,6 +16,16 @@ use size_core::{Domain, List, Names, NoMemory};
 use std::alloc::Global;
 use std::io::Write;
 
+// How the records of a tree are written: with this byte between fields, for paths of up to `depth` labels, and with a
+// field for each size of `domain`.
+#[derive(Clone, Copy)]
+struct RecordFormat {
+    alloc: Global,
+    delimiter: u8,
+    depth: u32,
+    domain: Domain,
+}
+
 // A writer of records with this byte between fields.
 fn new_writer(alloc: Global, delimiter: u8) -> Writer<Vec<u8>>
     ensures { IsReady (λ v. Some v.items) delimiter result [] }
@@ -43,26 +53,24 @@ fn put<W: Write + Drop>(
 
 // Writes the record of a row. `above` has the labels of the rows above it.
 fn put_row<'a, W: Write + Drop, R: ReportRow>(
-    alloc: Global,
+    format: RecordFormat,
     writer: &mut Writer<W>,
-    delimiter: u8,
-    depth: u32,
-    domain: Domain,
     above: &[&'a [u8]],
     row: &'a R,
 ) -> Result<(), NoMemory>
-    requires { (R.as_row row.now).level < depth }
-    ensures { OnOk result ((text : List ℕ) → IsReady W.contents delimiter writer.old text
-        → IsReady W.contents delimiter writer.new
-        (text ++ row_text (delimited delimiter)
-        (row_fields depth (map (λ f. f.now) above.now) (R.as_row row.now) (R.sizes domain row.now)))) }
+    requires { (R.as_row row.now).level < format.depth }
+    ensures { OnOk result ((text : List ℕ) → IsReady W.contents format.delimiter writer.old text
+        → IsReady W.contents format.delimiter writer.new
+        (text ++ row_text (delimited format.delimiter)
+        (row_fields format.depth (map (λ f. f.now) above.now) (R.as_row row.now)
+        (R.sizes format.domain row.now)))) }
 {
     let mut vm = Buffer::new();
     let mut file = Buffer::new();
-    let others = others_text(alloc, row.name())?;
-    let mut fields = path_fields(alloc, depth, above, row, others.as_slice())?;
-    row.push_sizes(&mut fields, domain, &mut vm, &mut file)?;
-    put(writer, delimiter, fields.as_slice())?;
+    let others = others_text(format.alloc, row.name())?;
+    let mut fields = path_fields(format.alloc, format.depth, above, row, others.as_slice())?;
+    row.push_sizes(&mut fields, format.domain, &mut vm, &mut file)?;
+    put(writer, format.delimiter, fields.as_slice())?;
     Ok(())
 }
 
@@ -79,31 +87,28 @@ pub fn has_children<R: ReportRow>(rows: &List<R>, i: usize) -> bool
 }
 
 // Writes the record of a row, if it has no children.
-fn put_leaf<'a, W: Write + Drop, T: ReportTree>(
-    alloc: Global,
+fn put_leaf<'a, W: Write + Drop, R: ReportRow>(
+    format: RecordFormat,
     writer: &mut Writer<W>,
-    delimiter: u8,
-    tree: &'a T,
-    domain: Domain,
+    rows: &'a List<R>,
     above: &[&'a [u8]],
     i: usize,
 ) -> Result<(), NoMemory>
-    requires inside { i < length (T.rows tree.now) }
-    requires below { (row : T.Entry) → slice_get (T.rows tree.now) i ≡ Some row
-        → (T.Entry.as_row row).level < T.depth tree.now }
-    ensures { OnOk result ((text : List ℕ) (row : T.Entry) → slice_get (T.rows tree.now) i ≡ Some row
-        → IsReady W.contents delimiter writer.old text
-        → IsReady W.contents delimiter writer.new
-        (text ++ flat_map (row_text (delimited delimiter))
-        (leaf_record (T.depth tree.now) (map (λ f. f.now) above.now) (T.Entry.as_row row) (T.Entry.sizes domain row)
-        (map T.Entry.as_row (drop (i + 1) (T.rows tree.now)))))) }
+    requires inside { i < length rows.now }
+    requires below { (row : R) → slice_get rows.now i ≡ Some row
+        → (R.as_row row).level < format.depth }
+    ensures { OnOk result ((text : List ℕ) (row : R) → slice_get rows.now i ≡ Some row
+        → IsReady W.contents format.delimiter writer.old text
+        → IsReady W.contents format.delimiter writer.new
+        (text ++ flat_map (row_text (delimited format.delimiter))
+        (leaf_record format.depth (map (λ f. f.now) above.now) (R.as_row row)
+        (R.sizes format.domain row) (map R.as_row (drop (i + 1) rows.now))))) }
 {
-    let rows = tree.rows();
     if has_children(rows, i) {
         return Ok(());
     }
     let row = rows.get(i);
-    put_row(alloc, writer, delimiter, tree.depth(), domain, above, row)?;
+    put_row(format, writer, above, row)?;
     Ok(())
 }
 
@@ -120,27 +125,25 @@ fn enter<'a>(path: &mut Vec<&'a [u8]>, name: Name<'a>) -> Result<(), NoMemory>
 
 // Writes the record of one row, if it has no children, and adds the row's label to `path`. Before that, `path` has the
 // labels of the rows that the row can be under.
-fn step<'a, W: Write + Drop, T: ReportTree>(
-    alloc: Global,
+fn step<'a, W: Write + Drop, R: ReportRow>(
+    format: RecordFormat,
     writer: &mut Writer<W>,
-    delimiter: u8,
-    tree: &'a T,
-    domain: Domain,
+    rows: &'a List<R>,
     path: &mut Vec<&'a [u8]>,
     i: usize,
 ) -> Result<(), NoMemory>
-    requires inside { i < length (T.rows tree.now) }
-    requires below { (row : T.Entry) → slice_get (T.rows tree.now) i ≡ Some row
-        → (T.Entry.as_row row).level < T.depth tree.now }
+    requires inside { i < length rows.now }
+    requires below { (row : R) → slice_get rows.now i ≡ Some row
+        → (R.as_row row).level < format.depth }
     ensures { OnOk result ((whole : List ℕ)
-        → HasCome W.contents delimiter T.Entry.as_row (T.Entry.sizes domain) (T.depth tree.now) (T.rows tree.now)
-        whole i (map (λ f. f.now) path.old.items) writer.old
-        → HasCome W.contents delimiter T.Entry.as_row (T.Entry.sizes domain) (T.depth tree.now) (T.rows tree.now)
-        whole (i + 1) (map (λ f. f.now) path.new.items) writer.new) }
+        → HasCome W.contents format.delimiter R.as_row (R.sizes format.domain) format.depth
+        rows.now whole i (map (λ f. f.now) path.old.items) writer.old
+        → HasCome W.contents format.delimiter R.as_row (R.sizes format.domain) format.depth
+        rows.now whole (i + 1) (map (λ f. f.now) path.new.items) writer.new) }
 {
-    let row = tree.rows().get(i);
+    let row = rows.get(i);
     path.truncate(row.level() as usize);
-    put_leaf(alloc, writer, delimiter, tree, domain, path.as_slice(), i)?;
+    put_leaf(format, writer, rows, path.as_slice(), i)?;
     enter(path, row.name())?;
     Ok(())
 }
@@ -160,10 +163,16 @@ pub fn table<T: ReportTree>(
     let mut writer = new_writer(alloc, delimiter);
     let fields = header(alloc, sources, domain)?;
     put(&mut writer, delimiter, fields.as_slice())?;
+    let format = RecordFormat {
+        alloc,
+        delimiter,
+        depth: tree.depth(),
+        domain,
+    };
     let mut path = Vec::new(alloc);
     let rows = tree.rows();
     for i in 0..rows.len() {
-        step(alloc, &mut writer, delimiter, tree, domain, &mut path, i)?;
+        step(format, &mut writer, rows, &mut path, i)?;
     }
     match writer.into_inner() {
         Ok(text) => Ok(text),

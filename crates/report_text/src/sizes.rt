@@ -6,7 +6,7 @@ ghost use Rattle.report_text.specs.Lines.{size_column, columns, report_text};
 ghost use Rattle.report_text.specs.Records.{size_fields, csv_text, tsv_text};
 
 use crate::fields::push_shown;
-use crate::lines::{lines, push_column};
+use crate::lines::{LineFormat, lines, push_column};
 use crate::numbers::{push_percent, push_size};
 use crate::records::table;
 use crate::rows::{Name, ReportRow, ReportTree};
@@ -14,6 +14,19 @@ use itoa::Buffer;
 use report_rows::{Row, RowKind, RowTree, Rows};
 use size_core::{Domain, Names, NoMemory};
 use std::alloc::Global;
+
+// The width of a percentage in a column.
+const PERCENT_WIDTH: usize = 6;
+
+// The width of a size in a column.
+const SIZE_WIDTH: usize = 8;
+
+// A file size and a VM size.
+#[derive(Clone, Copy)]
+struct Sizes {
+    file: u64,
+    vm: u64,
+}
 
 impl ReportRow for Row {
     ghost as_row = { λ r. r };
@@ -53,7 +66,13 @@ fn push_size_column(alloc: Global, out: &mut Vec<u8>, size: u64, total: u64) -> 
     push_percent(&mut percent, size, total)?;
     let mut amount = Vec::new(alloc);
     push_size(&mut amount, size)?;
-    push_column(out, 6, percent.as_slice(), 8, amount.as_slice())
+    push_column(
+        out,
+        PERCENT_WIDTH,
+        percent.as_slice(),
+        SIZE_WIDTH,
+        amount.as_slice(),
+    )
 }
 
 // Appends the shown columns of a file size and a VM size.
@@ -63,17 +82,17 @@ fn push_columns(
     out: &mut Vec<u8>,
     domain: Domain,
     tree: &RowTree,
-    file: u64,
-    vm: u64,
+    sizes: Sizes,
 ) -> Result<(), NoMemory>
-    ensures { OnOk result (out.new.items ≡ out.old.items ++ columns domain tree.now file vm) }
+    ensures { OnOk result (out.new.items
+        ≡ out.old.items ++ columns domain tree.now sizes.file sizes.vm) }
 {
     match domain {
-        Domain::File => push_size_column(alloc, out, file, tree.file),
-        Domain::Vm => push_size_column(alloc, out, vm, tree.vm),
+        Domain::File => push_size_column(alloc, out, sizes.file, tree.file),
+        Domain::Vm => push_size_column(alloc, out, sizes.vm, tree.vm),
         Domain::Both => {
-            push_size_column(alloc, out, file, tree.file)?;
-            push_size_column(alloc, out, vm, tree.vm)
+            push_size_column(alloc, out, sizes.file, tree.file)?;
+            push_size_column(alloc, out, sizes.vm, tree.vm)
         }
     }
 }
@@ -81,7 +100,7 @@ fn push_columns(
 impl ReportTree for RowTree {
     type Entry = Row;
 
-    const PLACES: usize = 15;
+    const PLACES: usize = PERCENT_WIDTH + 1 + SIZE_WIDTH;
 
     ghost PLACES = { 15 };
 
@@ -108,11 +127,19 @@ impl ReportTree for RowTree {
         domain: Domain,
         row: &Row,
     ) -> Result<(), NoMemory> {
-        push_columns(alloc, out, domain, self, row.file, row.vm)
+        let sizes = Sizes {
+            file: row.file,
+            vm: row.vm,
+        };
+        push_columns(alloc, out, domain, self, sizes)
     }
 
     fn push_total(&self, alloc: Global, out: &mut Vec<u8>, domain: Domain) -> Result<(), NoMemory> {
-        push_columns(alloc, out, domain, self, self.file, self.vm)
+        let sizes = Sizes {
+            file: self.file,
+            vm: self.vm,
+        };
+        push_columns(alloc, out, domain, self, sizes)
     }
 }
 
@@ -130,7 +157,7 @@ pub fn text(
     ensures ok { OnOk result (out.new.items ≡ out.old.items ++ report_text tree.now domain wide) }
     ensures err { OnErr result (out.new.items ≡ out.old.items) }
 {
-    let text = lines(alloc, tree, domain, wide)?;
+    let text = lines(alloc, tree, LineFormat { domain, wide })?;
     out.extend_from_slice(text.as_slice())?;
     Ok(())
 }
@@ -148,7 +175,8 @@ pub fn csv(
 ) -> Result<(), NoMemory>
     requires names { length sources.now ≡ tree.now.depth }
     requires levels { IsTree tree.now.depth tree.now.rows }
-    ensures ok { OnOk result (out.new.items ≡ out.old.items ++ csv_text tree.now domain sources.now) }
+    ensures ok { OnOk result (out.new.items
+        ≡ out.old.items ++ csv_text tree.now domain sources.now) }
     ensures err { OnErr result (out.new.items ≡ out.old.items) }
 {
     let text = table(alloc, b',', tree, domain, sources)?;
@@ -167,7 +195,8 @@ pub fn tsv(
 ) -> Result<(), NoMemory>
     requires names { length sources.now ≡ tree.now.depth }
     requires levels { IsTree tree.now.depth tree.now.rows }
-    ensures ok { OnOk result (out.new.items ≡ out.old.items ++ tsv_text tree.now domain sources.now) }
+    ensures ok { OnOk result (out.new.items
+        ≡ out.old.items ++ tsv_text tree.now domain sources.now) }
     ensures err { OnErr result (out.new.items ≡ out.old.items) }
 {
     let text = table(alloc, b'\t', tree, domain, sources)?;

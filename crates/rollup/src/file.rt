@@ -10,7 +10,7 @@ ghost use Rattle.rollup.specs.declared.cursor.Part.TheVariants.{File, Vm};
 
 use crate::cursor::Part;
 use crate::sizes::PathSizes;
-use crate::walk::walk;
+use crate::walk::{Walked, walk};
 use dual_map::{Base, DualMap};
 use size_core::{NoMemory, Steps};
 use std::alloc::Global;
@@ -38,17 +38,21 @@ pub fn sizes_of_file<L: Ledger>(
 ) -> Result<PathSizes, NoMemory>
     requires over { All (IsOver base.now) maps.now }
     ensures file { IfOk result (λ sizes. (test : List ℕ → Bool)
-        → weight File test sizes ≡ file_counted test (option_copied marks.entry) maps.now base.now.len) }
+        → weight File test sizes
+        ≡ file_counted test (option_copied marks.entry) maps.now base.now.len) }
     ensures vm { IfOk result (λ sizes. (test : List ℕ → Bool)
-        → weight Vm test sizes ≡ vm_counted test (option_copied marks.entry) maps.now base.now.loads) }
+        → weight Vm test sizes
+        ≡ vm_counted test (option_copied marks.entry) maps.now base.now.loads) }
     ensures entries { IfOk result (λ sizes. (n : ℕ) → All (LabelsBelow n) maps.now
         → All (IsEntry (length maps.now) n) sizes) }
     ensures cost { steps.new ≤ steps.old + piece_count maps.now }
 {
     let mut sizes = PathSizes::new(alloc);
     let len = u128::from(base.len());
-    walk(alloc, &mut sizes, maps, Part::File, len, marks, steps)?;
+    let part = Part::File;
+    walk(alloc, &mut sizes, Walked { maps, part, marks }, len, steps)?;
     let last = last_position(base, maps);
-    walk(alloc, &mut sizes, maps, Part::Vm, last, marks, steps)?;
+    let part = Part::Vm;
+    walk(alloc, &mut sizes, Walked { maps, part, marks }, last, steps)?;
     Ok(sizes)
 }

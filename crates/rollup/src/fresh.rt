@@ -44,7 +44,8 @@ fn ranked_entries(
     ranks: &[usize],
     sizes: &PathSizes,
 ) -> Result<Vec<Ranked>, AllocError>
-    ensures entries { IfOk result (λ v. map (λ (r : Ranked). r.entry) v.items ≡ range_with_len 0 (length sizes.now)) }
+    ensures entries { IfOk result (λ v. map (λ (r : Ranked). r.entry) v.items
+        ≡ range_with_len 0 (length sizes.now)) }
     ensures ranks { IfOk result (λ v. All (IsRanked ranks.now sizes.now) v.items) }
 {
     let mut ranked = Vec::with_capacity(alloc, sizes.len())?;

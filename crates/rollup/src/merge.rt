@@ -97,7 +97,8 @@ fn insert(rows: &mut Vec<RollupRow>, above: &mut Vec<RollupRow>, row: RollupRow)
     ensures rows { rows.new.items ++ reverse above.new.items
         ≡ with_row (rows.old.items ++ reverse above.old.items) row }
     ensures ends { (s : RollupRow) → is_lt (row_cmp s row) ≡ false → EndsUpto rows.new.items s }
-    ensures spare { vec_len rows.new + vec_len above.new ≤ vec_len rows.old + vec_len above.old + 1 }
+    ensures spare { vec_len rows.new + vec_len above.new
+        ≤ vec_len rows.old + vec_len above.old + 1 }
     ensures capacity { vec_capacity rows.new ≡ vec_capacity rows.old }
 {
     let kept = count_above(above.as_slice(), &row.path);
@@ -112,7 +113,8 @@ fn insert_all(rows: &mut Vec<RollupRow>, mut above: Vec<RollupRow>, mut new: Vec
     requires climbs { Climbs (reverse new.items) }
     requires ends { EndsUptoFirst rows.old.items (reverse new.items) }
     requires fits { FitTogether (rows.old.items ++ reverse above.items) new.items }
-    ensures { rows.new.items ≡ with_rows (rows.old.items ++ reverse above.items) (reverse new.items) }
+    ensures { rows.new.items
+        ≡ with_rows (rows.old.items ++ reverse above.items) (reverse new.items) }
 {
     while let Some(row) = new.pop() {
         insert(rows, &mut above, row);

@@ -71,7 +71,8 @@ fn compare_worded(pool: &LabelPool, a: WordedLabel, b: WordedLabel) -> Ordering
 
 // All labels in the order of their numbers.
 fn worded_labels(alloc: Global, pool: &LabelPool) -> Result<Vec<WordedLabel>, NoMemory>
-    ensures numbers { IfOk result (λ v. map (λ (w : WordedLabel). w.number) v.items ≡ range_with_len 0 (length pool.now)) }
+    ensures numbers { IfOk result (λ v. map (λ (w : WordedLabel). w.number) v.items
+        ≡ range_with_len 0 (length pool.now)) }
     ensures words { IfOk result (λ v. All (IsWorded pool.now) v.items) }
     ensures distinct { IfOk result (λ v. IsDistinct bytes_eq pool.now) }
 {

@@ -108,7 +108,8 @@ impl LabelSizes {
     fn grow(&mut self, i: usize, part: Part, size: u128)
         requires within { i < length self.old }
         requires fits { size_in part (slice_index_or self.old i no_entry) + size < 2 ^ 128 }
-        ensures { self.new ≡ slice_set self.old i (grown part size (slice_index_or self.old i no_entry)) }
+        ensures { self.new
+            ≡ slice_set self.old i (grown part size (slice_index_or self.old i no_entry)) }
     {
         self.items[i].sizes.grow(part, size);
     }
@@ -162,7 +163,8 @@ impl Model for ListSizes {
 
     ghost view = { λ p. map (entry_of_list p.numbers.items) p.items.items };
 
-    ghost invariant = { λ p. All (λ (i : ListSize). i.first + i.len ≤ length p.numbers.items) p.items.items };
+    ghost invariant = { λ p.
+        All (λ (i : ListSize). i.first + i.len ≤ length p.numbers.items) p.items.items };
 }
 
 impl ListSizes {
@@ -195,7 +197,7 @@ impl ListSizes {
         (&self.numbers[item.first..end], item.sizes)
     }
 
-    // Whether the list at an index is this one.
+    // True only if the list at an index is this one.
     fn is_at(&self, i: usize, numbers: &[usize]) -> bool
         ensures { IsTrue result → IsIndexOf numbers.now self.now i }
     {
@@ -226,7 +228,8 @@ impl ListSizes {
     fn grow(&mut self, i: usize, part: Part, size: u128)
         requires within { i < length self.old }
         requires fits { size_in part (slice_index_or self.old i no_entry) + size < 2 ^ 128 }
-        ensures { self.new ≡ slice_set self.old i (grown part size (slice_index_or self.old i no_entry)) }
+        ensures { self.new
+            ≡ slice_set self.old i (grown part size (slice_index_or self.old i no_entry)) }
     {
         self.items[i].sizes.grow(part, size);
         self.hints.pass(i);

@@ -42,7 +42,8 @@ impl Model for Rollup {
 
     ghost Value = { Totals };
 
-    ghost view = { λ r. record { depth = r.depth; rows = r.rows; lengths = r.lengths; mapped = r.mapped } };
+    ghost view = { λ r.
+        record { depth = r.depth; rows = r.rows; lengths = r.lengths; mapped = r.mapped } };
 
     ghost invariant = { λ r. IsTotals r.depth r.rows r.lengths r.mapped };
 }
@@ -125,10 +126,12 @@ impl Rollup {
         // What was added, filtered or not.
         ensures depth { self.new.depth ≡ self.old.depth }
         ensures lengths { OnOk result (self.new.lengths ≡ self.old.lengths + file_len) }
-        ensures mapped { OnOk result (self.new.mapped ≡ self.old.mapped + mapped_count base.now.loads) }
+        ensures mapped { OnOk result (self.new.mapped
+            ≡ self.old.mapped + mapped_count base.now.loads) }
 
         // Refusals.
-        ensures too_many_bytes { IsErrOf result RollupAnswer.TooManyBytes ↔ (2 ^ 63 - 1 < self.old.lengths + file_len) }
+        ensures too_many_bytes { IsErrOf result RollupAnswer.TooManyBytes
+            ↔ (2 ^ 63 - 1 < self.old.lengths + file_len) }
         ensures mapped_too_large { IsErrOf result RollupAnswer.MappedTooLarge
             ↔ ((self.old.lengths + file_len ≤ 2 ^ 63 - 1)
             × (2 ^ 63 - 1 < self.old.mapped + mapped_count base.now.loads)) }

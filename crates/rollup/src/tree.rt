@@ -47,7 +47,8 @@ impl Model for Branch {
 
     ghost view = { λ b. record { low = rows_in b.low; row = b.row; high = rows_in b.high } };
 
-    ghost invariant = { λ b. (b.len ≡ length (rows_in b.low) + 1 + length (rows_in b.high)) × (b.word ≡ word_of b.row.path) };
+    ghost invariant = { λ b. (b.len ≡ length (rows_in b.low) + 1 + length (rows_in b.high))
+        × (b.word ≡ word_of b.row.path) };
 
     ghost size = { λ p. length (all_of p) };
 
@@ -153,7 +154,8 @@ impl Branch {
     fn set_low(&mut self, low: Tree)
         requires none { self.old.low ≡ [] }
         requires fits { length (rows_in low) + 1 + length self.old.high < 2 ^ 64 }
-        ensures { self.new ≡ record { low = rows_in low; row = self.old.row; high = self.old.high } }
+        ensures { self.new
+            ≡ record { low = rows_in low; row = self.old.row; high = self.old.high } }
     {
         self.len += low.len();
         self.low = low;
@@ -163,7 +165,8 @@ impl Branch {
     fn set_high(&mut self, high: Tree)
         requires none { self.old.high ≡ [] }
         requires fits { length self.old.low + 1 + length (rows_in high) < 2 ^ 64 }
-        ensures { self.new ≡ record { low = self.old.low; row = self.old.row; high = rows_in high } }
+        ensures { self.new
+            ≡ record { low = self.old.low; row = self.old.row; high = rows_in high } }
     {
         self.len += high.len();
         self.high = high;
@@ -172,7 +175,12 @@ impl Branch {
     // Adds the sizes of a row with the same path.
     fn enlarge(&mut self, row: &RollupRow)
         requires { FitTogether (all_of self.old) (row.now ∷ []) }
-        ensures { self.new ≡ record { low = self.old.low; row = larger self.old.row row.now; high = self.old.high } }
+        ensures { self.new
+            ≡ record {
+              low = self.old.low;
+              row = larger self.old.row row.now;
+              high = self.old.high;
+            } }
     {
         self.row.vm += row.vm;
         self.row.file += row.file;
@@ -408,7 +416,7 @@ pub fn build(branches: &mut Vec<Box<Branch>>, count: usize) -> Tree
     Tree::Fork(top)
 }
 
-// Whether the branch before the last `count` ones of a list is above the next one.
+// True only if the branch before the last `count` ones of a list is above the next one.
 fn climbs(branches: &[Box<Branch>], count: usize) -> bool
     requires some { 0 < count }
     requires within { count < length branches.now }

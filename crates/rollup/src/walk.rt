@@ -16,6 +16,22 @@ use size_core::{NoMemory, Steps};
 use std::alloc::{AllocError, Global};
 use std::sync::ledger::Ledger;
 
+/// What a walk counts: the positions of one part, by the labels of the maps. With marks, a position counts only if one
+/// of its labels is marked true.
+#[derive(Clone, Copy)]
+pub struct Walked<'m, 'f> {
+    pub maps: &'m [DualMap],
+    pub part: Part,
+    pub marks: Option<&'f [bool]>,
+}
+
+// The positions from `at` up to `to`.
+#[derive(Clone, Copy)]
+struct Stretch {
+    at: u128,
+    to: u128,
+}
+
 // The first piece of each map.
 fn first_pieces<L: Ledger>(
     alloc: Global,
@@ -38,10 +54,12 @@ fn first_pieces<L: Ledger>(
 // The least position at which a label changes, or the limit.
 fn next_stop(cursors: &[Cursor], at: u128, limit: u128) -> u128
     requires limit { at < limit }
-    requires ahead { (i : ℕ) → i < length cursors.now → at < (slice_index_or cursors.now i no_cursor).end }
+    requires ahead { (i : ℕ) → i < length cursors.now
+        → at < (slice_index_or cursors.now i no_cursor).end }
     ensures ahead { at < result }
     ensures limit { result ≤ limit }
-    ensures least { (i : ℕ) → i < length cursors.now → result ≤ stop_of at (slice_index_or cursors.now i no_cursor) }
+    ensures least { (i : ℕ) → i < length cursors.now
+        → result ≤ stop_of at (slice_index_or cursors.now i no_cursor) }
 {
     let mut to = limit;
     for cursor in cursors {
@@ -88,28 +106,29 @@ fn pass(marks: Option<&[bool]>, numbers: &[usize]) -> bool
     }
 }
 
-// Counts the positions from `at` up to `to`, which all have the current labels.
+// Counts positions, which all have the current labels.
 fn count(
     sizes: &mut PathSizes,
+    walked: Walked<'_, '_>,
     cursors: &[Cursor],
-    part: Part,
-    marks: Option<&[bool]>,
-    at: u128,
-    to: u128,
+    stretch: Stretch,
     numbers: &mut Vec<usize>,
 ) -> Result<(), NoMemory>
-    requires order { at ≤ to }
-    requires fits { (i : ℕ) → size_in part (slice_index_or sizes.old i no_entry) + (to - at) < 2 ^ 128 }
-    ensures grown { OnOk result (IsGrownIf (is_counted (option_copied marks.entry) at cursors.now)
-        part (labels_of cursors.now) (to - at) sizes.old sizes.new) }
+    requires order { stretch.at ≤ stretch.to }
+    requires fits { (i : ℕ) → size_in walked.part (slice_index_or sizes.old i no_entry)
+        + (stretch.to - stretch.at) < 2 ^ 128 }
+    ensures grown { OnOk result (IsGrownIf
+        (is_counted (option_copied walked.entry.marks) stretch.at cursors.now)
+        walked.entry.part (labels_of cursors.now) (stretch.to - stretch.at)
+        sizes.old sizes.new) }
 {
-    if !labels_at(cursors, at, numbers)? {
+    if !labels_at(cursors, stretch.at, numbers)? {
         return Ok(());
     }
-    if !pass(marks, numbers.as_slice()) {
+    if !pass(walked.marks, numbers.as_slice()) {
         return Ok(());
     }
-    sizes.add(part, numbers.as_slice(), to - at)
+    sizes.add(walked.part, numbers.as_slice(), stretch.to - stretch.at)
 }
 
 // Moves on to a position: reads the next piece of each map whose current piece ends there.
@@ -136,30 +155,33 @@ fn advance<L: Ledger>(
 pub fn walk<L: Ledger>(
     alloc: Global,
     sizes: &mut PathSizes,
-    maps: &[DualMap],
-    part: Part,
+    walked: Walked<'_, '_>,
     limit: u128,
-    marks: Option<&[bool]>,
     steps: &mut Steps<L>,
 ) -> Result<(), NoMemory>
-    requires none { (test : List ℕ → Bool) → weight part test sizes.old ≡ 0 }
+    requires none { (test : List ℕ → Bool) → weight walked.part test sizes.old ≡ 0 }
     requires fits { limit ≤ 2 ^ 97 }
     ensures counted { OnOk result ((test : List ℕ → Bool)
-        → weight part test sizes.new ≡ counted test (option_copied marks.entry) (layers part maps.now) limit) }
+        → weight walked.entry.part test sizes.new
+        ≡ counted test (option_copied walked.entry.marks)
+        (layers walked.entry.part walked.entry.maps.now) limit) }
     ensures other { OnOk result ((test : List ℕ → Bool)
-        → weight (other part) test sizes.new ≡ weight (other part) test sizes.old) }
-    ensures entries { OnOk result ((n : ℕ) → All (LabelsBelow n) maps.now
-        → All (IsEntry (length maps.now) n) sizes.old
-        → All (IsEntry (length maps.now) n) sizes.new) }
-    ensures cost { steps.new ≤ steps.old + piece_total (layers part maps.now) }
+        → weight (other walked.entry.part) test sizes.new
+        ≡ weight (other walked.entry.part) test sizes.old) }
+    ensures entries { OnOk result ((n : ℕ) → All (LabelsBelow n) walked.entry.maps.now
+        → All (IsEntry (length walked.entry.maps.now) n) sizes.old
+        → All (IsEntry (length walked.entry.maps.now) n) sizes.new) }
+    ensures cost { steps.new
+        ≤ steps.old + piece_total (layers walked.entry.part walked.entry.maps.now) }
 {
-    let mut cursors = first_pieces(alloc, maps, part, steps)?;
+    let mut cursors = first_pieces(alloc, walked.maps, walked.part, steps)?;
     let mut numbers = Vec::new(alloc);
     let mut at = 0;
     while at < limit {
         let to = next_stop(cursors.as_slice(), at, limit);
-        count(sizes, cursors.as_slice(), part, marks, at, to, &mut numbers)?;
-        advance(cursors.as_mut_slice(), maps, part, to, steps);
+        let stretch = Stretch { at, to };
+        count(sizes, walked, cursors.as_slice(), stretch, &mut numbers)?;
+        advance(cursors.as_mut_slice(), walked.maps, walked.part, to, steps);
         at = to;
     }
     Ok(())

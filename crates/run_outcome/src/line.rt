@@ -103,7 +103,8 @@ fn source_name(options: &Options, number: usize) -> &[u8]
 
 // Writes the line for a file: its name, and what is wrong with it.
 fn tell_file<E: Sink>(err: &mut E, name: &[u8], text: &[u8]) -> Result<(), Failed>
-    ensures writes { let line = codes "bloaty: " ++ name.now ++ codes ": " ++ text.now ++ codes "\n" in
+    ensures writes { let line = codes "bloaty: " ++ name.now ++ codes ": " ++ text.now
+        ++ codes "\n" in
         Writes E.Sink result line err.old err.new }
 {
     write_pieces(err, &[b"bloaty: ", name, b": ", text, b"\n"])
@@ -168,7 +169,8 @@ fn tell_config<E: Sink>(
 
 // Writes the line for a pattern that is refused. The number is decimal digits.
 fn write_pattern<E: Sink>(err: &mut E, number: &[u8], text: &[u8]) -> Result<(), Failed>
-    ensures writes { let line = codes "bloaty: pattern " ++ number.now ++ codes ": " ++ text.now ++ codes "\n" in
+    ensures writes { let line = codes "bloaty: pattern " ++ number.now ++ codes ": "
+        ++ text.now ++ codes "\n" in
         Writes E.Sink result line err.old err.new }
 {
     write_pieces(err, &[b"bloaty: pattern ", number, b": ", text, b"\n"])

@@ -152,7 +152,8 @@ fn pass_rest(
     paths: &mut Vec<GrowthPath>,
 ) -> Result<(), NoMemory>
     requires { at.base ≤ length base.now.rows }
-    ensures { OnOk result (paths.new.items ≡ paths.old.items ++ map base_path (drop at.base base.now.rows)) }
+    ensures { OnOk result (paths.new.items
+        ≡ paths.old.items ++ map base_path (drop at.base base.now.rows)) }
 {
     for i in at.base..base.len() {
         paths.push(only_base(alloc, base.row(i))?)?;

@@ -15,6 +15,13 @@ use report_rows::{Kind, RowOptions};
 use size_core::{Domain, NoMemory, Sort};
 use std::alloc::Global;
 
+// The number of levels of a report, and its options, which are those of each level.
+#[derive(Clone, Copy)]
+struct Levels {
+    depth: u32,
+    options: RowOptions,
+}
+
 // The row of an item.
 fn make_row(paths: &[GrowthPath], level: u32, item: &Item) -> Result<GrowthRow, NoMemory>
     requires some { item.now.kind ≡ Label → item.now.from < length paths.now }
@@ -35,24 +42,24 @@ fn make_row(paths: &[GrowthPath], level: u32, item: &Item) -> Result<GrowthRow, 
 // Appends the rows of the levels from this one on.
 fn list(
     alloc: Global,
-    options: &RowOptions,
-    depth: u32,
+    levels: Levels,
     paths: &[GrowthPath],
     level: u32,
     out: &mut GrowthRows,
 ) -> Result<(), NoMemory>
-    requires part { IsPart depth paths.now }
-    requires within { level ≤ depth }
-    ensures { OnOk result (out.new ≡ out.old ++ listing options.now (depth - level) level (table_at level paths.now)) }
+    requires part { IsPart levels.depth paths.now }
+    requires within { level ≤ levels.depth }
+    ensures { OnOk result (out.new ≡ out.old
+        ++ listing levels.options (levels.depth - level) level (table_at level paths.now)) }
 {
-    if level == depth {
+    if level == levels.depth {
         return Ok(());
     }
-    let items = items(alloc, options, depth, paths, level)?;
+    let items = items(alloc, &levels.options, levels.depth, paths, level)?;
     for item in &items {
         let below = &paths[item.from..item.to];
         out.push(make_row(paths, level, item)?)?;
-        list(alloc, options, depth, below, level + 1, out)?;
+        list(alloc, levels, below, level + 1, out)?;
     }
     Ok(())
 }
@@ -70,7 +77,8 @@ pub fn growth_rows(
     domain: Domain,
 ) -> Result<GrowthTree, NoMemory>
     ensures rows { IfOk result (λ t. t
-        ≡ growth_tree (record { limit = limit; sort = sort; domain = domain }) growth.now.depth growth.now.paths) }
+        ≡ growth_tree (record { limit = limit; sort = sort; domain = domain })
+        growth.now.depth growth.now.paths) }
     ensures levels { IfOk result (λ t. IsGrowthTree t.depth t.rows) }
     ensures growths { IfOk result (GrowsAlike domain) }
 {
@@ -82,7 +90,8 @@ pub fn growth_rows(
     let depth = growth.depth();
     let paths = growth.paths();
     let mut rows = GrowthRows::new(alloc);
-    list(alloc, &options, depth, paths, 0, &mut rows)?;
+    let levels = Levels { depth, options };
+    list(alloc, levels, paths, 0, &mut rows)?;
     Ok(GrowthTree {
         depth,
         sizes: sums(paths),

@@ -41,7 +41,8 @@ pub fn address_path(
     space: u32,
     address: u64,
 ) -> Result<Path, NoMemory>
-    ensures { IfOk result (λ path. path ≡ map (label_of_address file.now space address) file.now.sources) }
+    ensures { IfOk result (λ path. path
+        ≡ map (label_of_address file.now space address) file.now.sources) }
 {
     let mut path = Path::new(alloc);
     for i in 0..file.sources.len() {
@@ -89,7 +90,8 @@ fn begins_with(path: &Path, prefix: &Path) -> bool
 
 /// Returns whether a path counts for a prefix: it passes the filter and begins with the prefix.
 pub fn counts_for<T: LabelTest>(filter: Option<&T>, prefix: &Path, path: &Path) -> bool
-    ensures { result ≡ counts_for (option_map (λ t. T.holds t.now) filter.entry) prefix.now path.now }
+    ensures { result
+        ≡ counts_for (option_map (λ t. T.holds t.now) filter.entry) prefix.now path.now }
 {
     passes(filter, path) && begins_with(path, prefix)
 }
@@ -101,7 +103,8 @@ pub fn file_size_in<T: LabelTest>(
     prefix: &Path,
     file: &FileView,
 ) -> Result<u64, NoMemory>
-    ensures { IfOk result (λ n. n ≡ file_size_in (option_map (λ t. T.holds t.now) filter.entry) prefix.now file.now) }
+    ensures { IfOk result (λ n. n
+        ≡ file_size_in (option_map (λ t. T.holds t.now) filter.entry) prefix.now file.now) }
 {
     let mut size = 0;
     for offset in 0..file.len {
@@ -111,27 +114,33 @@ pub fn file_size_in<T: LabelTest>(
     Ok(size)
 }
 
-// Returns whether load `i` is the first load that covers an address, and the path of the address counts for
-// a prefix.
+// An address of a space, and the number of a load that covers it.
+#[derive(Clone, Copy)]
+struct LoadedAddress {
+    load: usize,
+    space: u32,
+    address: u64,
+}
+
+// Returns whether the load is the first one that covers the address, and the path of the address counts for a
+// prefix.
 fn counts_first<T: LabelTest>(
     alloc: Global,
     filter: Option<&T>,
     prefix: &Path,
     file: &FileView,
-    i: usize,
-    space: u32,
-    address: u64,
+    at: LoadedAddress,
 ) -> Result<bool, NoMemory>
-    requires { i < length file.now.loads }
+    requires { at.load < length file.now.loads }
     ensures { IfOk result (λ counts. counts
-        ≡ (not (mapped (take i file.now.loads) space address)
+        ≡ (not (mapped (take at.load file.now.loads) at.space at.address)
         && counts_for (option_map (λ t. T.holds t.now) filter.entry) prefix.now
-        (map (label_of_address file.now space address) file.now.sources))) }
+        (map (label_of_address file.now at.space at.address) file.now.sources))) }
 {
-    if is_mapped_by_first(&file.loads, i, space, address) {
+    if is_mapped_by_first(&file.loads, at.load, at.space, at.address) {
         return Ok(false);
     }
-    let path = address_path(alloc, file, space, address)?;
+    let path = address_path(alloc, file, at.space, at.address)?;
     Ok(counts_for(filter, prefix, &path))
 }
 
@@ -146,7 +155,8 @@ fn size_of_load<T: LabelTest>(
 ) -> Result<u128, NoMemory>
     requires { i < length file.now.loads }
     ensures { IfOk result (λ n. (load : Load) → slice_get file.now.loads i ≡ Some load
-        → n ≡ first_mapped_size (counts_for (option_map (λ t. T.holds t.now) filter.entry) prefix.now)
+        → n ≡ first_mapped_size
+        (counts_for (option_map (λ t. T.holds t.now) filter.entry) prefix.now)
         file.now (take i file.now.loads) load) }
 {
     let load = file.loads.get(i);
@@ -154,8 +164,12 @@ fn size_of_load<T: LabelTest>(
     let addresses = (load.memsz as u128).min((1 << 64) - load.vaddr as u128);
     let mut size = 0u128;
     for distance in 0..addresses {
-        let address = (load.vaddr as u128 + distance) as u64;
-        size += counts_first(alloc, filter, prefix, file, i, space, address)? as u128;
+        let at = LoadedAddress {
+            load: i,
+            space,
+            address: (load.vaddr as u128 + distance) as u64,
+        };
+        size += counts_first(alloc, filter, prefix, file, at)? as u128;
     }
     Ok(size)
 }
@@ -168,7 +182,8 @@ pub fn vm_size_in<T: LabelTest>(
     prefix: &Path,
     file: &FileView,
 ) -> Result<u128, NoMemory>
-    ensures { IfOk result (λ n. n ≡ vm_size_in (option_map (λ t. T.holds t.now) filter.entry) prefix.now file.now) }
+    ensures { IfOk result (λ n. n
+        ≡ vm_size_in (option_map (λ t. T.holds t.now) filter.entry) prefix.now file.now) }
 {
     let mut size = 0u128;
     for i in 0..file.loads.len() {

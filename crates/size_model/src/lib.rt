@@ -17,6 +17,7 @@ pub use laws::{
 };
 pub use piece::Piece;
 pub use plain::{
-    addr, address_label, label_of_address, label_of_offset, mapped, offset_label, place,
+    NumberedSource, addr, address_label, label_of_address, label_of_offset, mapped, offset_label,
+    place,
 };
 pub use view::{FileView, LabelledClaim, SourceView};

@@ -10,6 +10,21 @@ ghost use Rattle.size_model.specs.Sizes.{label_of_offset, label_of_address};
 use crate::view::{FileView, SourceView};
 use size_core::{Bytes, Claim, List, Load, Side, Span};
 
+/// The claims of a data source. The label of a byte that no claim covers has the number `unmapped`.
+#[derive(Clone, Copy)]
+pub struct NumberedSource<'c> {
+    pub claims: &'c [Claim],
+    pub unmapped: usize,
+}
+
+// The bytes that a claim names.
+#[derive(Clone, Copy)]
+struct Reach {
+    side: Side,
+    vm: Span,
+    file: Span,
+}
+
 // Returns how many bytes of the file a load maps, before the cut at the end of the file.
 fn load_len(load: &Load) -> u64
     ensures { result ≡ load_len load.now }
@@ -124,37 +139,23 @@ fn offset_in(span: &Span, offset: Option<u64>) -> bool
 }
 
 // Returns whether a claim covers an offset of a file of `len` bytes.
-fn covers_offset(
-    len: u64,
-    loads: &List<Load>,
-    side: Side,
-    vm: &Span,
-    file: &Span,
-    offset: u64,
-) -> bool
-    ensures { result ≡ covers_offset len loads.now side vm.now file.now offset }
+fn covers_offset(len: u64, loads: &List<Load>, reach: Reach, offset: u64) -> bool
+    ensures { result ≡ covers_offset len loads.now reach.side reach.vm reach.file offset }
 {
-    match side {
-        Side::Vm => address_in(vm, addr(len, loads, offset)),
-        Side::File | Side::Both => span_has(file, offset as u128),
+    match reach.side {
+        Side::Vm => address_in(&reach.vm, addr(len, loads, offset)),
+        Side::File | Side::Both => span_has(&reach.file, offset as u128),
     }
 }
 
 // Returns whether a claim covers an address of a space.
-fn covers_address(
-    len: u64,
-    loads: &List<Load>,
-    side: Side,
-    vm: &Span,
-    file: &Span,
-    space: u32,
-    address: u64,
-) -> bool
-    ensures { result ≡ covers_address len loads.now side vm.now file.now space address }
+fn covers_address(len: u64, loads: &List<Load>, reach: Reach, space: u32, address: u64) -> bool
+    ensures { result
+        ≡ covers_address len loads.now reach.side reach.vm reach.file space address }
 {
-    match side {
-        Side::File => offset_in(file, place(len, loads, space, address)),
-        Side::Vm | Side::Both => address_in(vm, Some((space, address as u128))),
+    match reach.side {
+        Side::File => offset_in(&reach.file, place(len, loads, space, address)),
+        Side::Vm | Side::Both => address_in(&reach.vm, Some((space, address as u128))),
     }
 }
 
@@ -164,14 +165,12 @@ pub fn label_of_offset<'a>(file: &FileView, source: &'a SourceView, offset: u64)
 {
     for i in 0..source.claims.len() {
         let claim = source.claims.get(i);
-        if covers_offset(
-            file.len,
-            &file.loads,
-            claim.side,
-            &claim.vm,
-            &claim.file,
-            offset,
-        ) {
+        let reach = Reach {
+            side: claim.side,
+            vm: claim.vm,
+            file: claim.file,
+        };
+        if covers_offset(file.len, &file.loads, reach, offset) {
             return &claim.label;
         }
     }
@@ -190,15 +189,12 @@ pub fn label_of_address<'a>(
 {
     for i in 0..source.claims.len() {
         let claim = source.claims.get(i);
-        if covers_address(
-            file.len,
-            &file.loads,
-            claim.side,
-            &claim.vm,
-            &claim.file,
-            space,
-            address,
-        ) {
+        let reach = Reach {
+            side: claim.side,
+            vm: claim.vm,
+            file: claim.file,
+        };
+        if covers_address(file.len, &file.loads, reach, space, address) {
             return &claim.label;
         }
     }
@@ -207,17 +203,18 @@ pub fn label_of_address<'a>(
 
 /// Returns the number of the label of an offset in a file of `len` bytes: that of the first claim that
 /// covers the offset, or `unmapped`.
-pub fn offset_label(
-    len: u64,
-    loads: &List<Load>,
-    unmapped: usize,
-    claims: &[Claim],
-    offset: u64,
-) -> usize
-    ensures { result ≡ offset_label len loads.now unmapped claims.now offset }
+pub fn offset_label(len: u64, loads: &List<Load>, source: NumberedSource<'_>, offset: u64) -> usize
+    ensures { result ≡ offset_label len loads.now source.entry.unmapped source.entry.claims.now
+        offset }
 {
+    let NumberedSource { claims, unmapped } = source;
     for claim in claims {
-        if covers_offset(len, loads, claim.side, &claim.vm, &claim.file, offset) {
+        let reach = Reach {
+            side: claim.side,
+            vm: claim.vm,
+            file: claim.file,
+        };
+        if covers_offset(len, loads, reach, offset) {
             return claim.label;
         }
     }
@@ -229,23 +226,21 @@ pub fn offset_label(
 pub fn address_label(
     len: u64,
     loads: &List<Load>,
-    unmapped: usize,
-    claims: &[Claim],
+    source: NumberedSource<'_>,
     space: u32,
     address: u64,
 ) -> usize
-    ensures { result ≡ address_label len loads.now unmapped claims.now space address }
+    ensures { result ≡ address_label len loads.now source.entry.unmapped source.entry.claims.now
+        space address }
 {
+    let NumberedSource { claims, unmapped } = source;
     for claim in claims {
-        if covers_address(
-            len,
-            loads,
-            claim.side,
-            &claim.vm,
-            &claim.file,
-            space,
-            address,
-        ) {
+        let reach = Reach {
+            side: claim.side,
+            vm: claim.vm,
+            file: claim.file,
+        };
+        if covers_address(len, loads, reach, space, address) {
             return claim.label;
         }
     }

@@ -80,7 +80,8 @@ fn synth_of(value: Option<&str>) -> Option<u32>
 
 // The location to explain: that of `--debug-fileoff`, or else that of `--debug-vmaddr`.
 fn place_of(offset: Option<&str>, address: Option<&str>) -> Option<Place>
-    ensures { result ≡ place_of (option_map (λ s. s.now) offset.entry) (option_map (λ s. s.now) address.entry) }
+    ensures { result
+        ≡ place_of (option_map (λ s. s.now) offset.entry) (option_map (λ s. s.now) address.entry) }
 {
     match offset {
         Some(text) => offset_of(text),
@@ -153,7 +154,8 @@ pub fn options_of(
     given: &Given<'_, '_>,
     bases: &[String],
 ) -> Result<Options, NoMemory>
-    ensures { IfOk result (λ o. o ≡ options_in (texts_of given.entry.now) (map string_bytes bases.entry.now)) }
+    ensures { IfOk result (λ o. o
+        ≡ options_in (texts_of given.entry.now) (map string_bytes bases.entry.now)) }
 {
     let sources = names_in(alloc, given.sources.unwrap_or(SOURCES))?;
     let filter = text_of(alloc, given.filter)?;

@@ -278,11 +278,9 @@ fn maps_of(
     rt: &impl Abort,
     alloc: Global,
     base: &Base,
-    len: u64,
     depth: u32,
     paths: &[Counted<'_>],
 ) -> Result<Vec<DualMap>, Fail>
-    requires { base.now.len ≡ len }
     ensures count { IfOk result (λ maps. length maps.items ≡ depth) }
     ensures over { IfOk result (λ maps. All (IsOver base.now) maps.items) }
     ensures labels { IfOk result (λ maps. All (LabelsBelow 11) maps.items) }
@@ -292,7 +290,7 @@ fn maps_of(
         let owned = claims_of(rt, alloc, paths, level as usize)?;
         let claims = owned.as_slice();
         all_below(rt, claims);
-        maps.push(DualMap::build(alloc, base, len, claims, 0)?)?;
+        maps.push(DualMap::build(alloc, base, base.len(), claims, 0)?)?;
     }
     Ok(maps)
 }
@@ -315,7 +313,6 @@ fn loads_of(alloc: Global, vm: u64, file: u64) -> Result<Vec<Load>, NoMemory>
 fn add<L: Ledger>(
     rollup: &mut Rollup,
     base: &Base,
-    len: u64,
     maps: &[DualMap],
     pool: &LabelPool,
     blank: Blank,
@@ -323,13 +320,12 @@ fn add<L: Ledger>(
     requires name { blank.name ≡ L.name }
     requires parts { blank.parts ≡ L.parts }
     requires some { 0 < blank.parts }
-    requires len { base.now.len ≡ len }
     requires depth { length maps.now ≡ rollup.old.depth }
     requires over { All (IsOver base.now) maps.now }
     requires labels { All (LabelsBelow (length pool.now)) maps.now }
 {
     let mut steps = Steps::<L>::begin(blank);
-    rollup.add_file(base, len, maps, pool, None, &mut steps)
+    rollup.add_file(base, base.len(), maps, pool, None, &mut steps)
 }
 
 // The rollup of a file whose paths have the sizes of a table.
@@ -341,15 +337,8 @@ fn rollup_of(rt: &impl Abort, alloc: Global, table: &Table<'_>) -> Result<Rollup
     let pool = pool_of(rt, alloc)?;
     let loads = loads_of(alloc, table.vm, len)?;
     let base = Base::from_loads(alloc, len, loads.as_slice())?;
-    let maps = maps_of(rt, alloc, &base, len, depth, table.paths)?;
-    add::<Brand>(
-        &mut rollup,
-        &base,
-        len,
-        maps.as_slice(),
-        &pool,
-        Blank::new(1),
-    )?;
+    let maps = maps_of(rt, alloc, &base, depth, table.paths)?;
+    add::<Brand>(&mut rollup, &base, maps.as_slice(), &pool, Blank::new(1))?;
     Ok(rollup)
 }
 

@@ -122,22 +122,12 @@ fn first_claim(rt: &impl Abort, alloc: Global, file: &[u8], source: Source) -> O
 }
 
 // The file is sound, and the data source has this fault.
-fn assert_bad(
-    rt: &impl Abort,
-    alloc: Global,
-    file: &[u8],
-    source: Source,
-    fault: Fault,
-    offset: u64,
-) {
+fn assert_bad(rt: &impl Abort, alloc: Global, file: &[u8], source: Source, bad: BadFile) {
     assert!(rt; file.len() < 1 << 32);
     let binary = open_binary(file).expect(rt, "a sound file");
     let mut labels = LabelPool::new(alloc);
     let answer = claims(alloc, &binary, source, b"a.elf", &mut labels, 1 << 24);
-    assert_eq!(rt;
-        answer.err(),
-        Some(ClaimAnswer::Bad(BadFile { fault, offset }))
-    );
+    assert_eq!(rt; answer.err(), Some(ClaimAnswer::Bad(bad)));
 }
 
 #[test]
@@ -263,14 +253,11 @@ fn a_symbol_without_its_section_is_a_fault_of_symbols_alone(rt: HostRuntime) {
     )
     .expect(&rt, "memory");
     // The second symbol of the table, which begins after the 136 bytes up to the end of `.text`.
-    assert_bad(
-        &rt,
-        alloc,
-        &file,
-        Source::Symbols,
-        Fault::BadIndex,
-        136 + 24,
-    );
+    let bad = BadFile {
+        fault: Fault::BadIndex,
+        offset: 136 + 24,
+    };
+    assert_bad(&rt, alloc, &file, Source::Symbols, bad);
     let sizes = rows_of(&rt, alloc, &file, Source::Sections);
     assert_eq!(rt; sizes.of(b".text"), (16, 16));
 }
@@ -299,14 +286,11 @@ fn symbols_of_an_object_stand_in_their_sections(rt: HostRuntime) {
     let sizes = rows_of(&rt, alloc, &file, Source::Symbols);
     assert_eq!(rt; sizes.of(b"a"), (16, 16));
     assert_eq!(rt; sizes.of(b"b"), (8, 8));
-    assert_bad(
-        &rt,
-        alloc,
-        &file,
-        Source::CompileUnits,
-        Fault::SourceNotForFile,
-        0,
-    );
+    let bad = BadFile {
+        fault: Fault::SourceNotForFile,
+        offset: 0,
+    };
+    assert_bad(&rt, alloc, &file, Source::CompileUnits, bad);
 }
 
 #[test]

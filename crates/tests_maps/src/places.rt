@@ -5,7 +5,9 @@ ghost use Rattle.size_core.specs.declared.claim.Claim.{Claim as ClaimSpec};
 
 use crate::rows::{ClaimRow, LoadRow, NOWHERE, claims_of, loads_of};
 use dual_map::Base;
-use place_explain::{Explained, Numbers, covers, explain, explain_source, is_inside};
+use place_explain::{
+    Explained, NumberedClaims, Numbers, covers, explain, explain_source, is_inside,
+};
 use size_core::{Claim, LabelPool, Place, Side};
 use std::alloc::Global;
 use std::process::Abort;
@@ -146,47 +148,59 @@ fn pool_of(rt: &impl Abort, alloc: Global, labels: &[&[u8]]) -> LabelPool {
     pool
 }
 
-// Whether the labels of claims are numbers below another one.
+// True only if the labels of claims are numbers below another one.
 fn are_below(claims: &[Claim], count: usize) -> bool
     ensures { IsTrue result → All (λ (c : ClaimSpec). c.label < count) claims.now }
 {
     claims.iter().all(|claim| claim.label < count)
 }
 
-// The explanation of an offset or an address of an example. Claim k has the k-th of these labels, and the last label is
-// for what no claim covers.
+// A file whose claims have these labels by number. The last label is for what no claim covers.
+#[derive(Clone, Copy)]
+struct Labelled<'a> {
+    file: Example<'a>,
+    labels: &'a [&'a [u8]],
+}
+
+// The explanation of an offset or an address of an example.
 fn said(
     rt: &impl Abort,
     alloc: Global,
-    example: &Example<'_>,
-    labels: &[&[u8]],
+    example: &Labelled<'_>,
     place: Place,
     limit: u32,
 ) -> Explained {
-    let pool = pool_of(rt, alloc, labels);
-    let base = base_of(rt, alloc, example);
-    let claims = claims_of(rt, alloc, example.claims);
+    let pool = pool_of(rt, alloc, example.labels);
+    let base = base_of(rt, alloc, &example.file);
+    let claims = claims_of(rt, alloc, example.file.claims);
     let claims = claims.as_slice();
-    assert!(rt; is_inside(&base, example.len, &place));
+    assert!(rt; is_inside(&base, base.len(), &place));
     assert!(rt; are_below(claims, pool.len()));
     assert!(rt; pool.len() > 0);
-    let (len, unmapped) = (example.len, pool.len() - 1);
-    explain_source(alloc, &base, len, claims, unmapped, &pool, &place, limit).expect(rt, "memory")
+    let source = NumberedClaims {
+        claims,
+        pool: &pool,
+        unmapped: pool.len() - 1,
+    };
+    explain_source(alloc, &base, source, &place, limit).expect(rt, "memory")
 }
 
-const MANY: Example<'static> = Example {
-    len: 9,
-    loads: &[],
-    claims: &[
-        (Side::File, NOWHERE, (6, 3), 0),
-        (Side::Both, NOWHERE, (0, 9), 1),
-        (Side::Vm, (0, 0, 9), (0, 0), 0),
-        (Side::File, NOWHERE, (2, 4), 2),
-        (Side::File, NOWHERE, (0, 6), 0),
-    ],
-};
-
 const LABELS: [&[u8]; 4] = [b"a", b"b", b"c", b"none"];
+
+const MANY: Labelled<'static> = Labelled {
+    file: Example {
+        len: 9,
+        loads: &[],
+        claims: &[
+            (Side::File, NOWHERE, (6, 3), 0),
+            (Side::Both, NOWHERE, (0, 9), 1),
+            (Side::Vm, (0, 0, 9), (0, 0), 0),
+            (Side::File, NOWHERE, (2, 4), 2),
+            (Side::File, NOWHERE, (0, 6), 0),
+        ],
+    },
+    labels: &LABELS,
+};
 
 // An offset and a limit, the label, the claims with their numbers and labels, and how many more there are.
 type Limited<'a> = (u64, u32, &'a [u8], &'a [(u64, &'a [u8])], u64);
@@ -202,7 +216,7 @@ const LIMITED: [Limited<'static>; 5] = [
 // The first claims that cover an offset, up to a limit.
 fn is_limited(rt: &impl Abort, alloc: Global, case: &Limited<'_>) {
     let &(offset, limit, label, want, more) = case;
-    let said = said(rt, alloc, &MANY, &LABELS, Place::Offset(offset), limit);
+    let said = said(rt, alloc, &MANY, Place::Offset(offset), limit);
     assert!(rt; said.label.as_slice() == label);
     assert_eq!(rt; said.more, more);
     assert_eq!(rt; said.claims.len(), want.len());
@@ -221,17 +235,20 @@ fn a_limit_gives_the_first_and_so_many_more(rt: HostRuntime) {
     }
 }
 
-const FEW: Example<'static> = Example {
-    len: 9,
-    loads: &[],
-    claims: &[(Side::File, NOWHERE, (6, 3), 0)],
-};
-
 const FEW_LABELS: [&[u8]; 2] = [b"a", b"none"];
+
+const FEW: Labelled<'static> = Labelled {
+    file: Example {
+        len: 9,
+        loads: &[],
+        claims: &[(Side::File, NOWHERE, (6, 3), 0)],
+    },
+    labels: &FEW_LABELS,
+};
 
 #[test]
 fn nothing_covers(rt: HostRuntime) {
-    let said = said(&rt, rt.alloc(), &FEW, &FEW_LABELS, Place::Offset(5), 1);
+    let said = said(&rt, rt.alloc(), &FEW, Place::Offset(5), 1);
     assert!(rt; said.label.as_slice() == b"none".as_slice());
     assert_eq!(rt; (said.claims.len(), said.more), (0, 0));
 }

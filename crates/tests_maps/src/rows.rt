@@ -21,7 +21,7 @@ fn span(space: u32, start: u64, len: u64) -> Span {
     Span { space, start, len }
 }
 
-// Whether a load ends in its space.
+// True only if a load ends in its space.
 fn ends_in_space(load: Load) -> bool
     ensures { IsTrue result → load.vaddr + load.memsz ≤ 2 ^ 64 }
 {

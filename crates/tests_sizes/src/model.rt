@@ -2,10 +2,11 @@
 
 use size_core::{Bytes, Claim, List, Load, NoMemory, Path, Side, Span};
 use size_model::{
-    FileView, LabelTest, LabelledClaim, SourceView, addr, address_label, address_path, counts_for,
-    cut_has_labels, cut_is_unique, each_byte_counts_once, file_size_in, label_of_address,
-    label_of_offset, mapped, offset_label, offset_path, passes, place, range_adds_two_places,
-    rewriting_is_by_label, sizes_add_up, totals_are_whole, twice_covered_counts_once, vm_size_in,
+    FileView, LabelTest, LabelledClaim, NumberedSource, SourceView, addr, address_label,
+    address_path, counts_for, cut_has_labels, cut_is_unique, each_byte_counts_once, file_size_in,
+    label_of_address, label_of_offset, mapped, offset_label, offset_path, passes, place,
+    range_adds_two_places, rewriting_is_by_label, sizes_add_up, totals_are_whole,
+    twice_covered_counts_once, vm_size_in,
 };
 use std::alloc::Global;
 use std::process::Abort;
@@ -443,15 +444,19 @@ fn labels_by_number(rt: HostRuntime) {
     loads
         .push(load(0x400000, 136, 0, 136))
         .expect(&rt, "memory");
+    let source = NumberedSource {
+        claims: &NUMBERED,
+        unmapped: 0,
+    };
     for (offset, label) in [(119, 0), (120, 1), (127, 1), (128, 2), (132, 0)] {
         assert_eq!(rt;
-            offset_label(352, &loads, 0, &NUMBERED, offset),
+            offset_label(352, &loads, source, offset),
             label,
             "at {offset}"
         );
         let address = 0x400000 + offset;
         assert_eq!(rt;
-            address_label(352, &loads, 0, &NUMBERED, 0, address),
+            address_label(352, &loads, source, 0, address),
             label,
             "at {address}"
         );

@@ -114,12 +114,18 @@ fn loads_of(alloc: Global, memsz: u64) -> Result<Vec<Load>, NoMemory>
     Ok(loads)
 }
 
+// The labels of a file, and those that a filter passes.
+#[derive(Clone, Copy)]
+struct Labels<'p, 'm> {
+    pool: &'p LabelPool,
+    marks: Option<&'m [bool]>,
+}
+
 fn add<L: Ledger>(
     rollup: &mut Rollup,
     base: &Base,
     maps: &[DualMap],
-    pool: &LabelPool,
-    marks: Option<&[bool]>,
+    labels: Labels<'_, '_>,
     blank: Blank,
 ) -> Result<(), RollupAnswer>
     requires name { blank.name ≡ L.name }
@@ -127,12 +133,44 @@ fn add<L: Ledger>(
     requires some { 0 < blank.parts }
     requires depth { length maps.now ≡ rollup.old.depth }
     requires over { All (IsOver base.now) maps.now }
-    requires labels { All (LabelsBelow (length pool.now)) maps.now }
-    requires marks { ForSome (option_copied marks) (λ m. length m ≡ length pool.now) }
+    requires labels { All (LabelsBelow (length labels.pool.now)) maps.now }
+    requires marks { ForSome (option_copied labels.marks)
+        (λ m. length m ≡ length labels.pool.now) }
     ensures depth { rollup.new.depth ≡ rollup.old.depth }
 {
     let mut steps = Steps::<L>::begin(blank);
-    rollup.add_file(base, base.len(), maps, pool, marks, &mut steps)
+    rollup.add_file(
+        base,
+        base.len(),
+        maps,
+        labels.pool,
+        labels.marks,
+        &mut steps,
+    )
+}
+
+// The length of a file, and how many addresses its load has.
+#[derive(Clone, Copy)]
+struct FileSize {
+    len: u64,
+    memsz: u64,
+}
+
+const SMALL: FileSize = FileSize {
+    len: 352,
+    memsz: 136,
+};
+
+const LARGE: FileSize = FileSize {
+    len: 1 << 62,
+    memsz: 1 << 62,
+};
+
+// The claims of the data sources asked, and the labels that a filter passes.
+#[derive(Clone, Copy)]
+struct Asked<'s, 'c, 'm> {
+    sources: &'s [&'c [Claim]],
+    marks: Option<&'m [bool]>,
 }
 
 // Adds a file of one load.
@@ -140,22 +178,24 @@ fn adds(
     rt: &impl Abort,
     alloc: Global,
     rollup: &mut Rollup,
-    len: u64,
-    memsz: u64,
-    sources: &[&[Claim]],
-    marks: Option<&[bool]>,
+    size: FileSize,
+    asked: Asked<'_, '_, '_>,
 ) -> Result<Option<RollupAnswer>, Fail>
-    requires len { len < 2 ^ 63 }
-    requires memsz { memsz ≤ 2 ^ 62 }
-    requires depth { length sources.now ≡ rollup.old.depth }
-    requires marks { ForSome (option_copied marks) (λ m. length m ≡ 9) }
+    requires len { size.len < 2 ^ 63 }
+    requires memsz { size.memsz ≤ 2 ^ 62 }
+    requires depth { length asked.sources.now ≡ rollup.old.depth }
+    requires marks { ForSome (option_copied asked.marks) (λ m. length m ≡ 9) }
     ensures depth { rollup.new.depth ≡ rollup.old.depth }
 {
     let pool = pool_of(rt, alloc)?;
-    let loads = loads_of(alloc, memsz)?;
-    let base = Base::from_loads(alloc, len, loads.as_slice())?;
-    let maps = maps_of(rt, alloc, &base, sources)?;
-    let added = add::<Brand>(rollup, &base, maps.as_slice(), &pool, marks, Blank::new(1));
+    let loads = loads_of(alloc, size.memsz)?;
+    let base = Base::from_loads(alloc, size.len, loads.as_slice())?;
+    let maps = maps_of(rt, alloc, &base, asked.sources)?;
+    let labels = Labels {
+        pool: &pool,
+        marks: asked.marks,
+    };
+    let added = add::<Brand>(rollup, &base, maps.as_slice(), labels, Blank::new(1));
     Ok(added.err())
 }
 
@@ -195,14 +235,23 @@ fn a_file_is_added_by_sections(rt: HostRuntime) -> Result<(), Fail> {
     let mut rollup = Rollup::new(alloc, 1);
     assert_eq!(rt; rollup.depth(), 1);
     let claims = sections();
-    let answer = adds(&rt, alloc, &mut rollup, 352, 136, &[&claims], None)?;
+    let sources: [&[Claim]; 1] = [&claims];
+    let all = Asked {
+        sources: &sources,
+        marks: None,
+    };
+    let answer = adds(&rt, alloc, &mut rollup, SMALL, all)?;
     assert_eq!(rt; answer, None);
     has_rows(&rt, &rollup, &SECTION_ROWS);
 
     // All labels but that of the code: it has no row.
     let mut rollup = Rollup::new(alloc, 1);
     let marks = [true, true, true, false, true, true, true, true, true];
-    let answer = adds(&rt, alloc, &mut rollup, 352, 136, &[&claims], Some(&marks))?;
+    let marked = Asked {
+        sources: &sources,
+        marks: Some(&marks),
+    };
+    let answer = adds(&rt, alloc, &mut rollup, SMALL, marked)?;
     assert_eq!(rt; answer, None);
     let mut others = Vec::new(alloc);
     for row in &SECTION_ROWS {
@@ -221,9 +270,14 @@ fn files_add_up_by_paths_of_two(rt: HostRuntime) -> Result<(), Fail> {
     let sections = sections();
     let segments = segments();
     let sources: [&[Claim]; 2] = [&segments, &sections];
+    let asked = Asked {
+        sources: &sources,
+        marks: None,
+    };
     for memsz in [136, 136, 140] {
         assert!(rt; rollup.depth() == 2 && memsz <= 140);
-        let answer = adds(&rt, alloc, &mut rollup, 352, memsz, &sources, None)?;
+        let size = FileSize { len: 352, memsz };
+        let answer = adds(&rt, alloc, &mut rollup, size, asked)?;
         assert_eq!(rt; answer, None);
     }
     has_rows(
@@ -245,11 +299,19 @@ fn files_add_up_by_paths_of_two(rt: HostRuntime) -> Result<(), Fail> {
 fn what_passes_the_limits_is_refused(rt: HostRuntime) -> Result<(), Fail> {
     let alloc = rt.alloc();
     let mut rollup = Rollup::new(alloc, 0);
-    let answer = adds(&rt, alloc, &mut rollup, 1 << 62, 1 << 62, &[], None)?;
+    let asked = Asked {
+        sources: &[],
+        marks: None,
+    };
+    let answer = adds(&rt, alloc, &mut rollup, LARGE, asked)?;
     assert_eq!(rt; answer, None);
-    let answer = adds(&rt, alloc, &mut rollup, 1 << 62, 1 << 62, &[], None)?;
+    let answer = adds(&rt, alloc, &mut rollup, LARGE, asked)?;
     assert_eq!(rt; answer, Some(RollupAnswer::TooManyBytes));
-    let answer = adds(&rt, alloc, &mut rollup, 352, 1 << 62, &[], None)?;
+    let size = FileSize {
+        len: 352,
+        memsz: 1 << 62,
+    };
+    let answer = adds(&rt, alloc, &mut rollup, size, asked)?;
     assert_eq!(rt; answer, Some(RollupAnswer::MappedTooLarge));
     has_rows(&rt, &rollup, &[(&[], 1 << 62, 1 << 62)]);
     Ok(())
@@ -306,9 +368,17 @@ fn the_plain_program_counts_the_same(rt: HostRuntime) -> Result<(), Fail> {
     let mut all = Rollup::new(alloc, 2);
     let mut code = Rollup::new(alloc, 2);
     let sources: [&[Claim]; 2] = [&segments, &sections];
-    let answer = adds(&rt, alloc, &mut all, 352, 136, &sources, None)?;
+    let unmarked = Asked {
+        sources: &sources,
+        marks: None,
+    };
+    let answer = adds(&rt, alloc, &mut all, SMALL, unmarked)?;
     assert_eq!(rt; answer, None);
-    let answer = adds(&rt, alloc, &mut code, 352, 136, &sources, Some(&marks))?;
+    let marked = Asked {
+        sources: &sources,
+        marks: Some(&marks),
+    };
+    let answer = adds(&rt, alloc, &mut code, SMALL, marked)?;
     assert_eq!(rt; answer, None);
     assert_eq!(rt; (all.len(), code.len()), (6, 1));
     agree(&rt, alloc, &all, &file, None)?;

@@ -77,7 +77,8 @@ fn has_children<R: TreeRow>(rows: &List<R>, i: usize) -> bool
 // Whether a row is to have no children.
 fn is_last<R: TreeRow>(depth: u32, row: &R) -> bool
     requires { (R.as_row row.now).level < depth }
-    ensures { result ≡ (is_others (R.as_row row.now).kind || ((R.as_row row.now).level + 1 == depth)) }
+    ensures { result
+        ≡ (is_others (R.as_row row.now).kind || ((R.as_row row.now).level + 1 == depth)) }
 {
     if row.is_others() {
         return true;
@@ -85,7 +86,7 @@ fn is_last<R: TreeRow>(depth: u32, row: &R) -> bool
     row.level() + 1 == depth
 }
 
-/// Whether the levels of rows are those of a tree.
+/// True only if the levels of rows are those of a tree.
 pub fn is_tree<R: TreeRow>(depth: u32, rows: &List<R>) -> bool
     ensures { result ≡ true → IsTree depth (map R.as_row rows.now) }
 {

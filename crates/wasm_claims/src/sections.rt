@@ -66,8 +66,8 @@ fn add_standard(
     wrap: Wrap,
     sheet: &mut ClaimSheet,
 ) -> Result<(), NoMemory>
-    ensures { Adds result sheet.old sheet.new (claim_on reach
-        (wrapped wrap (or_else (standard_name id) (codes "[Section #" ++ decimal id ++ codes "]")))) }
+    ensures { Adds result sheet.old sheet.new (claim_on reach (wrapped wrap
+        (or_else (standard_name id) (codes "[Section #" ++ decimal id ++ codes "]")))) }
 {
     match standard_name(id) {
         Some(name) => sheet.add(reach, wrap, name),

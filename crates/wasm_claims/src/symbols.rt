@@ -53,7 +53,8 @@ fn add_bodies(alloc: Global, bodies: &[Body<'_>], sheet: &mut ClaimSheet) -> Res
 // Returns the functions that have bodies. Bad is the first fault of the imports or of the bodies.
 fn functions_of<'a>(alloc: Global, file: &WasmFile<'a>) -> Result<Vec<Body<'a>>, Stop>
     ensures made { IfOk result (λ v. functions_of file.now ≡ Ok (map body_of v.items)) }
-    ensures bad { (bad : BadFileSpec) → IsErrOf result (Stop.Bad bad) → functions_of file.now ≡ Err bad }
+    ensures bad { (bad : BadFileSpec) → IsErrOf result (Stop.Bad bad)
+        → functions_of file.now ≡ Err bad }
 {
     match file.functions(alloc) {
         Ok(bodies) => Ok(bodies),

@@ -42,7 +42,8 @@ fn add_name<'a>(
 ) -> Result<(), NoMemory>
     ensures { OnOk result ((k : ℕ)
         → option_copied (get nat_eq table.new k)
-        ≡ or_else (option_copied (get nat_eq table.old k)) (if index == k then Some name.now else None)) }
+        ≡ or_else (option_copied (get nat_eq table.old k))
+        (if index == k then Some name.now else None)) }
 {
     if table.contains_key(&index) {
         return Ok(());
@@ -56,7 +57,8 @@ fn name_table<'a>(
     alloc: Global,
     names: FunctionNames<'a>,
 ) -> Result<HashMap<u32, &'a [u8]>, NoMemory>
-    ensures { IfOk result (λ t. (k : ℕ) → option_copied (get nat_eq t k) ≡ first_of_index k names.entry) }
+    ensures { IfOk result (λ t. (k : ℕ)
+        → option_copied (get nat_eq t k) ≡ first_of_index k names.entry) }
 {
     let mut table = HashMap::new(alloc);
     for (index, name) in names {

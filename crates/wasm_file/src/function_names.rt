@@ -43,8 +43,10 @@ fn next_pair<'a>(cursor: &mut Cursor<'a>, left: &mut u32) -> Option<(u32, &'a [u
     requires { fault_in pair_at left.old cursor.old ≡ Ok tt }
     ensures there { fault_in pair_at left.new cursor.new ≡ Ok tt }
     ensures item { MatchOption result
-        ((values_in pair_at left.old cursor.old ≡ []) × (values_in pair_at left.new cursor.new ≡ []))
-        (λ p. values_in pair_at left.old cursor.old ≡ named p ∷ values_in pair_at left.new cursor.new) }
+        ((values_in pair_at left.old cursor.old ≡ [])
+        × (values_in pair_at left.new cursor.new ≡ []))
+        (λ p. values_in pair_at left.old cursor.old
+        ≡ named p ∷ values_in pair_at left.new cursor.new) }
 {
     if *left == 0 {
         return None;

@@ -33,7 +33,8 @@ fn skip_limits(cursor: &mut Cursor) -> Option<()>
 fn skip_description(cursor: &mut Cursor, kind: u8) -> Option<()>
     ensures { MatchOption result
         (after_description cursor.old.bytes kind cursor.old.at ≡ None)
-        (λ _. IsPassed cursor.old (after_description cursor.old.bytes kind cursor.old.at) cursor.new) }
+        (λ _. IsPassed cursor.old (after_description cursor.old.bytes kind cursor.old.at)
+        cursor.new) }
 {
     match kind {
         FUNCTION_IMPORT => {
@@ -98,7 +99,9 @@ fn count_functions(cursor: Cursor, count: u32) -> Result<u32, BadFile>
 /// BadWasm if the count or an import can't be read.
 #[tactic(auto, unfolding(crate::specs::Imports::imports_in, crate::specs::Records::vector, crate::specs::Records::fault_in, crate::specs::Records::values_in))]
 pub fn function_imports(section: Option<Cursor>) -> Result<u32, BadFile>
-    ensures { result ≡ checked (checks_of (imports_in section.entry)) (function_count (imports_in section.entry)) }
+    ensures { result
+        ≡ checked (checks_of (imports_in section.entry))
+        (function_count (imports_in section.entry)) }
 {
     let Some(mut cursor) = section else {
         return Ok(0);

@@ -16,7 +16,8 @@ pub fn standard_numbers()
     ensures sections { CUSTOM ∷ TYPE ∷ IMPORT ∷ FUNCTION ∷ TABLE ∷ MEMORY ∷ GLOBAL ∷ EXPORT ∷ START
         ∷ ELEMENT ∷ CODE ∷ DATA ∷ DATA_COUNT ∷ []
         ≡ 0 ∷ 1 ∷ 2 ∷ 3 ∷ 4 ∷ 5 ∷ 6 ∷ 7 ∷ 8 ∷ 9 ∷ 10 ∷ 11 ∷ 12 ∷ [] }
-    ensures imports { FUNCTION_IMPORT ∷ TABLE_IMPORT ∷ MEMORY_IMPORT ∷ GLOBAL_IMPORT ∷ [] ≡ 0 ∷ 1 ∷ 2 ∷ 3 ∷ [] }
+    ensures imports { FUNCTION_IMPORT ∷ TABLE_IMPORT ∷ MEMORY_IMPORT ∷ GLOBAL_IMPORT ∷ []
+        ≡ 0 ∷ 1 ∷ 2 ∷ 3 ∷ [] }
     ensures names { FUNCTION_NAMES ≡ 1 }
 {}
 

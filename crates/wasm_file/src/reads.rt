@@ -13,7 +13,8 @@ use byte_cursor::Cursor;
 #[tactic(auto, unfolding(crate::specs::Numbers::byte_at))]
 pub fn byte(cursor: &mut Cursor) -> Option<u8>
     ensures value { result ≡ value_of (byte_at cursor.old.bytes cursor.old.at) }
-    ensures after { OnSome result (IsAfter cursor.old (byte_at cursor.old.bytes cursor.old.at) cursor.new) }
+    ensures after { OnSome result
+        (IsAfter cursor.old (byte_at cursor.old.bytes cursor.old.at) cursor.new) }
 {
     cursor.u8().ok()
 }
@@ -23,7 +24,8 @@ pub fn byte(cursor: &mut Cursor) -> Option<u8>
 #[tactic(auto, unfolding(crate::specs::Numbers::number_at))]
 pub fn number(cursor: &mut Cursor) -> Option<u32>
     ensures value { result ≡ value_of (number_at cursor.old.bytes cursor.old.at) }
-    ensures after { OnSome result (IsAfter cursor.old (number_at cursor.old.bytes cursor.old.at) cursor.new) }
+    ensures after { OnSome result
+        (IsAfter cursor.old (number_at cursor.old.bytes cursor.old.at) cursor.new) }
 {
     let place = cursor.place();
     let value = cursor.uleb().ok()?;
@@ -37,7 +39,8 @@ pub fn number(cursor: &mut Cursor) -> Option<u32>
 #[tactic(auto, unfolding(crate::specs::Numbers::long_number_at))]
 pub fn long_number(cursor: &mut Cursor) -> Option<u64>
     ensures value { result ≡ value_of (long_number_at cursor.old.bytes cursor.old.at) }
-    ensures after { OnSome result (IsAfter cursor.old (long_number_at cursor.old.bytes cursor.old.at) cursor.new) }
+    ensures after { OnSome result
+        (IsAfter cursor.old (long_number_at cursor.old.bytes cursor.old.at) cursor.new) }
 {
     cursor.uleb().ok()
 }
@@ -57,7 +60,8 @@ pub fn piece<'a>(cursor: &mut Cursor<'a>) -> Option<Cursor<'a>>
 #[tactic(auto, unfolding(crate::specs::Numbers::name_at, crate::specs::Numbers::piece_at))]
 pub fn name<'a>(cursor: &mut Cursor<'a>) -> Option<&'a [u8]>
     ensures value { option_copied result ≡ value_of (name_at cursor.old.bytes cursor.old.at) }
-    ensures after { OnSome result (IsAfter cursor.old (name_at cursor.old.bytes cursor.old.at) cursor.new) }
+    ensures after { OnSome result
+        (IsAfter cursor.old (name_at cursor.old.bytes cursor.old.at) cursor.new) }
 {
     let bytes = piece(cursor)?;
     Some(bytes.rest())

@@ -70,7 +70,9 @@ fn section_size(cursor: &mut Cursor, place: u64) -> Result<u32, BadFile>
 pub fn read_section<'a>(cursor: &mut Cursor<'a>) -> Result<WasmSection<'a>, BadFile>
     requires whole { cursor.old.base ≡ 0 }
     requires some { cursor.old.at < length cursor.old.bytes }
-    ensures { MatchResult result (λ s. IsFound cursor.old (section s) cursor.new) (IsUnreadable cursor.old) }
+    ensures { MatchResult result
+        (λ s. IsFound cursor.old (section s) cursor.new)
+        (IsUnreadable cursor.old) }
 {
     let place = cursor.place();
     let id = cursor.u8()?;

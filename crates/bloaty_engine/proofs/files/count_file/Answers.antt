@@ -8,32 +8,43 @@ use Rattle.file_profile.proofs.MapLemmas.{err-same}
 use Rattle.bloaty_engine.proofs.TakenLemmas.{end-short}
 use Rattle.bloaty_engine.proofs.files.count_file.Goals as goal
 
-pub returns-in-Ok-clause-ended : goal.returns-in-Ok-clause-ended
-returns-in-Ok-clause-ended g c = λ lengths room.
-    let within = counted-within c.args.run.now.limits c.args.plan.now.sources c.args.file.number lengths c.args.total.now.mapped c.args.file.name.now c.args.file.bytes.now c.requires.fits room in
-    rw within (ok-viewed c.args.file.number _ (rw c.as_str-name.ensures at c.in-Ok.ensures.answer))
+pub returns-in-Ok : goal.returns-in-Ok
+returns-in-Ok g c =
+    let limits = c.args.run.now.limits in
+    let sources = c.args.plan.now.sources in
+    let name = c.args.file.name.now in
+    let bytes = c.args.file.bytes.now in
+    let mapped = c.args.total.now.mapped in
+    record {
+      short = λ i e. cc;
+      ended = λ lengths room.
+          let within = counted-within limits sources c.args.file.number lengths mapped name bytes c.requires.fits room in
+          rw within (ok-viewed c.args.file.number _ (rw c.as_str-name.ensures at c.in-Ok.ensures.answer));
+      counted = λ lengths files f room at has.
+          let within = counted-within limits sources c.args.file.number lengths mapped name bytes c.requires.fits room in
+          let view : viewed mapped limits.claims name bytes sources ≡ Ok f = viewed-ok c.args.file.number _ f (sym within ∙ at) in
+          let len = view-len mapped limits.claims name bytes sources f view in
+          counted-one (filter_test c.args.plan.now.filter) (length sources) files f c.args.total.now c.profile_file.new.total has c.in-Ok.ensures.depth
+          (c.in-Ok.ensures.lengths ∙ ap (λ n. c.args.total.now.lengths + n) (sym len)) ((rw c.as_str-name.ensures at c.in-Ok.ensures.mapped) f view)
+          (λ test. (rw c.as_str-name.ensures at c.in-Ok.ensures.file) f test view) (λ test. (rw c.as_str-name.ensures at c.in-Ok.ensures.vm) f test view);
+      depth = c.in-Ok.ensures.depth;
+      lengths = c.in-Ok.ensures.lengths;
+      cost = view-costs (file_view limits.claims name bytes sources) c.args.steps.now c.profile_file.new.steps (rw c.as_str-name.ensures at c.profile_file.ensures.cost) (rw c.as_str-name.ensures at c.profile_file.ensures.free);
+    }
 
-pub returns-in-Ok-clause-counted : goal.returns-in-Ok-clause-counted
-returns-in-Ok-clause-counted g c = λ lengths files f room at has.
-    let within = counted-within c.args.run.now.limits c.args.plan.now.sources c.args.file.number lengths c.args.total.now.mapped c.args.file.name.now c.args.file.bytes.now c.requires.fits room in
-    let view : viewed c.args.total.now.mapped c.args.run.now.limits.claims c.args.file.name.now c.args.file.bytes.now c.args.plan.now.sources ≡ Ok f = viewed-ok c.args.file.number _ f (sym within ∙ at) in
-    let len = view-len c.args.total.now.mapped c.args.run.now.limits.claims c.args.file.name.now c.args.file.bytes.now c.args.plan.now.sources f view in
-    counted-one (filter_test c.args.plan.now.filter) (length c.args.plan.now.sources) files f c.args.total.now c.profile_file.new.total has c.in-Ok.ensures.depth
-    (c.in-Ok.ensures.lengths ∙ ap (λ n. c.args.total.now.lengths + n) (sym len)) ((rw c.as_str-name.ensures at c.in-Ok.ensures.mapped) f view)
-    (λ test. (rw c.as_str-name.ensures at c.in-Ok.ensures.file) f test view) (λ test. (rw c.as_str-name.ensures at c.in-Ok.ensures.vm) f test view)
-
-pub returns-in-Err-clause-ended : goal.returns-in-Err-clause-ended
-returns-in-Err-clause-ended g c = λ lengths room.
-    let within = counted-within c.args.run.now.limits c.args.plan.now.sources c.args.file.number lengths c.args.total.now.mapped c.args.file.name.now c.args.file.bytes.now c.requires.fits room in
-    rw (c.end_at.ensures, within) (ends-viewed c.args.file.number c.in-Err.answer _ (rw c.as_str-name.ensures at c.in-Err.ensures.answer))
-
-pub returns-in-Err-clause-short : goal.returns-in-Err-clause-short
-returns-in-Err-clause-short g c = λ i e. end-short c.args.file.number c.in-Err.answer i (sym c.end_at.ensures ∙ err-same _ _ e)
-
-pub returns-in-Ok-clause-cost : goal.returns-in-Ok-clause-cost
-returns-in-Ok-clause-cost g c =
-    view-costs (file_view c.args.run.now.limits.claims c.args.file.name.now c.args.file.bytes.now c.args.plan.now.sources) c.args.steps.now c.profile_file.new.steps (rw c.as_str-name.ensures at c.profile_file.ensures.cost) (rw c.as_str-name.ensures at c.profile_file.ensures.free)
-
-pub returns-in-Err-clause-cost : goal.returns-in-Err-clause-cost
-returns-in-Err-clause-cost g c =
-    view-costs (file_view c.args.run.now.limits.claims c.args.file.name.now c.args.file.bytes.now c.args.plan.now.sources) c.args.steps.now c.profile_file.new.steps (rw c.as_str-name.ensures at c.profile_file.ensures.cost) (rw c.as_str-name.ensures at c.profile_file.ensures.free)
+pub returns-in-Err : goal.returns-in-Err
+returns-in-Err g c =
+    let limits = c.args.run.now.limits in
+    let sources = c.args.plan.now.sources in
+    let name = c.args.file.name.now in
+    let bytes = c.args.file.bytes.now in
+    record {
+      short = λ i e. end-short c.args.file.number c.in-Err.answer i (sym c.end_at.ensures ∙ err-same _ _ e);
+      ended = λ lengths room.
+          let within = counted-within limits sources c.args.file.number lengths c.args.total.now.mapped name bytes c.requires.fits room in
+          rw (c.end_at.ensures, within) (ends-viewed c.args.file.number c.in-Err.answer _ (rw c.as_str-name.ensures at c.in-Err.ensures.answer));
+      counted = tt;
+      depth = c.in-Err.ensures.depth;
+      lengths = tt;
+      cost = view-costs (file_view limits.claims name bytes sources) c.args.steps.now c.profile_file.new.steps (rw c.as_str-name.ensures at c.profile_file.ensures.cost) (rw c.as_str-name.ensures at c.profile_file.ensures.free);
+    }

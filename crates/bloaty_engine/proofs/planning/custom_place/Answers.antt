@@ -4,8 +4,11 @@ use Rattle.std.proofs.lemmas.Option.{slice_get_read}
 use Rattle.bloaty_engine.proofs.PlanLemmas.{custom-here}
 use Rattle.bloaty_engine.proofs.planning.custom_place.Goals as goal
 
-pub returns-then-eq-clause-some : goal.returns-then-eq-clause-some
-returns-then-eq-clause-some c =
+pub returns-then-eq : goal.returns-then-eq
+returns-then-eq c =
     let x = c.index-custom-i.result in
     let at : slice_get c.args.custom.now c.loop-i.i ≡ Some x = slice_get_read c.args.custom.now (length c.args.custom.now) c.loop-i.i x refl (omega arith) c.index-custom-i.is in
-    rw at (c.loop-i.invariant ∙ custom-here c.args.custom.now c.loop-i.i x c.args.name.now at (search rules))
+    record {
+      within = omega arith;
+      is = rw at (c.loop-i.invariant ∙ custom-here c.args.custom.now c.loop-i.i x c.args.name.now at (search rules));
+    }

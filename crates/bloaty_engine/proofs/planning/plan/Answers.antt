@@ -12,7 +12,7 @@ pub returns-in_err-rewrites-clause-cause : goal.returns-in_err-rewrites-clause-c
 returns-in_err-rewrites-clause-cause g c =
     let p = err_from_is_err_and c.from_residual-in_err-rewrites.result c.from_residual-in_err-rewrites.ensures.1 in
     let names = c.args.options.now.sources in
-    let known : IsOk (chosen_sources c.args.custom.now names) = rw c.in_ok-choices.ensures.chosen (search rules) in
+    let known : IsOk (chosen_sources c.args.custom.now names) = rw c.in_ok-choices.ensures.choices.chosen (search rules) in
     let read : IfSome c.args.options.now.filter IsPattern = rw c.as_ref.ensures.value at c.in_ok-filter.ensures.read in
     rw (p.1, p.2) (cause-rewrites names c.args.options.now.filter c.args.custom.now known read _ _ _ _ c.filter_of.ensures.patterns.rises _ c.in_err-rewrites.ensures.cause)
 
@@ -21,7 +21,7 @@ returns-clause-plan g c =
     let names = c.args.options.now.sources in
     let read : IfSome c.args.options.now.filter IsPattern = rw c.as_ref.ensures.value at c.in_ok-filter.ensures.read in
     rw c.of.ensures (record {
-      sources = rw c.in_ok-rewrites.ensures.same c.in_ok-choices.ensures.chosen;
+      sources = rw c.in_ok-rewrites.ensures.same c.in_ok-choices.ensures.choices.chosen;
       rewrites = c.in_ok-rewrites.ensures.same;
       filter = c.in_ok-filter.ensures.same ∙ c.as_ref.ensures.value;
       patterns = patterns-read names c.args.options.now.filter c.args.custom.now read c.in_ok-rewrites.ensures.read;
@@ -38,7 +38,7 @@ pub returns-in_err-filter-clause-patterns : goal.returns-in_err-filter-clause-pa
 returns-in_err-filter-clause-patterns g c =
     let p = err_from_is_err_and c.from_residual-in_err-filter.result c.from_residual-in_err-filter.ensures.1 in
     let o = c.args.options.now in
-    let known : IsOk (chosen_sources c.args.custom.now o.sources) = rw c.in_ok-choices.ensures.chosen (search rules) in
+    let known : IsOk (chosen_sources c.args.custom.now o.sources) = rw c.in_ok-choices.ensures.choices.chosen (search rules) in
     let cause = rw c.as_ref.ensures.value at c.in_err-filter.ensures.cause in
     let builds = rw c.as_ref.ensures.value at c.in_err-filter.ensures.patterns in
     rw (p.1, p.2, if-known o.sources o.filter c.args.custom.now known) (plan-stops g.P.Patterns _ _ c.in_err-filter.field-0.0 c.args.patterns.now c.args.patterns.now c.filter_of.new.patterns refl refl
@@ -48,7 +48,7 @@ pub returns-in_err-rewrites-clause-patterns : goal.returns-in_err-rewrites-claus
 returns-in_err-rewrites-clause-patterns g c =
     let p = err_from_is_err_and c.from_residual-in_err-rewrites.result c.from_residual-in_err-rewrites.ensures.1 in
     let o = c.args.options.now in
-    let known : IsOk (chosen_sources c.args.custom.now o.sources) = rw c.in_ok-choices.ensures.chosen (search rules) in
+    let known : IsOk (chosen_sources c.args.custom.now o.sources) = rw c.in_ok-choices.ensures.choices.chosen (search rules) in
     let first = rw c.as_ref.ensures.value at c.in_ok-filter.ensures.patterns in
     let builds = c.in_err-rewrites.ensures.patterns in
     rw (p.1, p.2, if-known o.sources o.filter c.args.custom.now known) (plan-stops g.P.Patterns _ _ c.in_err-rewrites.field-0.0 c.args.patterns.now c.filter_of.new.patterns c.rewrites_of.new.patterns first.kept (first.sound refl)
@@ -57,7 +57,7 @@ returns-in_err-rewrites-clause-patterns g c =
 pub returns-clause-patterns : goal.returns-clause-patterns
 returns-clause-patterns g c =
     let o = c.args.options.now in
-    let known : IsOk (chosen_sources c.args.custom.now o.sources) = rw c.in_ok-choices.ensures.chosen (search rules) in
+    let known : IsOk (chosen_sources c.args.custom.now o.sources) = rw c.in_ok-choices.ensures.choices.chosen (search rules) in
     let first = rw c.as_ref.ensures.value at c.in_ok-filter.ensures.patterns in
     let second = c.in_ok-rewrites.ensures.patterns in
     rw (if-known o.sources o.filter c.args.custom.now known) (plan-follows g.P.Patterns _ _ _ _ _ _ c.args.patterns.now c.filter_of.new.patterns c.rewrites_of.new.patterns

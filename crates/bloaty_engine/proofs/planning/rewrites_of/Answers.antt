@@ -8,32 +8,34 @@ use Rattle.bloaty_engine.proofs.BuildLemmas.{plan-stops}
 use Rattle.bloaty_engine.proofs.PlanLemmas.{built-more, built-part, built-within, cause-more, lists-more, number-more, read-more}
 use Rattle.bloaty_engine.proofs.planning.rewrites_of.Goals as goal
 
-pub returns-in_err-made-clause-cause : goal.returns-in_err-made-clause-cause
-returns-in_err-made-clause-cause g c =
+pub returns-in_err-made : goal.returns-in_err-made
+returns-in_err-made g c =
     let p = err_from_is_err_and c.from_residual.result c.from_residual.ensures.1 in
     let x = c.source-item.result in
     let at : slice_get c.args.custom.now c.loop-source.source-index ≡ Some x =
     slice_get_read c.args.custom.now (length c.args.custom.now) c.loop-source.source-index x refl (omega arith) c.source-item.is in
     let inv = c.loop-source.invariant in
-    rw (p.1, p.2) (cause-more c.args.custom.now c.loop-source.source-index x at c.loop-source.first _ _ _ _ inv.number inv.read (omega (arith, inv.count)) _ c.in_err-made.ensures.cause)
+    let made = c.in_err-made.ensures in
+    rw (p.1, p.2) (record {
+      same = tt;
+      read = tt;
+      cause = cause-more c.args.custom.now c.loop-source.source-index x at c.loop-source.first _ _ _ _ inv.number inv.read (omega (arith, inv.count)) _ made.cause;
+      patterns = plan-stops g.P.Patterns _ (rewrite_patterns 1 (rewrites_of c.args.custom.now)) c.in_err-made.field-0.0 c.args.patterns.now c.loop-source.patterns c.rewrites_from.new.patterns inv.last inv.count
+          (built-within c.args.custom.now c.loop-source.source-index x at _ _ _ inv.built c.loop-source.first _ _ _ inv.number c.in_err-made.field-0.0 made.cause made.patterns.built) made.patterns;
+    })
 
-pub returns-in_err-made-clause-patterns : goal.returns-in_err-made-clause-patterns
-returns-in_err-made-clause-patterns g c =
-    let p = err_from_is_err_and c.from_residual.result c.from_residual.ensures.1 in
-    let x = c.source-item.result in
-    let at : slice_get c.args.custom.now c.loop-source.source-index ≡ Some x =
-    slice_get_read c.args.custom.now (length c.args.custom.now) c.loop-source.source-index x refl (omega arith) c.source-item.is in
+pub returns-in_default : goal.returns-in_default
+returns-in_default g c =
     let inv = c.loop-source.invariant in
-    rw (p.1, p.2) (plan-stops g.P.Patterns _ (rewrite_patterns 1 (rewrites_of c.args.custom.now)) c.in_err-made.field-0.0 c.args.patterns.now c.loop-source.patterns c.rewrites_from.new.patterns inv.last inv.count
-    (built-within c.args.custom.now c.loop-source.source-index x at _ _ _ inv.built c.loop-source.first _ _ _ inv.number c.in_err-made.field-0.0 c.in_err-made.ensures.cause c.in_err-made.ensures.patterns.built) c.in_err-made.ensures.patterns)
+    record {
+      same = tt;
+      read = tt;
+      cause = tt;
+      patterns = record { built = built-part c.args.custom.now c.loop-source.source-index _ _ inv.built; kept = inv.last; rises = omega (arith, inv.count); sound = λ q. inv.count };
+    }
 
-pub returns-in_default-clause-patterns : goal.returns-in_default-clause-patterns
-returns-in_default-clause-patterns g c =
-    let inv = c.loop-source.invariant in
-    record { built = built-part c.args.custom.now c.loop-source.source-index _ _ inv.built; kept = inv.last; rises = omega (arith, inv.count); sound = λ q. inv.count }
-
-pub returns-in_err-push-clause-patterns : goal.returns-in_err-push-clause-patterns
-returns-in_err-push-clause-patterns g c =
+pub returns-in_err-push : goal.returns-in_err-push
+returns-in_err-push g c =
     let p = err_from_is_err_and c.from_residual-in_err-push.result c.from_residual-in_err-push.ensures.1 in
     let x = c.source-item.result in
     let at : slice_get c.args.custom.now c.loop-source.source-index ≡ Some x =
@@ -41,10 +43,15 @@ returns-in_err-push-clause-patterns g c =
     let inv = c.loop-source.invariant in
     let made = c.in_ok-made.ensures.patterns in
     rw (p.1, p.2) (record {
-      built = built-part c.args.custom.now (c.loop-source.source-index + 1) _ _ (built-more c.args.custom.now c.loop-source.source-index x at _ _ _ inv.built made.built);
-      kept = made.kept ∙ inv.last;
-      rises = omega (arith, inv.count, made.rises);
-      sound = λ q. made.sound refl ∙ inv.count;
+      same = tt;
+      read = tt;
+      cause = tt;
+      patterns = record {
+        built = built-part c.args.custom.now (c.loop-source.source-index + 1) _ _ (built-more c.args.custom.now c.loop-source.source-index x at _ _ _ inv.built made.built);
+        kept = made.kept ∙ inv.last;
+        rises = omega (arith, inv.count, made.rises);
+        sound = λ q. made.sound refl ∙ inv.count;
+      };
     })
 
 pub loop-source-preserved : goal.loop-source-preserved

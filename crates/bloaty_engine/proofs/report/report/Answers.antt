@@ -11,87 +11,82 @@ use Rattle.bloaty_engine.proofs.RunLemmas.{config-never-bad, config-never-big, c
 use Rattle.bloaty_engine.proofs.StepLemmas.{config-run, files-run, goes-on, stops, then-unread}
 use Rattle.bloaty_engine.proofs.report.report.Goals as goal
 
-pub returns-in_err-customs-clause-run : goal.returns-in_err-customs-clause-run
-returns-in_err-customs-clause-run g c =
+pub returns-in_err-customs-clause-text : goal.returns-in_err-customs-clause-text
+returns-in_err-customs-clause-text g c =
     let p = err_from_is_err_and c.from_residual.result c.from_residual.ensures.1 in
-    let t = c.in_err-customs.ensures.read in
-    rw (p.1, p.2) (ends-config (g.F.Files.held c.args.files.now) c.args.run.now.limits c.args.run.now.options (g.P.Patterns.last_refused c.args.patterns.now) t.0 t.1 (g.F.Files.gave c.args.files.now) (g.F.Files.gave c.customs_of.new.files) c.in_err-customs.field-0.0 t.2 t.3)
-
-pub returns-in_err-plan-clause-run : goal.returns-in_err-plan-clause-run
-returns-in_err-plan-clause-run g c =
-    let p = err_from_is_err_and c.from_residual-in_err-plan.result c.from_residual-in_err-plan.ensures.1 in
-    let t = c.in_ok-customs.ensures.read in
-    rw (p.1, p.2) (ends-plan (g.F.Files.held c.args.files.now) c.args.run.now.limits c.args.run.now.options (g.P.Patterns.last_refused c.plan_of.new.patterns) t.0 t.1 c.in_ok-customs.customs.items t.2 c.in_ok-customs.customs (g.F.Files.gave c.args.files.now) (g.F.Files.gave c.customs_of.new.files) c.in_err-plan.field-0.0
-    (rw c.deref.ensures.value at c.in_err-plan.ensures.ends) t.3)
-
-pub report_of_kind-requires-clause-planned : goal.report_of_kind-requires-clause-planned
-report_of_kind-requires-clause-planned g c =
-    let planned = rw c.deref.ensures.value at c.in_ok-plan.ensures.plan in
-    record { depth = sym (planned-count c.in_ok-customs.customs.items c.args.run.now.options.sources c.in_ok-plan.plan.sources planned.sources); filter = planned.filter }
-
-pub returns-clause-run : goal.returns-clause-run
-returns-clause-run g c =
-    let t = c.in_ok-customs.ensures.read in
-    let planned = rw c.deref.ensures.value at c.in_ok-plan.ensures.plan in
-    let e = rw c.customs_of.ensures.files.held at c.report_of_kind.ensures.found in
-    ends-finding (g.F.Files.held c.args.files.now) c.args.run.now.limits c.args.run.now.options (g.P.Patterns.last_refused c.plan_of.new.patterns) t.0 t.1 c.in_ok-customs.customs.items t.2 c.in_ok-plan.plan planned e.0 e.1.0 e.1.1
-    c.in_ok-customs.customs (g.F.Files.gave c.args.files.now) (g.F.Files.gave c.customs_of.new.files) (g.F.Files.gave c.report_of_kind.new.files) c.report_of_kind.result e.2 t.3 e.3
-
-pub returns-in_err-customs-clause-files : goal.returns-in_err-customs-clause-files
-returns-in_err-customs-clause-files g c =
-    let p = err_from_is_err_and c.from_residual.result c.from_residual.ensures.1 in
-    let o = c.args.run.now.options in
-    rw (p.1, p.2) (stops g.F.Files (config_reading c.args.run.now.limits o) (run_reading c.args.run.now.limits (Ok o)) (files_to_read o) c.in_err-customs.field-0.0 c.args.files.now c.customs_of.new.files refl
-    (config-run c.args.run.now.limits o) c.in_err-customs.ensures.files)
-
-pub returns-in_err-plan-clause-files : goal.returns-in_err-plan-clause-files
-returns-in_err-plan-clause-files g c =
-    let p = err_from_is_err_and c.from_residual-in_err-plan.result c.from_residual-in_err-plan.ensures.1 in
-    let o = c.args.run.now.options in
-    rw (p.1, p.2) (then-unread g.F.Files (config_reading c.args.run.now.limits o) (run_reading c.args.run.now.limits (Ok o)) (files_to_read o) c.in_ok-customs.customs (Err c.in_err-plan.field-0.0) c.args.files.now c.customs_of.new.files refl (omega arith) tt
-    (λ i e. rw (err-same _ _ e) at c.in_err-plan.ensures.ends) (λ i e. rw (err-same _ _ e) at c.in_err-plan.ensures.ends) c.in_ok-customs.ensures.files)
-
-pub returns-clause-files : goal.returns-clause-files
-returns-clause-files g c =
-    let o = c.args.run.now.options in
-    goes-on g.F.Files (config_reading c.args.run.now.limits o) (reading_for c.args.run.now.limits o (files_to_read o)) (run_reading c.args.run.now.limits (Ok o)) c.in_ok-customs.customs c.report_of_kind.result
-    c.args.files.now c.customs_of.new.files c.report_of_kind.new.files refl (files-run c.args.run.now.limits o (files_to_read o)) c.in_ok-customs.ensures.files c.report_of_kind.ensures.files
-
-pub returns-in_err-customs-clause-patterns : goal.returns-in_err-customs-clause-patterns
-returns-in_err-customs-clause-patterns g c =
-    let p = err_from_is_err_and c.from_residual.result c.from_residual.ensures.1 in
-    let t = c.in_err-customs.ensures.read in
     let limits = c.args.run.now.limits in
     let o = c.args.run.now.options in
     let s = c.args.patterns.now in
     let end = c.in_err-customs.field-0.0 in
-    rw (p.1, p.2) (asked-any g.P.Patterns (seen_files g.F.Files c.args.files.now c.customs_of.new.files) limits (Ok o) (Err end) s s t.3.given t.3.are
-    (λ b. unbuilt g.P.Patterns b (Err end) s (config-never-past limits o.config t.0 end t.2)
-    (λ i e. config-never-bad limits o.config t.0 i (rw (err-same _ _ e) at t.2)) (λ i e. config-never-big limits o.config t.0 i (rw (err-same _ _ e) at t.2))))
+    let t = c.in_err-customs.ensures.read in
+    let e = ends-config (g.F.Files.held c.args.files.now) limits o (g.P.Patterns.last_refused s) t.0 t.1 (g.F.Files.gave c.args.files.now) (g.F.Files.gave c.customs_of.new.files) end t.2 t.3 in
+    rw (p.1, p.2) (record {
+      contents = e.0;
+      are = e.1;
+      ends = e.2;
+      gives = e.3;
+      files = stops g.F.Files (config_reading limits o) (run_reading limits (Ok o)) (files_to_read o) end c.args.files.now c.customs_of.new.files refl (config-run limits o) c.in_err-customs.ensures.files;
+      patterns = asked-any g.P.Patterns (seen_files g.F.Files c.args.files.now c.customs_of.new.files) limits (Ok o) (Err end) s s t.3.given t.3.are
+          (λ b. unbuilt g.P.Patterns b (Err end) s (config-never-past limits o.config t.0 end t.2)
+          (λ i is. config-never-bad limits o.config t.0 i (rw (err-same _ _ is) at t.2)) (λ i is. config-never-big limits o.config t.0 i (rw (err-same _ _ is) at t.2)));
+    })
 
-pub returns-in_err-plan-clause-patterns : goal.returns-in_err-plan-clause-patterns
-returns-in_err-plan-clause-patterns g c =
+pub returns-in_err-plan-clause-text : goal.returns-in_err-plan-clause-text
+returns-in_err-plan-clause-text g c =
     let p = err_from_is_err_and c.from_residual-in_err-plan.result c.from_residual-in_err-plan.ensures.1 in
-    let t = c.in_ok-customs.ensures.read in
-    let o = c.args.run.now.options in
-    let builds = rw c.deref.ensures.value at c.in_err-plan.ensures.patterns in
-    let read = gives-then c.in_ok-customs.customs (Ok c.in_ok-customs.customs) _ _ _ [] refl t.3 in
-    rw (p.1, p.2) (asked-plan g.P.Patterns (seen_files g.F.Files c.args.files.now c.customs_of.new.files) c.args.run.now.limits o t.0 [] (Err c.in_err-plan.field-0.0) c.args.patterns.now c.plan_of.new.patterns c.in_ok-customs.customs.items
-    (given-all c.in_ok-customs.customs _ _ _ read) t.2
-    (build-stops g.P.Patterns _ c.in_err-plan.field-0.0 c.args.patterns.now c.plan_of.new.patterns builds))
-
-pub returns-clause-patterns : goal.returns-clause-patterns
-returns-clause-patterns g c =
-    let t = c.in_ok-customs.ensures.read in
     let limits = c.args.run.now.limits in
     let o = c.args.run.now.options in
-    let found = c.report_of_kind.ensures.found in
+    let end = c.in_err-plan.field-0.0 in
+    let t = c.in_ok-customs.ensures.read in
+    let customs = c.in_ok-customs.customs in
+    let ended = rw c.deref.ensures.value at c.in_err-plan.ensures.ends in
+    let builds = rw c.deref.ensures.value at c.in_err-plan.ensures.patterns in
+    let read = gives-then customs (Ok customs) _ _ _ [] refl t.3 in
+    let e = ends-plan (g.F.Files.held c.args.files.now) limits o (g.P.Patterns.last_refused c.plan_of.new.patterns) t.0 t.1 customs.items t.2 customs (g.F.Files.gave c.args.files.now) (g.F.Files.gave c.customs_of.new.files) end ended t.3 in
+    rw (p.1, p.2) (record {
+      contents = e.0;
+      are = e.1;
+      ends = e.2;
+      gives = e.3;
+      files = then-unread g.F.Files (config_reading limits o) (run_reading limits (Ok o)) (files_to_read o) customs (Err end) c.args.files.now c.customs_of.new.files refl (omega arith) tt
+          (λ i is. rw (err-same _ _ is) at c.in_err-plan.ensures.ends) (λ i is. rw (err-same _ _ is) at c.in_err-plan.ensures.ends) c.in_ok-customs.ensures.files;
+      patterns = asked-plan g.P.Patterns (seen_files g.F.Files c.args.files.now c.customs_of.new.files) limits o t.0 [] (Err end) c.args.patterns.now c.plan_of.new.patterns customs.items
+          (given-all customs _ _ _ read) t.2 (build-stops g.P.Patterns _ end c.args.patterns.now c.plan_of.new.patterns builds);
+    })
+
+pub report_of_kind-requires-clause-ready : goal.report_of_kind-requires-clause-ready
+report_of_kind-requires-clause-ready g c =
+    let planned = rw c.deref.ensures.value at c.in_ok-plan.ensures.plan in
+    record {
+      limits = c.requires.limits;
+      planned = record { depth = sym (planned-count c.in_ok-customs.customs.items c.args.run.now.options.sources c.in_ok-plan.plan.sources planned.sources); filter = planned.filter };
+    }
+
+pub returns-clause-text : goal.returns-clause-text
+returns-clause-text g c =
+    let limits = c.args.run.now.limits in
+    let o = c.args.run.now.options in
+    let t = c.in_ok-customs.ensures.read in
+    let customs = c.in_ok-customs.customs in
+    let planned = rw c.deref.ensures.value at c.in_ok-plan.ensures.plan in
     let builds = rw c.deref.ensures.value at c.in_ok-plan.ensures.patterns in
-    let read = given-all c.in_ok-customs.customs _ _ _ t.3 in
-    let all = found.3.are ∙ (ap (λ ps. ps ++ found.3.given) read ∙ append_assoc (g.F.Files.gave c.args.files.now) (config_pairs o.config t.0) found.3.given) in
-    asked-plan g.P.Patterns (seen_files g.F.Files c.args.files.now c.report_of_kind.new.files) limits o t.0 found.3.given c.report_of_kind.result c.args.patterns.now c.plan_of.new.patterns c.in_ok-customs.customs.items all t.2
-    (built g.P.Patterns _ c.in_ok-plan.plan c.report_of_kind.result c.args.patterns.now c.plan_of.new.patterns
-    (λ i e. never-bad limits c.in_ok-plan.plan.sources found.0 o i (rw e at found.2)) (λ i e. never-big limits c.in_ok-plan.plan.sources found.0 o i (rw e at found.2)) builds)
+    let found = c.report_of_kind.ensures.report in
+    let are = rw c.customs_of.ensures.files.held at found.are in
+    let read = given-all customs _ _ _ t.3 in
+    let all = found.gives.are ∙ (ap (λ ps. ps ++ found.gives.given) read ∙ append_assoc (g.F.Files.gave c.args.files.now) (config_pairs o.config t.0) found.gives.given) in
+    let e = ends-finding (g.F.Files.held c.args.files.now) limits o (g.P.Patterns.last_refused c.plan_of.new.patterns) t.0 t.1 customs.items t.2 c.in_ok-plan.plan planned found.bytes are.0 are.1
+    customs (g.F.Files.gave c.args.files.now) (g.F.Files.gave c.customs_of.new.files) (g.F.Files.gave c.report_of_kind.new.files) c.report_of_kind.result found.ends t.3 found.gives in
+    record {
+      contents = e.0;
+      are = e.1;
+      ends = e.2;
+      gives = e.3;
+      files = goes-on g.F.Files (config_reading limits o) (reading_for limits o (files_to_read o)) (run_reading limits (Ok o)) customs c.report_of_kind.result
+          c.args.files.now c.customs_of.new.files c.report_of_kind.new.files refl (files-run limits o (files_to_read o)) c.in_ok-customs.ensures.files found.reads;
+      patterns = asked-plan g.P.Patterns (seen_files g.F.Files c.args.files.now c.report_of_kind.new.files) limits o t.0 found.gives.given c.report_of_kind.result c.args.patterns.now c.plan_of.new.patterns customs.items all t.2
+          (built g.P.Patterns _ c.in_ok-plan.plan c.report_of_kind.result c.args.patterns.now c.plan_of.new.patterns
+          (λ i is. never-bad limits c.in_ok-plan.plan.sources found.bytes o i (rw is at found.ends)) (λ i is. never-big limits c.in_ok-plan.plan.sources found.bytes o i (rw is at found.ends)) builds);
+    }
 
 pub returns-in_err-customs-clause-cost : goal.returns-in_err-customs-clause-cost
 returns-in_err-customs-clause-cost g c = costs-ended _ _ _ _ _ c.args.tally.now.steps c.in_err-customs.ensures.read.3

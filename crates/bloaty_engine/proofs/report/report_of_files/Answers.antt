@@ -1,5 +1,6 @@
 -- The files and the base files are counted one after the other, and then there is their report.
-use Rattle.std.proofs.Common.{◌≡◌, ◌+◌, ◌-◌, ◌<◌, ◌++◌, [], length, Err, refl, sym, ap, ◌∙◌, arith}
+use Rattle.std.proofs.Common.{◌≡◌, ◌+◌, ◌-◌, ◌<◌, ◌++◌, [], length, Err, refl, sym, ap, ◌∙◌, arith, rules}
+use Rattle.std.proofs.lemmas.Grind.{common_steps}
 use Rattle.std.proofs.lemmas.Result.{err_from_is_err_and}
 use Rattle.run_outcome.specs.Names.{file_names}
 use Rattle.bloaty_engine.specs.Given.{pairs_from}
@@ -13,85 +14,113 @@ use Rattle.bloaty_engine.proofs.StepLemmas.{base-part, follows, same-run, stops,
 use Rattle.bloaty_engine.proofs.CostLemmas.{costs-bases, costs-none}
 use Rattle.bloaty_engine.proofs.report.report_of_files.Goals as goal
 
-pub returns-in_err-total-clause-counted : goal.returns-in_err-total-clause-counted
-returns-in_err-total-clause-counted g c =
+pub total_of-requires-clause-batch : goal.total_of-requires-clause-batch
+total_of-requires-clause-batch g c = record {
+  few = omega (arith, c.requires.ready.limits.few_sources, c.requires.ready.planned.depth);
+  numbers = first_of (search rules, grind (arith, common_steps));
+  room = omega arith;
+}
+
+pub growth_report-requires-clause-batch : goal.growth_report-requires-clause-batch
+growth_report-requires-clause-batch g c =
+    let tally = c.in_ok-total.ensures.tally in
+    let files : c.total_of.new.tally.files ≡ length (file_names c.args.run.now.options) = omega (arith, tally.counts.0) in
+    record {
+      few = omega (arith, c.requires.ready.limits.few_sources, c.requires.ready.planned.depth);
+      numbers = first_of (search rules, grind (arith, common_steps));
+      room = tally.room;
+    }
+
+pub returns-then-is_none-clause-inputs : goal.returns-then-is_none-clause-inputs
+returns-then-is_none-clause-inputs g c =
+    let o = c.args.run.now.options in
+    let some = some-bytes (g.F.Files.held c.args.files.now) o o.bases in
+    record {
+      bytes = some.0;
+      are = (some.1, some.2);
+      ends = tt;
+      gives = gives-none _ _ _ tt;
+      reads = unread-no-memory g.F.Files (reading_for c.args.run.now.limits o (unmade_names o.synth o.files ++ o.bases)) c.args.files.now;
+    }
+
+pub returns-in_err-total-clause-inputs : goal.returns-in_err-total-clause-inputs
+returns-in_err-total-clause-inputs g c =
     let p = err_from_is_err_and c.from_residual.result c.from_residual.ensures.1 in
-    let o = c.args.run.now.options in
-    let count = length (file_names o) in
-    let e = c.in_err-total.ensures.counted in
-    let behind = some-held (g.F.Files.held c.args.files.now) (count + 1) o.bases in
-    rw (p.1, p.2) (
-      beyond count e.0 behind.0,
-      (front-files (g.F.Files.held c.args.files.now) o.synth o.files e.0 behind.0 e.1, behind-held (g.F.Files.held c.args.files.now) count o.bases e.0 behind.0 behind.1),
-      front-ends c.args.run.now.limits c.args.plan.now.sources o c.args.plan.now.filter c.requires.planned.filter c.requires.planned.depth e.0 behind.0 c.in_err-total.field-0.0 (λ k is. c.in_err-total.ensures.unmade k (ap Err is)) e.2,
-      rw (front-pairs o.synth o.files e.0 behind.0) (gives-stops _ _ _ _ _ e.3),
-    )
-
-pub returns-then-is_none-clause-counted : goal.returns-then-is_none-clause-counted
-returns-then-is_none-clause-counted g c =
-    let some = some-bytes (g.F.Files.held c.args.files.now) c.args.run.now.options c.args.run.now.options.bases in
-    (some.0, (some.1, some.2), tt, gives-none _ _ _ tt)
-
-pub returns-then-len-eq0-clause-counted : goal.returns-then-len-eq0-clause-counted
-returns-then-len-eq0-clause-counted g c =
-    let o = c.args.run.now.options in
-    let count = length (file_names o) in
-    let e = c.in_ok-total.ensures.counted in
-    let behind = some-held (g.F.Files.held c.args.files.now) (count + 1) o.bases in
-    let none : o.bases ≡ [] = no-names o.bases (sym c.len.ensures ∙ c.if-len-eq0.true) in (
-      beyond count e.0 behind.0,
-      (front-files (g.F.Files.held c.args.files.now) o.synth o.files e.0 behind.0 e.1, behind-held (g.F.Files.held c.args.files.now) count o.bases e.0 behind.0 behind.1),
-      sizes-end c.args.run.now.limits c.args.plan.now.sources o c.args.plan.now.filter c.requires.planned.filter c.requires.planned.depth e.0 behind.0 c.in_ok-total.total c.in_ok-report_of.field-0 none e.2 (rw (← c.total.view_is) c.total.invariant)
-          c.in_ok-report_of.ensures,
-      rw (front-pairs o.synth o.files e.0 behind.0) (gives-then c.in_ok-total.total _ _ _ _ _ (ap (λ ns. pairs_from (count + 1) ns (beyond count e.0 behind.0)) none) e.3),
-    )
-
-pub returns-clause-counted : goal.returns-clause-counted
-returns-clause-counted g c =
-    let o = c.args.run.now.options in
-    let count = length (file_names o) in
-    let e = c.in_ok-total.ensures.counted in
-    let b = rw (c.total_of.ensures.files.held, c.in_ok-total.ensures.tally.0, c.in_ok-total.ensures.tally.1) at c.growth_report.ensures.counted in
-    let some : 0 < length o.bases = omega (arith, c.len.ensures, c.if-len-eq0.false) in (
-      beyond count e.0 b.0,
-      (front-files (g.F.Files.held c.args.files.now) o.synth o.files e.0 b.0 e.1, behind-held (g.F.Files.held c.args.files.now) count o.bases e.0 b.0 b.1),
-      growth-ends c.args.run.now.limits c.args.plan.now.sources o c.args.plan.now.filter c.requires.planned.filter c.requires.planned.depth e.0 b.0 c.in_ok-total.total some e.2 c.growth_report.result b.2,
-      rw (front-pairs o.synth o.files e.0 b.0, behind-pairs count o.bases e.0 b.0) (gives-behind _ _ _ _ _ _ (given-all c.in_ok-total.total _ _ _ e.3) b.3),
-    )
-
-pub returns-then-is_none-clause-files : goal.returns-then-is_none-clause-files
-returns-then-is_none-clause-files g c =
-    let o = c.args.run.now.options in
-    unread-no-memory g.F.Files (reading_for c.args.run.now.limits o (unmade_names o.synth o.files ++ o.bases)) c.args.files.now
-
-pub returns-in_err-total-clause-files : goal.returns-in_err-total-clause-files
-returns-in_err-total-clause-files g c =
-    let p = err_from_is_err_and c.from_residual.result c.from_residual.ensures.1 in
-    let o = c.args.run.now.options in
-    rw (p.1, p.2) (stops g.F.Files (reading_for c.args.run.now.limits o (unmade_names o.synth o.files)) (reading_for c.args.run.now.limits o (unmade_names o.synth o.files ++ o.bases)) o.bases c.in_err-total.field-0.0 c.args.files.now c.total_of.new.files refl
-    (same-run c.args.run.now.limits o (unmade_names o.synth o.files) (unmade_names o.synth o.files ++ o.bases)) c.in_err-total.ensures.files)
-
-pub returns-in_err-report_of-clause-files : goal.returns-in_err-report_of-clause-files
-returns-in_err-report_of-clause-files g c =
-    let p = err_from_is_err_and c.from_residual-in_err-report_of.result c.from_residual-in_err-report_of.ensures.1 in
-    let o = c.args.run.now.options in
-    rw (p.1, p.2) (then-no-memory g.F.Files (reading_for c.args.run.now.limits o (unmade_names o.synth o.files)) (reading_for c.args.run.now.limits o (unmade_names o.synth o.files ++ o.bases)) o.bases c.in_ok-total.total c.args.files.now c.total_of.new.files refl (omega arith) c.in_ok-total.ensures.files)
-
-pub returns-then-len-eq0-clause-files : goal.returns-then-len-eq0-clause-files
-returns-then-len-eq0-clause-files g c =
-    let o = c.args.run.now.options in
-    let none : o.bases ≡ [] = no-names o.bases (sym c.len.ensures ∙ c.if-len-eq0.true) in
-    then-ok g.F.Files (reading_for c.args.run.now.limits o (unmade_names o.synth o.files)) (reading_for c.args.run.now.limits o (unmade_names o.synth o.files ++ o.bases)) o.bases c.in_ok-total.total c.in_ok-report_of.field-0 c.args.files.now c.total_of.new.files refl (omega arith) none
-    c.in_ok-total.ensures.files
-
-pub returns-clause-files : goal.returns-clause-files
-returns-clause-files g c =
     let o = c.args.run.now.options in
     let limits = c.args.run.now.limits in
-    let base = rw (c.in_ok-total.ensures.tally.0) at c.growth_report.ensures.files in
-    follows g.F.Files (reading_for limits o (unmade_names o.synth o.files)) (batch_reading limits (batch_of (length (file_names o)) c.total_of.new.tally.bytes o.bases)) (reading_for limits o (unmade_names o.synth o.files ++ o.bases))
-    c.in_ok-total.total c.growth_report.result (c.total_of.new.tally.bytes - made_len o.synth) c.args.files.now c.total_of.new.files c.growth_report.new.files refl
-    (base-part limits o c.total_of.new.tally.bytes (unmade_names o.synth o.files ++ o.bases) c.requires.no_debug c.in_ok-total.ensures.tally.2 c.total_of.ensures.room) c.in_ok-total.ensures.files c.in_ok-total.ensures.taken base
+    let planned = c.requires.ready.planned in
+    let held = g.F.Files.held c.args.files.now in
+    let count = length (file_names o) in
+    let e = c.in_err-total.ensures.files in
+    let behind = some-held held (count + 1) o.bases in
+    rw (p.1, p.2) (record {
+      bytes = beyond count e.bytes behind.0;
+      are = (front-files held o.synth o.files e.bytes behind.0 e.are, behind-held held count o.bases e.bytes behind.0 behind.1);
+      ends = front-ends limits c.args.plan.now.sources o c.args.plan.now.filter planned.filter planned.depth e.bytes behind.0 c.in_err-total.field-0.0 (λ k is. e.unmade k (ap Err is)) e.ends;
+      gives = rw (front-pairs o.synth o.files e.bytes behind.0) (gives-stops _ _ _ _ _ e.gives);
+      reads = stops g.F.Files (reading_for limits o (unmade_names o.synth o.files)) (reading_for limits o (unmade_names o.synth o.files ++ o.bases)) o.bases c.in_err-total.field-0.0 c.args.files.now c.total_of.new.files refl
+          (same-run limits o (unmade_names o.synth o.files) (unmade_names o.synth o.files ++ o.bases)) e.reads;
+    })
+
+pub returns-in_err-report_of-clause-inputs : goal.returns-in_err-report_of-clause-inputs
+returns-in_err-report_of-clause-inputs g c =
+    let p = err_from_is_err_and c.from_residual-in_err-report_of.result c.from_residual-in_err-report_of.ensures.1 in
+    let o = c.args.run.now.options in
+    let limits = c.args.run.now.limits in
+    let held = g.F.Files.held c.args.files.now in
+    let count = length (file_names o) in
+    let e = c.in_ok-total.ensures.files in
+    let behind = some-held held (count + 1) o.bases in
+    rw (p.1, p.2) (record {
+      bytes = beyond count e.bytes behind.0;
+      are = (front-files held o.synth o.files e.bytes behind.0 e.are, behind-held held count o.bases e.bytes behind.0 behind.1);
+      ends = tt;
+      gives = rw (front-pairs o.synth o.files e.bytes behind.0) (gives-then c.in_ok-total.total _ _ _ _ _ tt e.gives);
+      reads = then-no-memory g.F.Files (reading_for limits o (unmade_names o.synth o.files)) (reading_for limits o (unmade_names o.synth o.files ++ o.bases)) o.bases c.in_ok-total.total c.args.files.now c.total_of.new.files refl (omega arith) e.reads;
+    })
+
+pub returns-then-len-eq0-clause-inputs : goal.returns-then-len-eq0-clause-inputs
+returns-then-len-eq0-clause-inputs g c =
+    let o = c.args.run.now.options in
+    let limits = c.args.run.now.limits in
+    let planned = c.requires.ready.planned in
+    let held = g.F.Files.held c.args.files.now in
+    let count = length (file_names o) in
+    let e = c.in_ok-total.ensures.files in
+    let behind = some-held held (count + 1) o.bases in
+    let none : o.bases ≡ [] = no-names o.bases (sym c.len.ensures ∙ c.if-len-eq0.true) in
+    record {
+      bytes = beyond count e.bytes behind.0;
+      are = (front-files held o.synth o.files e.bytes behind.0 e.are, behind-held held count o.bases e.bytes behind.0 behind.1);
+      ends = sizes-end limits c.args.plan.now.sources o c.args.plan.now.filter planned.filter planned.depth e.bytes behind.0 c.in_ok-total.total c.in_ok-report_of.field-0 none e.ends (rw (← c.total.view_is) c.total.invariant) c.in_ok-report_of.ensures;
+      gives = rw (front-pairs o.synth o.files e.bytes behind.0) (gives-then c.in_ok-total.total _ _ _ _ _ (ap (λ ns. pairs_from (count + 1) ns (beyond count e.bytes behind.0)) none) e.gives);
+      reads = then-ok g.F.Files (reading_for limits o (unmade_names o.synth o.files)) (reading_for limits o (unmade_names o.synth o.files ++ o.bases)) o.bases c.in_ok-total.total c.in_ok-report_of.field-0 c.args.files.now c.total_of.new.files refl (omega arith) none e.reads;
+    }
+
+pub returns-clause-inputs : goal.returns-clause-inputs
+returns-clause-inputs g c =
+    let o = c.args.run.now.options in
+    let limits = c.args.run.now.limits in
+    let planned = c.requires.ready.planned in
+    let held = g.F.Files.held c.args.files.now in
+    let count = length (file_names o) in
+    let e = c.in_ok-total.ensures.files in
+    let tally = c.in_ok-total.ensures.tally in
+    let files : c.total_of.new.tally.files ≡ count = omega (arith, tally.counts.0) in
+    let lengths : c.total_of.new.tally.bytes ≡ c.in_ok-total.total.lengths = omega (arith, tally.counts.1) in
+    let b = rw (files, lengths) at c.growth_report.ensures.batch in
+    let are = rw c.total_of.ensures.files.reads.held at b.are in
+    let some : 0 < length o.bases = omega (arith, c.len.ensures, c.if-len-eq0.false) in
+    let behind = rw files at c.growth_report.ensures.batch.reads in
+    record {
+      bytes = beyond count e.bytes b.bytes;
+      are = (front-files held o.synth o.files e.bytes b.bytes e.are, behind-held held count o.bases e.bytes b.bytes are);
+      ends = growth-ends limits c.args.plan.now.sources o c.args.plan.now.filter planned.filter planned.depth e.bytes b.bytes c.in_ok-total.total some e.ends c.growth_report.result b.ends;
+      gives = rw (front-pairs o.synth o.files e.bytes b.bytes, behind-pairs count o.bases e.bytes b.bytes) (gives-behind _ _ _ _ _ _ (given-all c.in_ok-total.total _ _ _ e.gives) b.gives);
+      reads = follows g.F.Files (reading_for limits o (unmade_names o.synth o.files)) (batch_reading limits (batch_of count c.total_of.new.tally.bytes o.bases)) (reading_for limits o (unmade_names o.synth o.files ++ o.bases))
+          c.in_ok-total.total c.growth_report.result (c.total_of.new.tally.bytes - made_len o.synth) c.args.files.now c.total_of.new.files c.growth_report.new.files refl
+          (base-part limits o c.total_of.new.tally.bytes (unmade_names o.synth o.files ++ o.bases) c.requires.no_debug (omega (arith, tally.counts.1, tally.counts.2)) tally.room) e.reads (rw lengths tally.taken) behind;
+    }
 
 pub returns-then-is_none-clause-cost : goal.returns-then-is_none-clause-cost
 returns-then-is_none-clause-cost g c = costs-none _ (g.F.Files.gave c.args.files.now) c.args.tally.now.steps

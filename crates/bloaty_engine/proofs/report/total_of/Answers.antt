@@ -1,35 +1,68 @@
 -- The files are those that are read, or the synthetic one.
-use Rattle.std.proofs.Common.{[], refl, ap}
+use Rattle.std.proofs.Common.{◌≡◌, ℕ, ◌-◌, [], length, Option, refl, ap, arith}
 use Rattle.elf_synth.specs.Made.{made}
+use Rattle.outside.specs.Held.{IsTaken, Pairs}
+use Rattle.run_outcome.specs.Names.{file_names, names_of}
 use Rattle.bloaty_engine.specs.Reading.{reading_for, unmade_names}
 use Rattle.bloaty_engine.specs.Steps.{batch_of, batch_reading}
 use Rattle.bloaty_engine.proofs.GivenLemmas.{gives-none}
-use Rattle.bloaty_engine.proofs.ReadLemmas.{OnOk-any, none-name}
+use Rattle.bloaty_engine.proofs.ReadLemmas.{IfOk-then, OnOk-any, none-name}
 use Rattle.bloaty_engine.proofs.StepLemmas.{files-part, made-unread, reads-as}
+use Rattle.bloaty_engine.proofs.TakenLemmas.{taken-none}
 use Rattle.bloaty_engine.proofs.CostLemmas.{costs-counted, costs-made}
 use Rattle.bloaty_engine.proofs.report.total_of.Goals as goal
 
-pub returns-in-Some-clause-counted : goal.returns-in-Some-clause-counted
-returns-in-Some-clause-counted g c = rw c.in-Some.is ((λ i. made c.in-Some.n), refl, c.count_made.ensures.counted, gives-none _ _ [] (OnOk-any _ _ refl))
+-- All bytes of the total are synthetic.
+unread : (lengths made : ℕ) (held : Option Pairs) (taken : ℕ) → lengths ≡ made → IsTaken held (lengths - made) taken taken
+unread lengths made held taken is =
+    let none : lengths - made ≡ 0 = omega (arith, is) in
+    rw none (taken-none held taken)
 
-pub returns-in-None-clause-counted : goal.returns-in-None-clause-counted
-returns-in-None-clause-counted g c = rw c.in-None.is (rw (c.requires.none.0, c.requires.none.1) at c.count_files.ensures.counted)
-
-pub returns-in-Some-clause-unmade : goal.returns-in-Some-clause-unmade
-returns-in-Some-clause-unmade g c = λ k e. absurd (c.count_made.ensures.unread _ e)
-
-pub returns-in-None-clause-unmade : goal.returns-in-None-clause-unmade
-returns-in-None-clause-unmade g c = rw c.in-None.is (λ k e. tt)
+pub count_files-requires : goal.count_files-requires
+count_files-requires g c =
+    let o = c.args.run.now.options in
+    let names : length (file_names o) ≡ length o.files = ap (λ s. length (names_of s o.files)) c.in-None.is in
+    record {
+      few = c.requires.batch.few;
+      numbers = omega (arith, c.requires.batch.numbers, names, c.requires.none.0);
+      room = omega (arith, c.requires.none.1);
+    }
 
 pub returns-in-Some-clause-files : goal.returns-in-Some-clause-files
-returns-in-Some-clause-files g c = made-unread g.F.Files c.args.run.now.limits c.args.run.now.options c.in-Some.n c.in-Some.is c.count_made.result c.args.files.now c.count_made.ensures.unread c.count_made.ensures.long
+returns-in-Some-clause-files g c = record {
+  bytes = λ i. made c.in-Some.n;
+  are = rw c.in-Some.is refl;
+  ends = rw c.in-Some.is c.count_made.ensures.made.ends;
+  gives = rw c.in-Some.is (gives-none _ _ [] (OnOk-any _ _ refl));
+  unmade = λ k e. absurd (c.count_made.ensures.made.unread _ e);
+  reads = made-unread g.F.Files c.args.run.now.limits c.args.run.now.options c.in-Some.n c.in-Some.is c.count_made.result c.args.files.now c.count_made.ensures.made.unread c.count_made.ensures.made.long;
+}
 
 pub returns-in-None-clause-files : goal.returns-in-None-clause-files
 returns-in-None-clause-files g c =
     let o = c.args.run.now.options in
-    let files = rw (c.requires.none.0, c.requires.none.1) at c.count_files.ensures.files in
-    reads-as g.F.Files (batch_reading c.args.run.now.limits (batch_of 0 0 o.files)) (reading_for c.args.run.now.limits o (unmade_names o.synth o.files)) c.count_files.result c.args.files.now c.count_files.new.files
-    (ap (λ s. unmade_names s o.files) c.in-None.is) (files-part c.args.run.now.limits o o.files (unmade_names o.synth o.files) c.in-None.is (λ k n at. none-name o k n c.in-None.is at)) files
+    let batch = rw (c.requires.none.0, c.requires.none.1) at c.count_files.ensures.batch in
+    record {
+      bytes = batch.bytes;
+      are = rw c.in-None.is batch.are;
+      ends = rw c.in-None.is batch.ends;
+      gives = rw c.in-None.is batch.gives;
+      unmade = rw c.in-None.is (λ k e. tt);
+      reads = reads-as g.F.Files (batch_reading c.args.run.now.limits (batch_of 0 0 o.files)) (reading_for c.args.run.now.limits o (unmade_names o.synth o.files)) c.count_files.result c.args.files.now c.count_files.new.files
+          (ap (λ s. unmade_names s o.files) c.in-None.is) (files-part c.args.run.now.limits o o.files (unmade_names o.synth o.files) c.in-None.is (λ k n at. none-name o k n c.in-None.is at)) batch.reads;
+    }
+
+pub returns-in-Some-clause-tally : goal.returns-in-Some-clause-tally
+returns-in-Some-clause-tally g c =
+    let all = c.count_made.ensures.tally in
+    rw c.in-Some.is (record {
+      counts = IfOk-then c.count_made.result _ _ all (λ t h. (omega (arith, h.0), omega (arith, h.1), omega (arith, h.2)));
+      room = c.count_made.ensures.room;
+      taken = IfOk-then c.count_made.result _ _ all (λ t h. unread t.lengths (length (made c.in-Some.n)) (g.F.Files.held c.args.files.now) (g.F.Files.taken c.args.files.now) h.2);
+    })
+
+pub returns-in-None-clause-tally : goal.returns-in-None-clause-tally
+returns-in-None-clause-tally g c = rw c.in-None.is (rw (c.requires.none.0, c.requires.none.1) at c.count_files.ensures.tally)
 
 pub returns-in-Some-clause-cost : goal.returns-in-Some-clause-cost
 returns-in-Some-clause-cost g c =

@@ -9,7 +9,7 @@ loop-cursor-preserved c =
     let inv = c.loop-cursor.invariant in
     let n = c.min-len.result in
     record {
-      paints = paint_step c.args.labels.now c.args.layer.now c.args.carried.now s c.args.out.now.items c.loop-cursor.out.items _ cur c.advance-cursor.result c.run-run.result n _ inv.paints inv.low c.loop-cursor-test.true inv.source c.requires.small c.run-run.ensures (omega (arith, c.min-len.ensures)) c.in_ok-push.ensures.items refl refl refl c.advance-cursor.ensures.target;
+      paints = paint_step c.args.labels.now c.args.layer.now c.args.carried.now s c.args.out.now.items c.loop-cursor.out.items _ cur c.advance-cursor.result c.run-run.result n _ inv.paints inv.low c.loop-cursor-test.true inv.source c.requires.small c.run-run.ensures (omega (arith, c.min-len.ensures)) c.in_ok-emit.ensures.laid c.in_ok-emit.ensures.ends refl refl refl c.advance-cursor.ensures.target;
       at = c.advance-cursor.ensures.at;
       low = omega (arith, c.advance-cursor.ensures.target, inv.low);
       high = omega (arith, c.advance-cursor.ensures.target, c.loop-cursor-test.true, c.min-len.ensures);

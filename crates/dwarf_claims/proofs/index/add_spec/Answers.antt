@@ -8,4 +8,4 @@ pub returns-then-contains-clause-roots : goal.returns-then-contains-clause-roots
 returns-then-contains-clause-roots c =
     let again : list_any (λ m. nat_eq m c.args.spec.attribute) c.args.needed.now.bare.items ≡ true =
     ap (list_any (λ m. nat_eq m c.args.spec.attribute)) (sym c.deref.ensures.value) ∙ sym c.contains.ensures.value ∙ c.if-contains.true in
-    skipped_again c.args.spec c.args.needed.now.specs.items c.args.needed.now.bare.items (c.has_bytes.ensures c.if-has_bytes.false) c.requires again
+    skipped_again c.args.spec c.args.needed.now.specs.items c.args.needed.now.bare.items (c.has_bytes.ensures.none c.if-has_bytes.false) c.requires again

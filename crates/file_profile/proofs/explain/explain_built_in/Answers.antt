@@ -3,6 +3,7 @@ use Rattle.std.proofs.Common.{◌≡◌, ap, ◌∙◌, arith}
 use Rattle.std.proofs.lemmas.Result.{err_from_is_err_and}
 use Rattle.size_model.specs.Numbered.{numbered_view}
 use Rattle.data_sources.specs.Views.{unmapped}
+use Rattle.dual_map.specs.Layout.{Layout}
 use Rattle.file_profile.proofs.ClaimLemmas.{out-of-memory}
 use Rattle.file_profile.proofs.NumberLemmas.{plain-made}
 use Rattle.file_profile.proofs.PlaceLemmas.{explained-is}
@@ -29,7 +30,7 @@ returns c =
       are = is.are;
       shown = record {
         count = omega (arith, c.len-claims.ensures, made.claims.ok, is.shown.count);
-        explained = explained-is c.args.subject.now.binary c.args.request.now.place c.args.request.now.shown c.len.result c.base.result.now (numbered_view pool c.deref.result.now made.unmapped) _ c.in_ok-explained.explained
-            c.len.ensures c.base.ensures (ap (λ cs. numbered_view pool cs made.unmapped) claims ∙ (is.shown.view ∙ plain-made is.made unmapped)) c.in_ok-explained.ensures;
+        explained = explained-is c.args.subject.now.binary c.args.request.now.place c.args.request.now.shown c.base.result.now.len c.base.result.now (numbered_view pool c.deref.result.now made.unmapped) _ c.in_ok-explained.explained
+            (ap (λ (l : Layout). l.len) c.base.ensures) c.base.ensures (ap (λ cs. numbered_view pool cs made.unmapped) claims ∙ (is.shown.view ∙ plain-made is.made unmapped)) c.in_ok-explained.ensures;
       };
     }

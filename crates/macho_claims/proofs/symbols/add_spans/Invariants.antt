@@ -1,12 +1,16 @@
 use Rattle.std.proofs.Common.{◌≡◌, drop, map}
 use Rattle.std.specs.List.{flat_map}
-use Rattle.macho_file.specs.Shown.{span_shown}
+use Rattle.macho_file.specs.Shown.{named_shown}
 use Rattle.claim_sheet.specs.Sheets.{adding}
+use Rattle.long_names.specs.Names.{AreKnownNames, AreNames}
 use Rattle.macho_claims.specs.SymbolClaims.{span_claim}
 use Rattle.macho_claims.proofs.symbols.add_spans.Given as goal
 
 abbrev pub invariant-loop-symbol : goal.invariant-loop-symbol
 invariant-loop-symbol l = record {
-  rest : adding l.sheet (flat_map span_claim (drop l.symbol-index (map span_shown l.spans))) ≡ adding l.initial.sheet (flat_map span_claim (map span_shown l.spans));
+  rest : adding l.sheet (flat_map span_claim (drop l.symbol-index (map named_shown l.spans))) ≡ adding l.initial.sheet (flat_map span_claim (map named_shown l.spans));
   kept : l.sheet.pool ≡ l.initial.sheet.pool;
+  file : l.names.file ≡ l.initial.names.file;
+  names : AreNames l.names;
+  known : AreKnownNames l.sheet.made l.names;
 }

@@ -15,37 +15,37 @@ use Rattle.report_rows.proofs.listing.+list.Goals as goal
 abbrev any : Group
 any = record { key = record { 0 = 0 }; from = 0; to = 0; kind = Label; vm = 0; file = 0 }
 
-pub returns-then-level-depth : goal.returns-then-level-depth
-returns-then-level-depth t c =
-    rows-none (entries_of c.args.options.now) (λ (e : Entry). e.below) row_of c.args.depth c.args.level (table_at c.args.level (seen c.args.rows.now)) c.args.out.now (omega arith)
+pub returns-then-level-levels : goal.returns-then-level-levels
+returns-then-level-levels t c =
+    rows-none (entries_of c.args.levels.options) (λ (e : Entry). e.below) row_of c.args.levels.depth c.args.level (table_at c.args.level (seen c.args.rows.now)) c.args.out.now (omega arith)
 
 pub make_row-requires-clause-deep : goal.make_row-requires-clause-deep
-make_row-requires-clause-deep t c = deep_rows c.args.depth c.args.level c.args.rows.now c.requires.part (omega arith)
+make_row-requires-clause-deep t c = deep_rows c.args.levels.depth c.args.level c.args.rows.now c.requires.part (omega arith)
 
 pub list-requires : goal.list-requires
 list-requires t c =
     let items = c.in_ok-groups.groups.items in
     let lt : c.loop-group.group-index < length items = rw (← c.deref-group-items.ensures.value) c.loop-group-test.true in
-    let part : IsPart c.args.depth (c.args.level + 1) (seen (take ((get_or items c.loop-group.group-index any).to - (get_or items c.loop-group.group-index any).from) (drop (get_or items c.loop-group.group-index any).from c.args.rows.now))) =
-    part-of c.args.depth c.args.level c.args.rows.now (get_or items c.loop-group.group-index any) c.requires.part (c.in_ok-groups.ensures.ranges c.loop-group.group-index any lt) in
+    let part : IsPart c.args.levels.depth (c.args.level + 1) (seen (take ((get_or items c.loop-group.group-index any).to - (get_or items c.loop-group.group-index any).from) (drop (get_or items c.loop-group.group-index any).from c.args.rows.now))) =
+    part-of c.args.levels.depth c.args.level c.args.rows.now (get_or items c.loop-group.group-index any) c.requires.part (c.in_ok-groups.ensures.ranges c.loop-group.group-index any lt) in
     (omega arith, (rw c.deref-group-items.ensures.value part, omega arith))
 
 pub loop-group-preserved : goal.loop-group-preserved
 loop-group-preserved t c =
     let g = get_or c.deref-group-items.result.now c.loop-group.group-index any in
-    let o = c.args.options.now in
-    let below = λ (t : List RollupRow). listing o (c.args.depth - (c.args.level + 1)) (c.args.level + 1) (table_at (c.args.level + 1) t) in
-    block-more (entries_of o) (λ (e : Entry). e.below) row_of c.args.depth c.args.level (group_entry c.args.level (seen c.args.rows.now)) c.deref-group-items.result.now c.loop-group.group-index any c.args.out.now c.loop-group.out c.push.new.self c.list.new.out c.in_ok-make_row.field-0
+    let o = c.args.levels.options in
+    let below = λ (t : List RollupRow). listing o (c.args.levels.depth - (c.args.level + 1)) (c.args.level + 1) (table_at (c.args.level + 1) t) in
+    block-more (entries_of o) (λ (e : Entry). e.below) row_of c.args.levels.depth c.args.level (group_entry c.args.level (seen c.args.rows.now)) c.deref-group-items.result.now c.loop-group.group-index any c.args.out.now c.loop-group.out c.push.new.self c.list.new.out c.in_ok-make_row.field-0
     c.loop-group-test.true c.loop-group.invariant c.in_ok-make_row.ensures c.in_ok-push.ensures.ok (c.in_ok-list.ensures ∙ ap (λ t. c.push.new.self ++ below t) (seen-mid c.args.rows.now g.from (g.to - g.from)))
 
 pub returns : goal.returns
 returns t c =
-    let o = c.args.options.now in
+    let o = c.args.levels.options in
     let items = c.in_ok-groups.groups.items in
     let table = table_at c.args.level (seen c.args.rows.now) in
     let ge = group_entry c.args.level (seen c.args.rows.now) in
-    let f = block (entries_of o) (λ (e : Entry). e.below) row_of c.args.depth c.args.level in
+    let f = block (entries_of o) (λ (e : Entry). e.below) row_of c.args.levels.depth c.args.level in
     c.loop-group.invariant
     ∙ ap (λ rows. c.args.out.now ++ rows)
     (ap (λ gs. flat_map f (map ge gs)) (take_all c.loop-group.group-index c.deref-group-items.result.now (omega arith) ∙ c.deref-group-items.ensures.value)
-    ∙ (ap (flat_map f) c.in_ok-groups.ensures.entries ∙ sym (rows-more (entries_of o) (λ (e : Entry). e.below) row_of c.args.depth c.args.level table (omega arith))))
+    ∙ (ap (flat_map f) c.in_ok-groups.ensures.entries ∙ sym (rows-more (entries_of o) (λ (e : Entry). e.below) row_of c.args.levels.depth c.args.level table (omega arith))))

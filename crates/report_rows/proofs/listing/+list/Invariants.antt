@@ -5,9 +5,9 @@ use Rattle.report_rows.specs.Rows.{Entry, listing, row_of}
 use Rattle.report_rows.proofs.listing.+list.Given as goal
 
 abbrev pub decreases-list : goal.decreases-list
-decreases-list l = l.depth - l.level
+decreases-list l = l.levels.depth - l.level
 
 -- The rows of the groups so far.
 abbrev pub invariant-loop-group : goal.invariant-loop-group
 invariant-loop-group l =
-    l.out ≡ l.initial.out ++ flat_map (λ (e : Entry). row_of l.level e ∷ listing l.options (l.depth - (l.level + 1)) (l.level + 1) e.below) (map (group_entry l.level (map (λ r. r.now) l.rows)) (take l.group-index l.group-items))
+    l.out ≡ l.initial.out ++ flat_map (λ (e : Entry). row_of l.level e ∷ listing l.levels.options (l.levels.depth - (l.level + 1)) (l.level + 1) e.below) (map (group_entry l.level (map (λ r. r.now) l.rows)) (take l.group-index l.group-items))

@@ -4,5 +4,5 @@ use Rattle.report_text.proofs.lines.lines.Goals as goal
 
 pub loop-i-preserved : goal.loop-i-preserved
 loop-i-preserved g c =
-    rows-more (row_line g.T.Entry.ReportRow.as_row (g.T.ReportTree.columns c.args.domain c.args.tree.now) c.args.wide) (title_line g.T.ReportTree.PLACES c.args.domain) c.loop-i.text.items c.push_row.new.out.items
+    rows-more (row_line g.T.Entry.ReportRow.as_row (g.T.ReportTree.columns c.args.format.domain c.args.tree.now) c.args.format.wide) (title_line g.T.ReportTree.PLACES c.args.format.domain) c.loop-i.text.items c.push_row.new.out.items
     c.rows-rows.result.now c.loop-i.i c.get.result.now c.loop-i.invariant c.get.ensures c.in_ok-push_row.ensures

@@ -15,7 +15,7 @@ pub loop-at-init : goal.loop-at-init
 loop-at-init g c = record {
   at = c.in_ok-cursors.ensures.at;
   below = omega arith;
-  counts = λ test. c.requires.none test ∙ sym (counted-none test (option_copied c.args.marks) (layers c.args.part c.args.maps.now));
+  counts = λ test. c.requires.none test ∙ sym (counted-none test (option_copied c.args.walked.marks) (layers c.args.walked.part c.args.walked.maps.now));
   others = λ test. refl;
   entries = λ n below all. all;
   cost = c.in_ok-cursors.ensures.cost;
@@ -23,21 +23,21 @@ loop-at-init g c = record {
 
 pub count-requires-clause-fits : goal.count-requires-clause-fits
 count-requires-clause-fits g c = λ i.
-    let all : weight c.args.part (λ _. true) c.loop-at.sizes ≡ counted (λ _. true) (option_copied c.args.marks) (layers c.args.part c.args.maps.now) c.loop-at.at = c.loop-at.invariant.counts (λ _. true) in
-    omega (arith, size-le c.args.part c.loop-at.sizes i, all, counted-le (λ _. true) (option_copied c.args.marks) (layers c.args.part c.args.maps.now) c.loop-at.at, c.next_stop-to.ensures.limit, c.requires.fits)
+    let all : weight c.args.walked.part (λ _. true) c.loop-at.sizes ≡ counted (λ _. true) (option_copied c.args.walked.marks) (layers c.args.walked.part c.args.walked.maps.now) c.loop-at.at = c.loop-at.invariant.counts (λ _. true) in
+    omega (arith, size-le c.args.walked.part c.loop-at.sizes i, all, counted-le (λ _. true) (option_copied c.args.walked.marks) (layers c.args.walked.part c.args.walked.maps.now) c.loop-at.at, c.next_stop-to.ensures.limit, c.requires.fits)
 
 pub returns-in_err-count-clause-cost : goal.returns-in_err-count-clause-cost
-returns-in_err-count-clause-cost g c = omega (arith, reads-le (layers c.args.part c.args.maps.now) c.loop-at.cursors.items, c.loop-at.invariant.cost)
+returns-in_err-count-clause-cost g c = omega (arith, reads-le (layers c.args.walked.part c.args.walked.maps.now) c.loop-at.cursors.items, c.loop-at.invariant.cost)
 
 pub returns-clause-cost : goal.returns-clause-cost
-returns-clause-cost g c = omega (arith, reads-le (layers c.args.part c.args.maps.now) c.loop-at.cursors.items, c.loop-at.invariant.cost)
+returns-clause-cost g c = omega (arith, reads-le (layers c.args.walked.part c.args.walked.maps.now) c.loop-at.cursors.items, c.loop-at.invariant.cost)
 
 pub loop-at-preserved : goal.loop-at-preserved
 loop-at-preserved g c =
-    let part = c.args.part in
-    let maps = c.args.maps.now in
+    let part = c.args.walked.part in
+    let maps = c.args.walked.maps.now in
     let pss = layers part maps in
-    let marks : _ = option_copied c.args.marks in
+    let marks : _ = option_copied c.args.walked.marks in
     let at = c.loop-at.at in
     let to = c.next_stop-to.result in
     let cs = c.loop-at.cursors.items in

@@ -15,31 +15,31 @@ use Rattle.size_growth.proofs.listing.+list.Goals as goal
 abbrev any : Item
 any = record { key = 0; kind = Label; from = 0; to = 0; sizes = no_sizes }
 
-pub returns-then-level-depth : goal.returns-then-level-depth
-returns-then-level-depth t c =
-    rows-none (entries_of c.args.options.now) (λ (e : Entry). e.below) row_of c.args.depth c.args.level (table_at c.args.level c.args.paths.now) c.args.out.now (omega arith)
+pub returns-then-level-levels : goal.returns-then-level-levels
+returns-then-level-levels t c =
+    rows-none (entries_of c.args.levels.options) (λ (e : Entry). e.below) row_of c.args.levels.depth c.args.level (table_at c.args.level c.args.paths.now) c.args.out.now (omega arith)
 
 pub make_row-requires-clause-deep : goal.make_row-requires-clause-deep
-make_row-requires-clause-deep t c = deep-at c.args.depth c.args.level c.args.paths.now c.requires.part (omega arith)
+make_row-requires-clause-deep t c = deep-at c.args.levels.depth c.args.level c.args.paths.now c.requires.part (omega arith)
 
 pub list-requires : goal.list-requires
 list-requires t c =
     let i = get_or c.in_ok-items.items.items c.loop-item.item-index any in
-    let part : IsPart c.args.depth (take (i.to - i.from) (drop i.from c.args.paths.now)) = part-of c.args.depth c.args.paths.now i.from (i.to - i.from) c.requires.part in
+    let part : IsPart c.args.levels.depth (take (i.to - i.from) (drop i.from c.args.paths.now)) = part-of c.args.levels.depth c.args.paths.now i.from (i.to - i.from) c.requires.part in
     (omega arith, (rw c.deref-item-items.ensures.value part, omega arith))
 
 pub loop-item-preserved : goal.loop-item-preserved
 loop-item-preserved t c =
-    block-more (entries_of c.args.options.now) (λ (e : Entry). e.below) row_of c.args.depth c.args.level (item_entry c.args.level c.args.paths.now) c.deref-item-items.result.now c.loop-item.item-index any c.args.out.now c.loop-item.out c.push.new.self c.list.new.out c.in_ok-make_row.field-0
+    block-more (entries_of c.args.levels.options) (λ (e : Entry). e.below) row_of c.args.levels.depth c.args.level (item_entry c.args.level c.args.paths.now) c.deref-item-items.result.now c.loop-item.item-index any c.args.out.now c.loop-item.out c.push.new.self c.list.new.out c.in_ok-make_row.field-0
     c.loop-item-test.true c.loop-item.invariant c.in_ok-make_row.ensures c.in_ok-push.ensures.ok c.in_ok-list.ensures
 
 pub returns : goal.returns
 returns t c =
-    let o = c.args.options.now in
+    let o = c.args.levels.options in
     let table = table_at c.args.level c.args.paths.now in
     let ie = item_entry c.args.level c.args.paths.now in
-    let f = block (entries_of o) (λ (e : Entry). e.below) row_of c.args.depth c.args.level in
+    let f = block (entries_of o) (λ (e : Entry). e.below) row_of c.args.levels.depth c.args.level in
     c.loop-item.invariant
     ∙ ap (λ rows. c.args.out.now ++ rows)
     (ap (λ is. flat_map f (map ie is)) (take_all c.loop-item.item-index c.deref-item-items.result.now (omega arith) ∙ c.deref-item-items.ensures.value)
-    ∙ (ap (flat_map f) c.in_ok-items.ensures.entries ∙ sym (rows-more (entries_of o) (λ (e : Entry). e.below) row_of c.args.depth c.args.level table (omega arith))))
+    ∙ (ap (flat_map f) c.in_ok-items.ensures.entries ∙ sym (rows-more (entries_of o) (λ (e : Entry). e.below) row_of c.args.levels.depth c.args.level table (omega arith))))

@@ -11,5 +11,5 @@ returns-clause-first c =
 
 pub returns-clause-well_formed : goal.returns-clause-well_formed
 returns-clause-well_formed c =
-    let known : IsOpened c.args.file.now c.in_ok-encoding.encoding c.in_ok-sections.sections c.in_ok-segments.segments c.in_ok-name_index.name_index c.names_of-names.result.now = search rules in
-    is_well_formed c.args.file.now c.in_ok-encoding.encoding c.in_ok-sections.sections c.in_ok-segments.segments c.in_ok-name_index.name_index c.names_of-names.result.now known
+    let known : IsOpened c.args.file.now c.in_ok-encoding.encoding c.in_ok-sections.sections c.in_ok-segments.segments c.in_ok-index.index c.names_of-bytes.result.now = search rules in
+    is_well_formed c.args.file.now c.in_ok-encoding.encoding c.in_ok-sections.sections c.in_ok-segments.segments c.in_ok-index.index c.names_of-bytes.result.now known

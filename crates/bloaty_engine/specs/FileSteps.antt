@@ -1,0 +1,135 @@
+-- The effects of the steps of a run that read and count files.
+use Rattle.std.specs.Prelude.{◌≡◌, ℕ, ◌+◌, ◌-◌, ◌^◌, ◌≤◌, List, [], ◌∷◌, ◌++◌, length, Result, Ok, Vec, IfOk, OnOk, IsErrOf}
+use Rattle.std.specs.declared.alloc.Global.{Global}
+use Rattle.size_core.specs.declared.limits.Limits.{Limits}
+use Rattle.outside.specs.declared.files.Files.{Ghosts as FilesGhosts}
+use Rattle.outside.specs.Held.{IsHeld, IsTaken}
+use Rattle.rollup.specs.Totals.{Totals}
+use Rattle.size_model.specs.declared.view.FileView.{FileView}
+use Rattle.file_profile.specs.Counts.{filter_test}
+use Rattle.file_profile.specs.Plans.{Plans}
+use Rattle.file_profile.specs.Sources.{Chosen}
+use Rattle.size_options.specs.declared.run_options.Options.{Options}
+use Rattle.run_outcome.specs.declared.outcome.Outcome.{Outcome}
+use Rattle.run_outcome.specs.declared.outcome.Outcome.TheVariants.{ReadFailed, TooLong}
+use Rattle.bloaty_engine.specs.Costs.{file_cost}
+use Rattle.bloaty_engine.specs.Devices.{Reads}
+use Rattle.bloaty_engine.specs.Given.{Gives, pairs_from}
+use Rattle.bloaty_engine.specs.Named.{AreFiles, AreHeld}
+use Rattle.bloaty_engine.specs.Reading.{file_reading, reading_for, unmade_names}
+use Rattle.bloaty_engine.specs.Reports.{IsUnmade}
+use Rattle.bloaty_engine.specs.Steps.{Batch, EndsAs, Finds, HasCounted, batch_reading}
+use Rattle.bloaty_engine.specs.Verdict.{counted_file, file_limit, total_limit}
+
+-- The effect of a step that reads file `number`, which has this name. `before` and `after` are the files before and after it.
+--
+-- bytes, is: The file has these bytes.
+-- finds: The step returns them if they are within the limit; or the read failed; or memory ran out.
+-- gives: Its read returned these bytes.
+-- reads: It read this file alone.
+-- taken: If it succeeded, the bytes that it returned were read, and no more.
+pub record ReadsFile {F : Type 0} (f : FilesGhosts F) (number : ℕ) (name : List ℕ) (limit : ℕ)
+    (result : Result (Vec ℕ Global) Outcome) (before after : F) : Type 0 where
+  pub bytes : List ℕ
+  pub is : IsHeld (f.held before) name bytes
+  pub finds : Finds number limit bytes result
+  pub gives : Gives result (f.gave before) (f.gave after) ((name, bytes) ∷ [])
+  pub reads : Reads f (file_reading number name limit) result before after
+  pub taken : IfOk result (λ v. IsTaken (f.held before) (length v.items) (f.taken before) (f.taken after))
+
+-- The effect of a step that reads the files of the options, or makes the synthetic file, which isn't read. `P` says which result
+-- the step has, by the bytes of the files. `before` and `after` are the files before and after it.
+--
+-- bytes, are: The files have these bytes, by their numbers.
+-- ends: The step has its result over them.
+-- gives: Its reads returned these bytes.
+-- unmade: A read that failed wasn't that of a synthetic file.
+-- reads: It read the files, one after the other, unless the file is synthetic.
+pub record ReadsFiles {F X : Type 0} (f : FilesGhosts F) (limits : Limits) (o : Options)
+    (P : (ℕ → List ℕ) → Result X Outcome → Type 0) (result : Result X Outcome) (before after : F) : Type 0 where
+  pub bytes : ℕ → List ℕ
+  pub are : AreFiles (f.held before) o.synth o.files bytes
+  pub ends : P bytes result
+  pub gives : Gives result (f.gave before) (f.gave after) (pairs_from 1 (unmade_names o.synth o.files) bytes)
+  pub unmade : (k : ℕ) → IsErrOf result (ReadFailed (k + 1)) → IsUnmade o.synth k
+  pub reads : Reads f (reading_for limits o (unmade_names o.synth o.files)) result before after
+
+-- The effect of a step that reads a batch of files. `P` says which result the step has, by the bytes of the files. `before` and
+-- `after` are the files before and after it.
+--
+-- bytes, are: The files of the batch have these bytes, by their numbers.
+-- ends: The step has its result over them.
+-- gives: Its reads returned these bytes.
+-- reads: It read the files of the batch, one after the other, within what the limits leave.
+pub record ReadsBatch {F X : Type 0} (f : FilesGhosts F) (limits : Limits) (batch : Batch)
+    (P : (ℕ → List ℕ) → Result X Outcome → Type 0) (result : Result X Outcome) (before after : F) : Type 0 where
+  pub bytes : ℕ → List ℕ
+  pub are : AreHeld (f.held before) batch.first batch.names bytes
+  pub ends : P bytes result
+  pub gives : Gives result (f.gave before) (f.gave after) (pairs_from batch.first batch.names bytes)
+  pub reads : Reads f (batch_reading limits batch) result before after
+
+-- The effect of a step on the synthetic file, which is made and not read. `P` says which result it has.
+--
+-- ends: The step has this result.
+-- unread: No read failed.
+-- long: A file that is too long is the synthetic one, which is file 1.
+pub record UsesMade {X : Type 0} (P : Result X Outcome → Type 0) (result : Result X Outcome) : Type 0 where
+  pub ends : P result
+  pub unread : (i : ℕ) → IsErrOf result (ReadFailed i) → ⊥
+  pub long : (i : ℕ) → IsErrOf result (TooLong i) → i ≡ 1
+
+-- A file with these bytes can be added to a total.
+--
+-- depth: A path of the total has a label for each data source.
+-- fits: The file is within the limit of a file.
+-- lengths: With it, the lengths of the files of the total are within the limit of all files.
+pub record FitsTotal (limits : Limits) (sources : List Chosen) (t : Totals) (bytes : List ℕ) : Type 0 where
+  pub depth : t.depth ≡ length sources
+  pub fits : length bytes ≤ file_limit limits
+  pub lengths : t.lengths + length bytes ≤ total_limit limits
+
+-- The effect of a step that counts file `number`, with this name and these bytes, and adds its sizes to a total. `old` and `new`
+-- are the total before and after it, `before` and `after` the counts of steps.
+--
+-- short: It doesn't end the run as a file that is too long.
+-- ended: The bytes decide its result, or memory ran out. `lengths` are those of the files before it.
+-- counted: If it succeeded, a total of some files is now that of these files and this one.
+-- depth: A path of the total has as many labels as before.
+-- lengths: If it succeeded, the length of the file was added.
+-- cost: It took at most the steps for this file.
+pub record AddsFile (limits : Limits) (p : Plans) (number : ℕ) (name bytes : List ℕ) (result : Result (Unit {0}) Outcome)
+    (old new : Totals) (before after : ℕ) : Type 0 where
+  pub short : (i : ℕ) → IsErrOf result (TooLong i) → ⊥
+  pub ended : (lengths : ℕ) → lengths + length bytes ≤ total_limit limits
+      → EndsAs result (counted_file limits p.sources number lengths old.mapped name bytes)
+  pub counted : OnOk result ((lengths : ℕ) (files : List FileView) (f : FileView) → lengths + length bytes ≤ total_limit limits
+      → counted_file limits p.sources number lengths old.mapped name bytes ≡ Ok f
+      → HasCounted (filter_test p.filter) (length p.sources) files old
+      → HasCounted (filter_test p.filter) (length p.sources) (files ++ f ∷ []) new)
+  pub depth : new.depth ≡ old.depth
+  pub lengths : OnOk result (new.lengths ≡ old.lengths + length bytes)
+  pub cost : after ≤ before + file_cost limits p.sources name bytes
+
+-- A batch of files can be counted with these data sources.
+--
+-- few: There are at most eight data sources.
+-- numbers: The number of each file is below 2^64.
+-- room: The lengths of the files before the batch are within the limit of all files.
+pub record CanCount (limits : Limits) (sources : List Chosen) (batch : Batch) : Type 0 where
+  pub few : length sources ≤ 8
+  pub numbers : batch.first + length batch.names ≤ 2 ^ 64
+  pub room : batch.before ≤ total_limit limits
+
+-- The tally after a step that counts a batch of files, of which `made` bytes are synthetic and not read. It counts `count` files,
+-- whose lengths add up to `lengths`. `before` and `after` are the files before and after the step.
+--
+-- counts: If the step succeeded, the tally counts the files of the batch, too, with the lengths of its total.
+-- room: The lengths are within the limit of all files, whatever the result is.
+-- taken: If the step succeeded, the other bytes of the total were read, and no more.
+pub record Tallies {F : Type 0} (f : FilesGhosts F) (limits : Limits) (batch : Batch) (made : ℕ) (result : Result Totals Outcome)
+    (count lengths : ℕ) (before after : F) : Type 0 where
+  pub counts : IfOk result
+      (λ t. (count + 1 ≡ batch.first + length batch.names) × (lengths ≡ batch.before + t.lengths) × (made ≤ t.lengths))
+  pub room : lengths ≤ total_limit limits
+  pub taken : IfOk result (λ t. IsTaken (f.held before) (t.lengths - made) (f.taken before) (f.taken after))
