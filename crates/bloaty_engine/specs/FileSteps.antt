@@ -1,24 +1,29 @@
 -- The effects of the steps of a run that read and count files.
-use Rattle.std.specs.Prelude.{◌≡◌, ℕ, ◌+◌, ◌-◌, ◌^◌, ◌≤◌, List, [], ◌∷◌, ◌++◌, length, Result, Ok, Vec, IfOk, OnOk, IsErrOf}
+use Rattle.std.specs.Prelude.{◌≡◌, ℕ, ◌+◌, ◌-◌, ◌^◌, ◌≤◌, List, [], ◌∷◌, ◌++◌, codes, length, Result, Ok, Vec, IfOk, OnOk, IsErrOf}
 use Rattle.std.specs.declared.alloc.Global.{Global}
 use Rattle.size_core.specs.declared.limits.Limits.{Limits}
 use Rattle.outside.specs.declared.files.Files.{Ghosts as FilesGhosts}
 use Rattle.outside.specs.Held.{IsHeld, IsTaken}
+use Rattle.rollup.specs.declared.table.RollupRow.{RollupRow}
 use Rattle.rollup.specs.Totals.{Totals}
 use Rattle.size_model.specs.declared.view.FileView.{FileView}
+use Rattle.elf_synth.specs.Made.{made}
 use Rattle.file_profile.specs.Counts.{filter_test}
 use Rattle.file_profile.specs.Plans.{Plans}
 use Rattle.file_profile.specs.Sources.{Chosen}
 use Rattle.size_options.specs.declared.run_options.Options.{Options}
 use Rattle.run_outcome.specs.declared.outcome.Outcome.{Outcome}
 use Rattle.run_outcome.specs.declared.outcome.Outcome.TheVariants.{ReadFailed, TooLong}
-use Rattle.bloaty_engine.specs.Costs.{file_cost}
+use Rattle.bloaty_engine.specs.declared.files.Tally.{Tally}
+use Rattle.bloaty_engine.specs.Costs.{CostsAtMost, counting_cost, file_cost, files_cost}
 use Rattle.bloaty_engine.specs.Devices.{Reads}
 use Rattle.bloaty_engine.specs.Given.{Gives, pairs_from}
 use Rattle.bloaty_engine.specs.Named.{AreFiles, AreHeld}
-use Rattle.bloaty_engine.specs.Reading.{file_reading, reading_for, unmade_names}
+use Rattle.bloaty_engine.specs.Reading.{file_reading, made_len, reading_for, unmade_names}
+use Rattle.bloaty_engine.specs.GrowthReport.{EndsGrowth}
 use Rattle.bloaty_engine.specs.Reports.{IsUnmade}
-use Rattle.bloaty_engine.specs.Steps.{Batch, EndsAs, Finds, HasCounted, batch_reading}
+use Rattle.run_outcome.specs.Names.{file_names}
+use Rattle.bloaty_engine.specs.Steps.{Batch, EndsAs, EndsFiles, Finds, HasCounted, batch_of, batch_reading}
 use Rattle.bloaty_engine.specs.Verdict.{counted_file, file_limit, total_limit}
 
 -- The effect of a step that reads file `number`, which has this name. `before` and `after` are the files before and after it.
@@ -133,3 +138,51 @@ pub record Tallies {F : Type 0} (f : FilesGhosts F) (limits : Limits) (batch : B
       (λ t. (count + 1 ≡ batch.first + length batch.names) × (lengths ≡ batch.before + t.lengths) × (made ≤ t.lengths))
   pub room : lengths ≤ total_limit limits
   pub taken : IfOk result (λ t. IsTaken (f.held before) (t.lengths - made) (f.taken before) (f.taken after))
+
+-- The effect of a step that counts the files of these names with a plan. `old` and `new` are the tally before and after it, `before`
+-- and `after` the files.
+--
+-- batch: It read the files, and its result is what their bytes decide.
+-- tally: The tally counts the files.
+-- cost: It took at most the steps for the files that it read.
+pub record CountsBatch {F L : Type 0} (f : FilesGhosts F) (limits : Limits) (p : Plans) (names : List (List ℕ)) (result : Result Totals Outcome)
+    (before after : F) (old new : Tally L) : Type 0 where
+  pub batch : ReadsBatch f limits (batch_of old.files old.bytes names)
+      (EndsFiles limits p.sources (filter_test p.filter) (batch_of old.files old.bytes names)) result before after
+  pub tally : Tallies f limits (batch_of old.files old.bytes names) 0 result new.files new.bytes before after
+  pub cost : CostsAtMost (files_cost limits p.sources) (f.gave before) (f.gave after) old.steps new.steps
+
+-- The effect of a step that counts the synthetic file of `n` functions with a plan. `old` and `new` are the tally before and after it.
+--
+-- uses: Its result is what the bytes of the file decide.
+-- tally: If it succeeded, the tally counts this file.
+-- room: The length is within the limit of all files, whatever the result is.
+-- cost: It took at most the steps for this file.
+pub record CountsMade {L : Type 0} (limits : Limits) (p : Plans) (n : ℕ) (result : Result Totals Outcome) (old new : Tally L) : Type 0 where
+  pub uses : UsesMade (EndsFiles limits p.sources (filter_test p.filter) (batch_of 0 0 (codes "synth" ∷ [])) (λ i. made n)) result
+  pub tally : IfOk result (λ t. (new.files ≡ 1) × (new.bytes ≡ t.lengths) × (t.lengths ≡ length (made n)))
+  pub room : new.bytes ≤ total_limit limits
+  pub cost : new.steps ≤ old.steps + file_cost limits p.sources (codes "synth") (made n)
+
+-- The effect of a step that counts the files of the options, or the synthetic file, with a plan. `old` and `new` are the tally before
+-- and after it, `before` and `after` the files.
+--
+-- files: It read the files, and its result is what their bytes decide.
+-- tally: The tally counts the files.
+-- cost: It took at most the steps for the files that it read, and for the synthetic one.
+pub record CountsTotal {F L : Type 0} (f : FilesGhosts F) (limits : Limits) (p : Plans) (o : Options) (result : Result Totals Outcome)
+    (before after : F) (old new : Tally L) : Type 0 where
+  pub files : ReadsFiles f limits o (EndsFiles limits p.sources (filter_test p.filter) (batch_of 0 0 (file_names o))) result before after
+  pub tally : Tallies f limits (batch_of 0 0 (file_names o)) (made_len o.synth) result new.files new.bytes before after
+  pub cost : CostsAtMost (counting_cost limits p.sources o) (f.gave before) (f.gave after) old.steps new.steps
+
+-- The effect of a step that counts the base files and makes the report of growth from them. `new_rows` are the rows of the files.
+-- `old` and `new` are the tally before and after it, `before` and `after` the files.
+--
+-- batch: It read the base files, and its result is what their bytes decide.
+-- cost: It took at most the steps for the base files that it read.
+pub record ReportsGrowth {F L : Type 0} (f : FilesGhosts F) (limits : Limits) (p : Plans) (o : Options) (new_rows : List RollupRow)
+    (result : Result (Vec ℕ Global) Outcome) (before after : F) (old new : Tally L) : Type 0 where
+  pub batch : ReadsBatch f limits (batch_of old.files old.bytes o.bases)
+      (λ bytes. EndsGrowth limits p.sources (filter_test p.filter) (batch_of old.files old.bytes o.bases) bytes o new_rows) result before after
+  pub cost : CostsAtMost (files_cost limits p.sources) (f.gave before) (f.gave after) old.steps new.steps

@@ -1,5 +1,8 @@
--- The effects of the steps that make a plan.
-use Rattle.std.specs.Prelude.{◌≡◌, ℕ, ◌<◌, List, length, map, slice_get, Some, Result, Ok, IfErr, IfOk, IfSome, All}
+-- The effects of the steps that read the configuration and make a plan.
+use Rattle.std.specs.Prelude.{◌≡◌, ℕ, ◌<◌, List, length, map, slice_get, Some, Result, Ok, Vec, IfErr, IfOk, IfSome, All}
+use Rattle.std.specs.declared.alloc.Global.{Global}
+use Rattle.size_core.specs.declared.limits.Limits.{Limits}
+use Rattle.outside.specs.declared.files.Files.{Ghosts as FilesGhosts}
 use Rattle.config_text.specs.declared.config.CustomSource.{CustomSource}
 use Rattle.custom_rewrites.specs.declared.pattern.Patterns.{Ghosts as PatternsGhosts}
 use Rattle.size_options.specs.declared.run_options.Options.{Options}
@@ -9,9 +12,12 @@ use Rattle.file_profile.specs.Choices.{IsChoice, as_chosen, chosen_in, rewrite_l
 use Rattle.file_profile.specs.Sources.{chosen_sources, custom_named}
 use Rattle.file_profile.specs.declared.plan.Choice.{Choice}
 use Rattle.file_profile.specs.declared.plan.PlanAnswer.{PlanAnswer}
-use Rattle.bloaty_engine.specs.Devices.{Builds, Plans}
+use Rattle.bloaty_engine.specs.Devices.{Builds, Plans, Reads}
+use Rattle.bloaty_engine.specs.Given.{Gives, config_pairs}
+use Rattle.bloaty_engine.specs.Named.{IsText}
 use Rattle.bloaty_engine.specs.PatternLists.{PatternList, plan_patterns}
-use Rattle.bloaty_engine.specs.Steps.{EndsPlan}
+use Rattle.bloaty_engine.specs.Reading.{config_reading}
+use Rattle.bloaty_engine.specs.Steps.{EndsConfig, EndsPlan}
 
 -- This is the position of the first custom data source with this name.
 --
@@ -54,3 +60,17 @@ pub record MakesPlan {P : Type 0} (p : PatternsGhosts P) (o : Options) (customs 
   pub plan : IfOk result (IsPlan o.sources o.filter customs)
   pub ends : IfErr result (EndsPlan o.sources o.filter customs (p.last_refused after))
   pub patterns : Builds p (plan_patterns o.sources o.filter customs) result before after
+
+-- The effect of the step of a run that reads and parses its configuration. `before` and `after` are the files before and after it.
+--
+-- text, is: The configuration has this text, if there is one.
+-- ends: The step has the result that the text decides, or the read failed, or memory ran out.
+-- gives: Its read returned this text.
+-- reads: It read the configuration alone.
+pub record ReadsConfig {F : Type 0} (f : FilesGhosts F) (limits : Limits) (o : Options) (result : Result (Vec CustomSource Global) Outcome)
+    (before after : F) : Type 0 where
+  pub text : List ℕ
+  pub is : IsText (f.held before) o.config text
+  pub ends : EndsConfig limits o.config text result
+  pub gives : Gives result (f.gave before) (f.gave after) (config_pairs o.config text)
+  pub reads : Reads f (config_reading limits o) result before after

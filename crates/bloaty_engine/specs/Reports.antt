@@ -6,6 +6,8 @@ use Rattle.outside.specs.declared.files.Files.{Ghosts as FilesGhosts}
 use Rattle.size_options.specs.Answers.{KeepsLimits}
 use Rattle.size_options.specs.declared.run_options.Options.{Options}
 use Rattle.run_outcome.specs.declared.outcome.Outcome.{Outcome}
+use Rattle.bloaty_engine.specs.declared.files.Tally.{Tally}
+use Rattle.bloaty_engine.specs.Costs.{CostsAtMost, counting_cost, found_cost}
 use Rattle.bloaty_engine.specs.Devices.{Reads}
 use Rattle.bloaty_engine.specs.Given.{Gives, input_pairs}
 use Rattle.bloaty_engine.specs.GrowthReport.{IsGrowthReport}
@@ -88,3 +90,31 @@ pub record ReadsInputs {F X : Type 0} (f : FilesGhosts F) (limits : Limits) (o :
 abbrev pub MakesReport : {F : Type 0} → FilesGhosts F → Limits → List Chosen → Options → Result (Vec ℕ Global) Outcome → F → F → Type 0
 MakesReport f limits sources o result before after =
     ReadsInputs f limits o (other_names o) (λ bytes. EndsFinding limits sources bytes o) result before after
+
+-- The report of these options can begin with this plan.
+--
+-- ready: The options keep their limits, and the plan is theirs.
+-- none: The tally counts no file yet.
+pub record BeginsReport {L : Type 0} (o : Options) (p : Plans) (tally : Tally L) : Type 0 where
+  pub ready : IsReady o p
+  pub none : (tally.files ≡ 0) × (tally.bytes ≡ 0)
+
+-- The effect of a step that makes the report of what the options ask for. `before` and `after` are the files before and after it,
+-- `old` and `new` the counts of steps.
+--
+-- report: It read the files, and its result is what their bytes decide.
+-- cost: It took at most the steps for the files that it read, and for the synthetic one.
+pub record Reports {F : Type 0} (f : FilesGhosts F) (limits : Limits) (p : Plans) (o : Options) (result : Result (Vec ℕ Global) Outcome)
+    (before after : F) (old new : ℕ) : Type 0 where
+  pub report : MakesReport f limits p.sources o result before after
+  pub cost : CostsAtMost (found_cost limits p.sources o) (f.gave before) (f.gave after) old new
+
+-- The effect of a step that counts the files and the base files, and makes their report. `old` and `new` are the tally before and
+-- after it, `before` and `after` the files.
+--
+-- inputs: It read the files and the base files, and its result is what their bytes decide.
+-- cost: It took at most the steps for the files that it read, and for the synthetic one.
+pub record ReportsFiles {F L : Type 0} (f : FilesGhosts F) (limits : Limits) (p : Plans) (o : Options) (result : Result (Vec ℕ Global) Outcome)
+    (before after : F) (old new : Tally L) : Type 0 where
+  pub inputs : ReadsInputs f limits o o.bases (λ bytes. EndsCounting limits p.sources bytes o) result before after
+  pub cost : CostsAtMost (counting_cost limits p.sources o) (f.gave before) (f.gave after) old.steps new.steps

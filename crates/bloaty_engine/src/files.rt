@@ -1,14 +1,11 @@
 //! The files of a run, read and counted one after the other.
 
-ghost use Rattle.std.specs.Prelude.{◌≡◌, ◌+◌, ◌≤◌, ◌∷◌, [], length, codes, IfOk};
-ghost use Rattle.elf_synth.specs.Made.{made};
+ghost use Rattle.std.specs.Prelude.{◌≡◌, ◌≤◌, length};
 ghost use Rattle.size_options.specs.Answers.{IsOneInput};
-ghost use Rattle.file_profile.specs.Counts.{filter_test};
-ghost use Rattle.bloaty_engine.specs.Costs.{CostsAtMost, file_cost, files_cost};
-ghost use Rattle.bloaty_engine.specs.FileSteps.{AddsFile, CanCount, FitsTotal, ReadsBatch, ReadsFile, Tallies, UsesMade};
+ghost use Rattle.bloaty_engine.specs.FileSteps.{AddsFile, CanCount, CountsBatch, CountsMade, FitsTotal, ReadsFile};
 ghost use Rattle.run_outcome.specs.Names.{file_names};
 ghost use Rattle.bloaty_engine.specs.RunSteps.{IsBlankOf};
-ghost use Rattle.bloaty_engine.specs.Steps.{EndsFiles, batch_of};
+ghost use Rattle.bloaty_engine.specs.Steps.{batch_of};
 ghost use Rattle.bloaty_engine.specs.Verdict.{end_at, file_limit, first_name, total_limit};
 
 use crate::profile::profile_file;
@@ -154,15 +151,8 @@ pub fn count_files<L: Ledger, F: Files>(
 ) -> Result<Rollup, Outcome>
     requires { let batch = batch_of tally.old.files tally.old.bytes names.now in
         CanCount run.now.limits plan.now.sources batch }
-    ensures batch { let batch = batch_of tally.old.files tally.old.bytes names.now in
-        let test = filter_test plan.now.filter in
-        ReadsBatch F.Files run.now.limits batch
-        (EndsFiles run.now.limits plan.now.sources test batch) result files.old files.new }
-    ensures tally { let batch = batch_of tally.old.files tally.old.bytes names.now in
-        Tallies F.Files run.now.limits batch 0 result tally.new.files tally.new.bytes
-        files.old files.new }
-    ensures cost { CostsAtMost (files_cost run.now.limits plan.now.sources)
-        (F.gave files.old) (F.gave files.new) tally.old.steps tally.new.steps }
+    ensures { CountsBatch F.Files run.now.limits plan.now names.now result
+        files.old files.new tally.old tally.new }
 {
     let before = tally.files;
     let mut total = Rollup::new(run.alloc, plan.depth());
@@ -193,14 +183,7 @@ pub fn count_made<L: Ledger>(
     requires number { n ≤ 1_000_000 }
     requires few { length plan.now.sources ≤ 8 }
     requires none { (tally.old.files ≡ 0) × (tally.old.bytes ≡ 0) }
-    ensures made { let batch = batch_of 0 0 (codes "synth" ∷ []) in
-        let test = filter_test plan.now.filter in
-        UsesMade (EndsFiles run.now.limits plan.now.sources test batch (λ i. made n)) result }
-    ensures tally { IfOk result (λ t. (tally.new.files ≡ 1) × (tally.new.bytes ≡ t.lengths)
-        × (t.lengths ≡ length (made n))) }
-    ensures room { tally.new.bytes ≤ total_limit run.now.limits }
-    ensures cost { tally.new.steps ≤ tally.old.steps
-        + file_cost run.now.limits plan.now.sources (codes "synth") (made n) }
+    ensures { CountsMade run.now.limits plan.now n result tally.old tally.new }
 {
     let mut total = Rollup::new(run.alloc, plan.depth());
     let file = synth(run.alloc, n)?;

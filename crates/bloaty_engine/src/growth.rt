@@ -2,10 +2,8 @@
 
 ghost use Rattle.std.specs.Prelude.{◌≡◌, ◌++◌, length, IfOk, OnOk};
 ghost use Rattle.size_growth.specs.Trees.{IsGrowthTree};
-ghost use Rattle.file_profile.specs.Counts.{filter_test};
-ghost use Rattle.bloaty_engine.specs.Costs.{CostsAtMost, files_cost};
-ghost use Rattle.bloaty_engine.specs.FileSteps.{CanCount, ReadsBatch};
-ghost use Rattle.bloaty_engine.specs.GrowthReport.{EndsGrowth, PrintsGrowth, growth_printed};
+ghost use Rattle.bloaty_engine.specs.FileSteps.{CanCount, ReportsGrowth};
+ghost use Rattle.bloaty_engine.specs.GrowthReport.{PrintsGrowth, growth_printed};
 ghost use Rattle.bloaty_engine.specs.Steps.{batch_of};
 
 use crate::files::{Tally, count_files};
@@ -70,14 +68,8 @@ pub fn growth_report<L: Ledger, F: Files>(
         CanCount run.now.limits plan.now.sources batch }
     requires depth { length run.now.options.sources ≡ length plan.now.sources }
     requires total { total.now.depth ≡ length plan.now.sources }
-    ensures batch { let o = run.now.options in
-        let batch = batch_of tally.old.files tally.old.bytes o.bases in
-        let test = filter_test plan.now.filter in
-        ReadsBatch F.Files run.now.limits batch
-        (λ bytes. EndsGrowth run.now.limits plan.now.sources test batch bytes o total.now.rows)
-        result files.old files.new }
-    ensures cost { CostsAtMost (files_cost run.now.limits plan.now.sources)
-        (F.gave files.old) (F.gave files.new) tally.old.steps tally.new.steps }
+    ensures { ReportsGrowth F.Files run.now.limits plan.now run.now.options total.now.rows result
+        files.old files.new tally.old tally.new }
 {
     let base = count_files(run, plan, &run.options.bases, files, tally)?;
     Ok(growth_of(run.alloc, &run.options, total, &base)?)

@@ -1,16 +1,11 @@
 //! A file with its debug file.
 
-ghost use Rattle.std.specs.Prelude.{◌≡◌, ◌+◌, ◌^◌, ◌<◌, ◌≤◌, ◌∷◌, [], None, Some, length, IfOk};
-ghost use Rattle.outside.specs.Held.{IsTaken};
+ghost use Rattle.std.specs.Prelude.{◌≡◌, ◌^◌, ◌<◌, ◌≤◌, None, Some, length};
 ghost use Rattle.data_sources.specs.Opened.{opened};
 ghost use Rattle.size_options.specs.Answers.{IsOneInput};
-ghost use Rattle.file_profile.specs.Counts.{filter_test};
-ghost use Rattle.file_profile.specs.PairViews.{pair_view};
-ghost use Rattle.bloaty_engine.specs.Costs.{CostsAtMost, pair_cost, view_cost};
-ghost use Rattle.bloaty_engine.specs.FileSteps.{ReadsBatch};
-ghost use Rattle.bloaty_engine.specs.PairSteps.{EndsFirst, EndsPair, EndsPaired, FitPair};
-ghost use Rattle.bloaty_engine.specs.Reports.{IsReady, MakesReport};
-ghost use Rattle.bloaty_engine.specs.Steps.{EndsAs, batch_of};
+ghost use Rattle.bloaty_engine.specs.PairSteps.{CountsOpened, CountsPair, FitPair, OpensFirst};
+ghost use Rattle.bloaty_engine.specs.Reports.{IsReady, Reports};
+ghost use Rattle.bloaty_engine.specs.Steps.{EndsAs};
 ghost use Rattle.bloaty_engine.specs.Verdict.{end_of_pair, first_name, if_sound};
 
 use crate::files::{file_limit, first_name, read_file, total_limit};
@@ -67,12 +62,8 @@ fn count_opened<L: Ledger>(
     requires one { IsOneInput run.now.options.synth run.now.options.files }
     requires few { length plan.now.sources ≤ 8 }
     requires fit { FitPair run.now.limits file.now debug.now }
-    ensures ends { EndsPaired run.now.limits plan.now.sources (filter_test plan.now.filter)
-        (first_name run.now.options) file.now debug.now result }
-    ensures cost { let limit = run.now.limits.claims in
-        let name = first_name run.now.options in
-        let view = pair_view limit name file.now debug.now plan.now.sources in
-        steps.new ≤ steps.old + view_cost view }
+    ensures { CountsOpened run.now.limits plan.now (first_name run.now.options)
+        file.now debug.now result steps.old steps.new }
 {
     let mut total = Rollup::new(run.alloc, plan.depth());
     let name = first_name(&run.options);
@@ -94,11 +85,8 @@ fn count_opened<L: Ledger>(
 // Reads the file and checks its format.
 fn read_first<F: Files>(run: &Run, files: &mut F) -> Result<Vec<u8>, Outcome>
     requires { IsOneInput run.now.options.synth run.now.options.files }
-    ensures batch { let batch = batch_of 0 0 (first_name run.now.options ∷ []) in
-        ReadsBatch F.Files run.now.limits batch (λ bytes. EndsFirst run.now.limits (bytes 1))
-        result files.old files.new }
-    ensures taken { IfOk result (λ v.
-        IsTaken (F.held files.old) (length v.items) (F.taken files.old) (F.taken files.new)) }
+    ensures { OpensFirst F.Files run.now.limits (first_name run.now.options) result
+        files.old files.new }
 {
     let limit = file_limit(&run.limits).min(total_limit(&run.limits));
     let file = read_file(run.alloc, files, first_name(&run.options), 1, limit)?;
@@ -116,13 +104,8 @@ fn count_pair<L: Ledger, F: Files>(
 ) -> Result<Rollup, Outcome>
     requires few { length plan.now.sources ≤ 8 }
     requires one { IsOneInput run.now.options.synth run.now.options.files }
-    ensures batch { let name = first_name run.now.options in
-        let test = filter_test plan.now.filter in
-        ReadsBatch F.Files run.now.limits (batch_of 0 0 (name ∷ debug.now ∷ []))
-        (λ bytes. EndsPair run.now.limits plan.now.sources test name (bytes 1) (bytes 2))
-        result files.old files.new }
-    ensures cost { CostsAtMost (pair_cost run.now.limits plan.now.sources)
-        (F.gave files.old) (F.gave files.new) steps.old steps.new }
+    ensures { CountsPair F.Files run.now.limits plan.now (first_name run.now.options) debug.now
+        result files.old files.new steps.old steps.new }
 {
     let file = read_first(run, files)?;
     let limit = file_limit(&run.limits).min(total_limit(&run.limits) - file.len() as u64);
@@ -141,10 +124,8 @@ pub fn pair_report<L: Ledger, F: Files>(
     requires ready { IsReady run.now.options plan.now }
     requires debug { run.now.options.debug ≡ Some debug.now }
     requires no_place { run.now.options.place ≡ None }
-    ensures report { MakesReport F.Files run.now.limits plan.now.sources run.now.options
-        result files.old files.new }
-    ensures cost { CostsAtMost (pair_cost run.now.limits plan.now.sources)
-        (F.gave files.old) (F.gave files.new) steps.old steps.new }
+    ensures { Reports F.Files run.now.limits plan.now run.now.options result
+        files.old files.new steps.old steps.new }
 {
     let total = count_pair(run, plan, debug, files, steps)?;
     Ok(report_of(run.alloc, &run.options, &total)?)

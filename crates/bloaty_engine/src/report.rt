@@ -2,14 +2,12 @@
 
 ghost use Rattle.std.specs.Prelude.{◌≡◌, ◌+◌, None, length, IfSome};
 ghost use Rattle.size_options.specs.Answers.{HasInput, KeepsLimits};
-ghost use Rattle.bloaty_engine.specs.Costs.{CostsAtMost, counting_cost, found_cost, run_cost};
-ghost use Rattle.file_profile.specs.Counts.{filter_test};
-ghost use Rattle.bloaty_engine.specs.FileSteps.{CanCount, ReadsFiles, Tallies};
+ghost use Rattle.bloaty_engine.specs.Costs.{CostsAtMost, run_cost};
+ghost use Rattle.bloaty_engine.specs.FileSteps.{CanCount, CountsTotal};
 ghost use Rattle.run_outcome.specs.Names.{file_names};
-ghost use Rattle.bloaty_engine.specs.Reading.{made_len};
-ghost use Rattle.bloaty_engine.specs.Reports.{EndsCounting, IsReady, MakesReport, ReadsInputs};
+ghost use Rattle.bloaty_engine.specs.Reports.{BeginsReport, Reports, ReportsFiles};
 ghost use Rattle.bloaty_engine.specs.RunSteps.{MakesText};
-ghost use Rattle.bloaty_engine.specs.Steps.{EndsFiles, batch_of};
+ghost use Rattle.bloaty_engine.specs.Steps.{batch_of};
 
 use crate::files::{Tally, count_files, count_made, file_count};
 use crate::growth::growth_report;
@@ -43,17 +41,8 @@ fn total_of<L: Ledger, F: Files>(
         CanCount run.now.limits plan.now.sources batch }
     requires input { HasInput run.now.options.synth run.now.options.files }
     requires none { (tally.old.files ≡ 0) × (tally.old.bytes ≡ 0) }
-    ensures files { let o = run.now.options in
-        let test = filter_test plan.now.filter in
-        ReadsFiles F.Files run.now.limits o
-        (EndsFiles run.now.limits plan.now.sources test (batch_of 0 0 (file_names o)))
-        result files.old files.new }
-    ensures tally { let batch = batch_of 0 0 (file_names run.now.options) in
-        let made = made_len run.now.options.synth in
-        Tallies F.Files run.now.limits batch made result tally.new.files tally.new.bytes
-        files.old files.new }
-    ensures cost { CostsAtMost (counting_cost run.now.limits plan.now.sources run.now.options)
-        (F.gave files.old) (F.gave files.new) tally.old.steps tally.new.steps }
+    ensures { CountsTotal F.Files run.now.limits plan.now run.now.options result
+        files.old files.new tally.old tally.new }
 {
     match run.options.synth {
         Some(n) => count_made(run, plan, n, tally),
@@ -68,14 +57,10 @@ fn report_of_files<L: Ledger, F: Files>(
     files: &mut F,
     tally: &mut Tally<L>,
 ) -> Result<Vec<u8>, Outcome>
-    requires none { (tally.old.files ≡ 0) × (tally.old.bytes ≡ 0) }
-    requires ready { IsReady run.now.options plan.now }
+    requires begins { BeginsReport run.now.options plan.now tally.old }
     requires no_debug { run.now.options.debug ≡ None }
-    ensures inputs { let o = run.now.options in
-        ReadsInputs F.Files run.now.limits o o.bases
-        (λ bytes. EndsCounting run.now.limits plan.now.sources bytes o) result files.old files.new }
-    ensures cost { CostsAtMost (counting_cost run.now.limits plan.now.sources run.now.options)
-        (F.gave files.old) (F.gave files.new) tally.old.steps tally.new.steps }
+    ensures { ReportsFiles F.Files run.now.limits plan.now run.now.options result
+        files.old files.new tally.old tally.new }
 {
     if count_all(&run.options).is_none() {
         return Err(Outcome::NoMemory);
@@ -87,44 +72,22 @@ fn report_of_files<L: Ledger, F: Files>(
     growth_report(run, plan, &total, files, tally)
 }
 
-// The report of the only file with its debug file, or of all files.
-fn report_over_files<L: Ledger, F: Files>(
-    run: &Run,
-    plan: &Plan,
-    files: &mut F,
-    tally: &mut Tally<L>,
-) -> Result<Vec<u8>, Outcome>
-    requires none { (tally.old.files ≡ 0) × (tally.old.bytes ≡ 0) }
-    requires ready { IsReady run.now.options plan.now }
-    requires no_place { run.now.options.place ≡ None }
-    ensures report { MakesReport F.Files run.now.limits plan.now.sources run.now.options
-        result files.old files.new }
-    ensures cost { CostsAtMost (found_cost run.now.limits plan.now.sources run.now.options)
-        (F.gave files.old) (F.gave files.new) tally.old.steps tally.new.steps }
-{
-    match &run.options.debug {
-        Some(debug) => pair_report(run, plan, debug, files, &mut tally.steps),
-        None => report_of_files(run, plan, files, tally),
-    }
-}
-
-// The explanation of a location, or the report of the files, as the options ask.
+// The explanation of a location, the report of the only file with its debug file, or that of all files, as the options
+// ask.
 fn report_of_kind<L: Ledger, F: Files>(
     run: &Run,
     plan: &Plan,
     files: &mut F,
     tally: &mut Tally<L>,
 ) -> Result<Vec<u8>, Outcome>
-    requires none { (tally.old.files ≡ 0) × (tally.old.bytes ≡ 0) }
-    requires ready { IsReady run.now.options plan.now }
-    ensures report { MakesReport F.Files run.now.limits plan.now.sources run.now.options
-        result files.old files.new }
-    ensures cost { CostsAtMost (found_cost run.now.limits plan.now.sources run.now.options)
-        (F.gave files.old) (F.gave files.new) tally.old.steps tally.new.steps }
+    requires { BeginsReport run.now.options plan.now tally.old }
+    ensures { Reports F.Files run.now.limits plan.now run.now.options result
+        files.old files.new tally.old.steps tally.new.steps }
 {
-    match &run.options.place {
-        Some(place) => place_report(run, plan, place, files),
-        None => report_over_files(run, plan, files, tally),
+    match (&run.options.place, &run.options.debug) {
+        (Some(place), _) => place_report(run, plan, place, files),
+        (None, Some(debug)) => pair_report(run, plan, debug, files, &mut tally.steps),
+        (None, None) => report_of_files(run, plan, files, tally),
     }
 }
 

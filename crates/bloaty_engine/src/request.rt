@@ -1,12 +1,7 @@
 //! The input of a run: its options and limits, its configuration, and its plan.
 
-ghost use Rattle.std.specs.Prelude.{◌≡◌, ℕ, List};
-ghost use Rattle.bloaty_engine.specs.Devices.{Reads};
-ghost use Rattle.bloaty_engine.specs.Given.{Gives, config_pairs};
-ghost use Rattle.bloaty_engine.specs.Named.{IsText};
-ghost use Rattle.bloaty_engine.specs.PlanSteps.{MakesPlan};
-ghost use Rattle.bloaty_engine.specs.Reading.{config_reading};
-ghost use Rattle.bloaty_engine.specs.Steps.{EndsConfig};
+ghost use Rattle.std.specs.Prelude.{◌≡◌};
+ghost use Rattle.bloaty_engine.specs.PlanSteps.{MakesPlan, ReadsConfig};
 ghost use Rattle.bloaty_engine.specs.Verdict.{config_limit};
 
 use crate::files::read_file;
@@ -37,12 +32,7 @@ fn config_limit(limits: &Limits) -> u64
 
 /// Reads and parses the configuration, if the options name one, and returns its custom data sources.
 pub fn customs_of<F: Files>(run: &Run, files: &mut F) -> Result<Vec<CustomSource>, Outcome>
-    ensures read { (text : List ℕ) × IsText (F.held files.old) run.now.options.config text
-        × EndsConfig run.now.limits run.now.options.config text result
-        × Gives result (F.gave files.old) (F.gave files.new)
-        (config_pairs run.now.options.config text) }
-    ensures files { let reading = config_reading run.now.limits run.now.options in
-        Reads F.Files reading result files.old files.new }
+    ensures { ReadsConfig F.Files run.now.limits run.now.options result files.old files.new }
 {
     let Some(name) = &run.options.config else {
         return Ok(Vec::new(run.alloc));

@@ -1,3 +1,4 @@
+pub mod Encoding
 pub mod Numbers
 pub mod Reads
 pub mod Spelled

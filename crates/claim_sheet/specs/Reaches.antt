@@ -62,6 +62,11 @@ abbrev pub claim_on_some : Option Reach → List ℕ → List LabelledClaim
 claim_on_some None label = []
 claim_on_some (Some r) label = claim_on r label
 
+-- A label, or the other one if the label is empty.
+abbrev pub or_if_empty : List ℕ → List ℕ → List ℕ
+or_if_empty [] other = other
+or_if_empty (b ∷ label) other = b ∷ label
+
 -- A label as a report shows it: unchanged, in brackets, or as `[section LABEL]`.
 abbrev pub wrapped : Wrap → List ℕ → List ℕ
 wrapped Plain label = label

@@ -5,13 +5,15 @@
 
 mod known;
 mod labels;
+mod loads;
 mod push;
 mod reach;
 mod sheet;
 mod stop;
 
 pub use known::KnownLabel;
-pub use labels::{Wrap, append};
+pub use labels::{Wrap, append, or_if_empty};
+pub use loads::push_load;
 pub use reach::{Reach, span};
 pub use sheet::{ClaimSheet, TooMany};
 pub use stop::Stop;

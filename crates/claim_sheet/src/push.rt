@@ -5,7 +5,7 @@ ghost use Rattle.size_core.specs.Labels.{with_label};
 ghost use Rattle.claim_sheet.specs.Made.{AreNumbered, AreUsed, KeepsLabels, texts};
 ghost use Rattle.claim_sheet.specs.Reaches.{claim_of, wrapped};
 
-use crate::labels::Wrap;
+use crate::labels::{SourceLabel, Wrap};
 use crate::reach::Reach;
 use size_core::{Claim, LabelPool, NoMemory};
 use std::alloc::Global;
@@ -59,18 +59,18 @@ pub fn push(
     Ok(())
 }
 
-/// Pushes the claim with its label written as `wrap` says. A plain label is copied only if it is new in the pool.
+/// Pushes the claim with its label as a report writes it. A plain label is copied only if it is new in the pool.
 pub fn push_wrapped(
     alloc: Global,
     pool: &mut LabelPool,
     claims: &mut Vec<Claim>,
     reach: Reach,
-    wrap: Wrap,
-    label: &[u8],
+    label: SourceLabel<'_>,
 ) -> Result<(), NoMemory>
     requires numbered { AreNumbered pool.old claims.old.items }
     ensures made { OnOk result (texts pool.new claims.new.items
-        ≡ texts pool.old claims.old.items ++ claim_of reach (wrapped wrap label.now) ∷ []) }
+        ≡ texts pool.old claims.old.items
+        ++ claim_of reach (wrapped label.entry.wrap label.entry.text.now) ∷ []) }
     ensures few { length claims.new.items ≤ length claims.old.items + 1 }
     ensures numbered { AreNumbered pool.new claims.new.items }
     ensures used { (first : ℕ) → AreUsed first pool.old claims.old.items
@@ -79,10 +79,10 @@ pub fn push_wrapped(
     ensures same_claims { OnErr result (claims.new.items ≡ claims.old.items) }
     ensures same_pool { OnErr result (pool.new ≡ pool.old) }
 {
-    match wrap {
-        Wrap::Plain => push(pool, claims, reach, label),
+    match label.wrap {
+        Wrap::Plain => push(pool, claims, reach, label.text),
         _ => {
-            let text = wrap.text(alloc, label)?;
+            let text = label.wrap.text(alloc, label.text)?;
             push(pool, claims, reach, &text)
         }
     }

@@ -8,7 +8,7 @@ ghost use Rattle.claim_sheet.specs.Made.{AreNumbered, AreUsed, KeepsLabels, text
 ghost use Rattle.claim_sheet.specs.Reaches.{claim_of, claim_on, claim_on_some, wrapped};
 ghost use Rattle.claim_sheet.specs.Sheets.{fresh, fresh_on_addresses, is_taken};
 
-use crate::labels::Wrap;
+use crate::labels::{SourceLabel, Wrap};
 use crate::push::push_wrapped;
 use crate::reach::Reach;
 use size_core::{Claim, LabelPool, NoMemory, Side};
@@ -105,14 +105,8 @@ impl ClaimSheet {
             self.over = true;
             return Ok(());
         }
-        push_wrapped(
-            self.alloc,
-            &mut self.pool,
-            &mut self.claims,
-            reach,
-            wrap,
-            label,
-        )
+        let label = SourceLabel { text: label, wrap };
+        push_wrapped(self.alloc, &mut self.pool, &mut self.claims, reach, label)
     }
 
     /// Adds a claim if there is something to cover.

@@ -10,7 +10,7 @@ use thiserror::Error;
 #[derive(Clone, Copy, Debug, PartialEq, Eq, Error)]
 pub enum Stop {
     /// The first fault of the records that were read.
-    #[error("bad file")]
+    #[error("{0}")]
     Bad(BadFile),
     /// Out of memory.
     #[error("out of memory")]

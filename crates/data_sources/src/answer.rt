@@ -12,7 +12,7 @@ use thiserror::Error;
 #[derive(Clone, Copy, Debug, PartialEq, Eq, Error)]
 pub enum ClaimAnswer {
     /// The first fault of the records that the data source reads.
-    #[error("bad file")]
+    #[error("{0}")]
     Bad(BadFile),
     /// The data source makes more claims than the limit.
     #[error("too many claims")]

@@ -8,13 +8,13 @@ use Rattle.size_core.specs.Checks.{◌>>=◌, ◌>>◌, Check}
 use Rattle.byte_cursor.specs.declared.order.Order.{Order}
 use Rattle.byte_cursor.specs.declared.order.Order.TheVariants.{Little}
 use Rattle.byte_cursor.specs.Numbers.{leb, uleb, signed, field}
-use Rattle.byte_cursor.specs.Reads.{whole, unsigned_value, signed_value, leb_len}
+use Rattle.byte_cursor.specs.Reads.{sub_window, whole, unsigned_value, signed_value, leb_len}
 use Rattle.byte_cursor.specs.Window.{Window, place_of, moved}
 use Rattle.std.specs.Int.{Width, byte_len, w8, w32, w64}
 use Rattle.dwarf_abbrev.specs.declared.constants.TheConstants.{DW_FORM_IMPLICIT_CONST, WIDE_LENGTH}
 use Rattle.dwarf_abbrev.specs.declared.declaration.Head.{Head}
 use Rattle.dwarf_abbrev.specs.Reads.{uleb_from, sleb_from, byte_from, num_from, faults_at}
-use Rattle.dwarf_abbrev.specs.Lengths.{checked_length, initial_length_from, rest_of_length}
+use Rattle.dwarf_abbrev.specs.Lengths.{checked_length, contents_from, initial_length_from, rest_of_length}
 use Rattle.dwarf_abbrev.specs.Listing.{left, listing_from, going_on, Shortens}
 use Rattle.dwarf_abbrev.specs.Declarations.{constant_from, is_end, rest_of_spec, spec_from, specs_from, rest_of_head, head_from, Declaration, rest_of_declaration, declaration_from, declarations_from}
 
@@ -31,7 +31,7 @@ pub read_below : {A : Type 0} (n : ℕ) (r : Result A BadFile) (next : Window) �
 read_below n (Ok x) next h = h
 read_below n (Err e) next h = tt
 
-if_below : {A : Type 0} (n : ℕ) (b : Bool) (r s : Result (A × Window) BadFile) → Below n r → Below n s → Below n (if b then r else s)
+pub if_below : {A : Type 0} (n : ℕ) (b : Bool) (r s : Result (A × Window) BadFile) → Below n r → Below n s → Below n (if b then r else s)
 if_below n true r s h k = h
 if_below n false r s h k = k
 
@@ -103,7 +103,7 @@ unfolding rest_of_spec
 rest_of_spec_below attribute form w = if_below (suc (left w)) (is_end attribute form) (Ok (None, w)) _ (omega arith)
     (bind_below (suc (left w)) (suc (left w)) (constant_from form w) _ (constant_below form w) (λ c lt. lt))
 
-weaker : {X : Type 0} (m n : ℕ) (r : Result (X × Window) BadFile) → m ≤ n → Below m r → Below n r
+pub weaker : {X : Type 0} (m n : ℕ) (r : Result (X × Window) BadFile) → m ≤ n → Below m r → Below n r
 weaker m n (Ok x) le h = let lt : left x.1 < m = h in omega arith
 weaker m n (Err e) le h = tt
 
@@ -231,3 +231,8 @@ unfolding initial_length_from checked_length
 length_below order w = placed_below (left w) (place_of w) _ (bind_below (left w) (left w) (num_from w32 order w) _ (num_below w32 order w (omega arith)) (λ first fewer.
     check_below (left w) _ _ (bind_below (suc (left first.1)) (left w) (rest_of_length order first) _ (rest_of_length_below order first) (λ initial less.
     let shorter : left initial.1 < left w = omega arith in check_below (left w) _ (Ok initial) shorter))))
+
+-- Contents may be empty.
+pub contents_below : (len : ℕ) (w : Window) → Below (suc (left w)) (contents_from len w)
+unfolding contents_from
+contents_below len w = read_below (suc (left w)) (sub_window w w.at len) (moved w true len) (omega arith)

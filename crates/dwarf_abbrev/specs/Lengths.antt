@@ -5,7 +5,8 @@ use Rattle.size_core.specs.declared.fault.BadFile.{BadFile}
 use Rattle.size_core.specs.declared.fault.Fault.TheVariants.{BadUnit}
 use Rattle.size_core.specs.Checks.{◌>>=◌, ◌>>◌, demand}
 use Rattle.byte_cursor.specs.declared.order.Order.{Order}
-use Rattle.byte_cursor.specs.Window.{Window, place_of}
+use Rattle.byte_cursor.specs.Reads.{sub_window}
+use Rattle.byte_cursor.specs.Window.{Window, place_of, moved}
 use Rattle.dwarf_abbrev.specs.declared.constants.TheConstants.{FIRST_RESERVED_LENGTH, WIDE_LENGTH}
 use Rattle.dwarf_abbrev.specs.declared.length.InitialLength.{InitialLength}
 use Rattle.dwarf_abbrev.specs.Reads.{num_from, faults_at}
@@ -35,3 +36,11 @@ checked_length order w = do
 -- (DWARF 5, section 7.4).
 unfoldable pub initial_length_from : Order → Window → Result (InitialLength × Window) BadFile
 initial_length_from order w = faults_at (place_of w) (checked_length order w)
+
+-- The size of an initial length in bytes (DWARF 5, section 7.4).
+abbrev pub length_len : Bool → ℕ
+length_len wide = if wide then 12 else 4
+
+-- The next len bytes as a window of their own, and the window after them.
+unfoldable pub contents_from : ℕ → Window → Result (Window × Window) BadFile
+contents_from len w = sub_window w w.at len >>= λ contents. Ok (contents, moved w true len)

@@ -4,4 +4,5 @@ pub mod Laws
 pub mod Lengths
 pub mod Listing
 pub mod Reads
+pub mod Shapes
 pub mod Values

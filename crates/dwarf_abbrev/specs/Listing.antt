@@ -1,8 +1,8 @@
 -- Lists of records in a window that have no count before them.
-use Rattle.std.specs.Prelude.{◌≡◌, ℕ, zero, suc, ◌-◌, ◌<◌, List, [], ◌∷◌, length, Option, Some, None, Result, Ok, Err}
+use Rattle.std.specs.Prelude.{◌≡◌, ℕ, zero, suc, ◌-◌, ◌<◌, ◌==◌, List, [], ◌∷◌, ◌++◌, length, Option, Some, None, Result, Ok, Err, if◌then◌else◌}
 use Rattle.size_core.specs.declared.fault.BadFile.{BadFile}
 use Rattle.size_core.specs.declared.fault.Fault.TheVariants.{Truncated}
-use Rattle.size_core.specs.Checks.{bad}
+use Rattle.size_core.specs.Checks.{◌>>=◌, bad}
 use Rattle.byte_cursor.specs.Window.{Window, place_of}
 
 -- The number of bytes of a window that remain.
@@ -41,3 +41,31 @@ Shortens {X} read = (w next : Window) (i : X) → read w ≡ Ok (Some i, next) �
 abbrev pub Reaches : {U X : Type 0} → Result U BadFile → Window → Listing X → Type 0
 Reaches (Ok u) new records = records.end ≡ Ok new
 Reaches (Err e) new records = records.end ≡ Err e
+
+-- A read of a record, or the end of the window.
+unfoldable pub up_to_end : {X : Type 0} → (Window → Result (X × Window) BadFile) → Window → Result (Option X × Window) BadFile
+up_to_end read w = if left w == 0 then Ok (None, w) else read w >>= (λ x. Ok (Some x.0, x.1))
+
+-- The records of these that aren't skipped.
+unfoldable pub handed_out : {X : Type 0} → List (Option X) → List (Result X BadFile)
+handed_out [] = []
+handed_out (None ∷ records) = handed_out records
+handed_out (Some x ∷ records) = Ok x ∷ handed_out records
+
+-- The fault that ends a list, if one does.
+abbrev pub last_fault : {X : Type 0} → Result Window BadFile → List (Result X BadFile)
+last_fault (Ok next) = []
+last_fault (Err e) = Err e ∷ []
+
+-- The records of a window up to its end, without those that are skipped, and then the fault. `read` reads one record, or
+-- none if the record is skipped.
+unfoldable pub records_in : {X : Type 0} → (Window → Result (Option X × Window) BadFile) → Window → List (Result X BadFile)
+records_in read w = handed_out (listing (up_to_end read) w).items ++ last_fault (listing (up_to_end read) w).end
+
+-- The records of a window are its first record and then those of the rest of the window. A record that is skipped isn't
+-- among them. A fault is the last item, and at the end of the window there is none.
+pub record RecordsFollow (X : Type 0) (read : Window → Result (Option X × Window) BadFile) (all : Window → List (Result X BadFile)) : Type 0 where
+  pub more : (w next : Window) (x : X) → 0 < left w → read w ≡ Ok (Some x, next) → all w ≡ Ok x ∷ all next
+  pub skipped : (w next : Window) → 0 < left w → read w ≡ Ok (None, next) → all w ≡ all next
+  pub fault : (w : Window) (e : BadFile) → 0 < left w → read w ≡ Err e → all w ≡ Err e ∷ []
+  pub done : (w : Window) → left w ≡ 0 → all w ≡ []

@@ -11,14 +11,18 @@ use Rattle.byte_cursor.specs.Window.{Window, place_of, moved}
 use Rattle.dwarf_abbrev.specs.declared.form.Digits.{Digits}
 use Rattle.dwarf_abbrev.specs.declared.form.Digits.TheVariants.{One, Two, Three, Four, Eight, Uleb}
 
+-- What is read in a window, and the window after it.
+abbrev pub Reading : Type 0 → Type 0
+Reading X = Result (X × Window) BadFile
+
 -- A call returned what was read, seen through view, and moved to the window after it; or it returned the fault.
-abbrev pub Reads : {X Y : Type 0} → (X → Y) → Result X BadFile → Window → Result (Y × Window) BadFile → Type 0
+abbrev pub Reads : {X Y : Type 0} → (X → Y) → Result X BadFile → Window → Reading Y → Type 0
 Reads view (Ok x) new reading = reading ≡ Ok (view x, new)
 Reads view (Err e) new reading = reading ≡ Err e
 
 -- A call returned what was read, seen through view, and moved to the window after it; or it returned the fault,
 -- and the window is unchanged.
-abbrev pub Takes : {X Y : Type 0} → (X → Y) → Result X BadFile → Window → Window → Result (Y × Window) BadFile → Type 0
+abbrev pub Takes : {X Y : Type 0} → (X → Y) → Result X BadFile → Window → Window → Reading Y → Type 0
 Takes view (Ok x) old new reading = reading ≡ Ok (view x, new)
 Takes view (Err e) old new reading = (reading ≡ Err e) × (new ≡ old)
 
@@ -75,6 +79,10 @@ number_from order Uleb w = uleb_from w
 -- and 7.4).
 abbrev pub offset_digits : Bool → Digits
 offset_digits wide = if wide then Eight else Four
+
+-- The size of an offset in bytes (DWARF 5, sections 7.3 and 7.4).
+abbrev pub offset_size : Bool → ℕ
+offset_size wide = if wide then 8 else 4
 
 -- The encoding of an address: two or four bytes by its size, and eight for any other size (DWARF 5, sections
 -- 7.3 and 7.4).

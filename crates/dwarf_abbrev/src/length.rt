@@ -3,7 +3,7 @@
 ghost use Rattle.std.specs.Prelude.{◌≡◌};
 ghost use Rattle.size_core.specs.Checks.{bad};
 ghost use Rattle.size_core.specs.declared.fault.Fault.TheVariants.{BadUnit};
-ghost use Rattle.dwarf_abbrev.specs.Lengths.{checked_length, initial_length_from, is_reserved, rest_of_length};
+ghost use Rattle.dwarf_abbrev.specs.Lengths.{checked_length, contents_from, initial_length_from, is_reserved, length_len, rest_of_length};
 ghost use Rattle.dwarf_abbrev.specs.Reads.{Reads, Takes};
 
 use crate::constants::{FIRST_RESERVED_LENGTH, WIDE_LENGTH};
@@ -87,4 +87,19 @@ pub fn initial_length(cursor: &mut Cursor, order: Order) -> Result<InitialLength
             offset: place,
         }),
     }
+}
+
+/// The size of an initial length in bytes.
+pub fn length_len(wide: bool) -> u64
+    ensures { result ≡ length_len wide }
+{
+    if wide { 12 } else { 4 }
+}
+
+/// The next `len` bytes as a window of their own. The cursor moves past them. Truncated if fewer are left.
+#[tactic(auto, unfolding(crate::specs::Lengths::contents_from))]
+pub fn contents_from<'a>(cursor: &mut Cursor<'a>, len: u64) -> Result<Cursor<'a>, BadFile>
+    ensures { Takes (λ x. x) result cursor.old cursor.new (contents_from len cursor.old) }
+{
+    cursor.take(len)
 }

@@ -4,7 +4,7 @@
 ghost use Rattle.std.specs.Int.{w16, w32, w64};
 ghost use Rattle.std.specs.Prelude.{◌≡◌, ◌+◌, ◌*◌};
 ghost use Rattle.byte_cursor.specs.declared.order.Order.TheVariants.{Little};
-ghost use Rattle.dwarf_abbrev.specs.Reads.{Takes, Reads, byte_from, num_from, uleb_from, sleb_from, text_from, skip_from, three_from, number_from, offset_from, address_from, inside};
+ghost use Rattle.dwarf_abbrev.specs.Reads.{Takes, Reads, byte_from, num_from, uleb_from, sleb_from, text_from, skip_from, three_from, number_from, offset_from, offset_size, address_from, inside};
 
 use crate::form::{Digits, address_digits, offset_digits};
 use byte_cursor::{Cursor, Order};
@@ -130,6 +130,13 @@ pub fn offset_from(cursor: &mut Cursor, order: Order, wide: bool) -> Result<u64,
     ensures { Takes (λ n. n) result cursor.old cursor.new (offset_from order wide cursor.old) }
 {
     number_from(cursor, order, offset_digits(wide))
+}
+
+/// The size of an offset in bytes: 8 in the 64-bit format, 4 in the 32-bit format.
+pub fn offset_size(wide: bool) -> u8
+    ensures { result ≡ offset_size wide }
+{
+    if wide { 8 } else { 4 }
 }
 
 /// Reads an address of 2, 4 or 8 bytes. A `size` other than 2 and 4 is read as 8. Truncated if fewer bytes

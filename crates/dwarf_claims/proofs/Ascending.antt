@@ -4,48 +4,25 @@ use Rattle.std.specs.Prelude.{length, nat_le, nat_lt, not, if◌then◌else◌}
 use Rattle.std.specs.Int.{Width, byte_len, w16, w32, w64}
 use Rattle.size_core.specs.declared.fault.BadFile.{BadFile}
 use Rattle.size_core.specs.declared.fault.Fault.TheVariants.{BadUnit}
-use Rattle.size_core.specs.Checks.{◌>>=◌, ◌>>◌, Check, demand}
+use Rattle.size_core.specs.Checks.{◌>>=◌, ◌>>◌, demand}
 use Rattle.byte_cursor.specs.declared.order.Order.{Order}
 use Rattle.byte_cursor.specs.Numbers.{num}
 use Rattle.byte_cursor.specs.Reads.{sub_window, whole}
 use Rattle.byte_cursor.specs.Window.{Window, place_of, moved}
 use Rattle.dwarf_abbrev.specs.declared.constants.TheConstants.{WIDE_LENGTH}
 use Rattle.dwarf_abbrev.specs.declared.length.InitialLength.{InitialLength}
-use Rattle.dwarf_abbrev.specs.Lengths.{checked_length, initial_length_from, is_reserved, rest_of_length}
-use Rattle.dwarf_abbrev.specs.Listing.{going_on, left, listing, listing_from}
-use Rattle.dwarf_abbrev.specs.Reads.{faults_at, num_from}
+use Rattle.dwarf_abbrev.specs.Lengths.{checked_length, contents_from, initial_length_from, is_reserved, rest_of_length}
+use Rattle.dwarf_abbrev.specs.Listing.{going_on, handed_out, last_fault, left, listing, listing_from, records_in, up_to_end}
+use Rattle.dwarf_abbrev.specs.Reads.{num_from}
+use Rattle.dwarf_abbrev.specs.Shapes.{is_address_size, is_version}
+use Rattle.dwarf_abbrev.proofs.Every.{Every, after_check_every, bind_every, bind_some, faults_every}
 use Rattle.dwarf_units.specs.declared.header.Header.{Header}
 use Rattle.dwarf_units.specs.declared.sections.Sections.{Sections}
 use Rattle.dwarf_units.specs.declared.unit.DwarfUnit.{DwarfUnit}
 use Rattle.dwarf_units.specs.declared.unit.Position.{Position}
-use Rattle.dwarf_units.specs.Units.{contents_from, handed_out, header_from, headed, is_address_size, is_version, last_fault, or_bad_unit, position_of, record_from, unit_from, unit_in, unit_of, units_from, units_of, versioned}
+use Rattle.dwarf_units.specs.Units.{header_from, headed, or_bad_unit, position_of, unit_from, unit_in, unit_of, units_from, units_of, versioned}
 use Rattle.dwarf_claims.specs.SetClaims.{labels_of}
 use Rattle.dwarf_claims.specs.Tables.{Ascends}
-
--- a value that is read has a property
-Every : {X : Type 0} → (X → Type 0) → Result X BadFile → Type 0
-Every P (Ok x) = P x
-Every P (Err e) = Unit {0}
-
-bind_every : {A B : Type 0} (P : B → Type 0) (r : Result A BadFile) (f : A → Result B BadFile) → ((x : A) → Every P (f x)) → Every P (r >>= f)
-unfolding Every
-bind_every P (Ok x) f h = h x
-bind_every P (Err e) f h = tt
-
-bind_some : {A B : Type 0} (Q : A → Type 0) (P : B → Type 0) (r : Result A BadFile) (f : A → Result B BadFile) → Every Q r → ((x : A) → Q x → Every P (f x)) → Every P (r >>= f)
-unfolding Every
-bind_some Q P (Ok x) f q h = h x q
-bind_some Q P (Err e) f q h = tt
-
-after_check_every : {B : Type 0} (P : B → Type 0) (c : Check) (r : Result B BadFile) → Every P r → Every P (c >> r)
-unfolding Every
-after_check_every P (Ok x) r h = h
-after_check_every P (Err e) r h = tt
-
-faults_every : {X : Type 0} (P : X → Type 0) (place : ℕ) (r : Result X BadFile) → Every P r → Every P (faults_at place r)
-unfolding Every
-faults_every P place (Ok x) h = h
-faults_every P place (Err e) h = tt
 
 -- a value that is read ends after a file offset
 abbrev IsPast : (X : Type 0) → ℕ → X × Window → Type 0
@@ -118,8 +95,8 @@ IsNextRecord start w (Some u, next) = IsNext start w (u, next)
 abbrev at_end : Window → Result (Option (Option DwarfUnit) × Window) BadFile
 at_end w = Ok (None, w)
 
-record_next : (order : Order) (start : ℕ) (w : Window) → Every (IsNextRecord start w) (record_from order start w)
-unfolding record_from Every
+record_next : (order : Order) (start : ℕ) (w : Window) → Every (IsNextRecord start w) (up_to_end (unit_from order start) w)
+unfolding up_to_end Every
 record_next order start w = by_end (left w == 0)
   where
     by_end : (b : Bool) → Every (IsNextRecord start w) (if b then at_end w else unit_from order start w >>= (λ unit. Ok (Some unit.0, unit.1)))
@@ -137,17 +114,17 @@ earlier m n [] le up = tt
 earlier m n (None ∷ us) le up = earlier m n us le up
 earlier m n (Some u ∷ us) le up = (omega (arith, up.0), up.1)
 
-items_ascend : (order : Order) (start fuel : ℕ) (w : Window) → start ≤ place_of w → ItemsAscend (place_of w - start) (listing_from (record_from order start) fuel w).items
+items_ascend : (order : Order) (start fuel : ℕ) (w : Window) → start ≤ place_of w → ItemsAscend (place_of w - start) (listing_from (up_to_end (unit_from order start)) fuel w).items
 unfolding listing_from Every
 items_ascend order start zero w le = tt
-items_ascend order start (suc fuel) w le = by_record (λ next past. items_ascend order start fuel next (omega (arith, le, past))) (record_from order start w) (record_next order start w)
+items_ascend order start (suc fuel) w le = by_record (λ next past. items_ascend order start fuel next (omega (arith, le, past))) (up_to_end (unit_from order start) w) (record_next order start w)
   where
-    by_record : ((next : Window) → place_of w < place_of next → ItemsAscend (place_of next - start) (listing_from (record_from order start) fuel next).items)
-        → (r : Result (Option (Option DwarfUnit) × Window) BadFile) → Every (IsNextRecord start w) r → ItemsAscend (place_of w - start) (going_on r (listing_from (record_from order start) fuel)).items
+    by_record : ((next : Window) → place_of w < place_of next → ItemsAscend (place_of next - start) (listing_from (up_to_end (unit_from order start)) fuel next).items)
+        → (r : Result (Option (Option DwarfUnit) × Window) BadFile) → Every (IsNextRecord start w) r → ItemsAscend (place_of w - start) (going_on r (listing_from (up_to_end (unit_from order start)) fuel)).items
     by_record rest (Err e) is = tt
     by_record rest (Ok (None, next)) is = tt
-    by_record rest (Ok (Some None, next)) is = earlier (place_of w - start) (place_of next - start) (listing_from (record_from order start) fuel next).items (omega (arith, is.1)) (rest next is.1)
-    by_record rest (Ok (Some (Some u), next)) is = (omega (arith, is.0), earlier (u.offset + 1) (place_of next - start) (listing_from (record_from order start) fuel next).items (omega (arith, is.0, is.1, le)) (rest next is.1))
+    by_record rest (Ok (Some None, next)) is = earlier (place_of w - start) (place_of next - start) (listing_from (up_to_end (unit_from order start)) fuel next).items (omega (arith, is.1)) (rest next is.1)
+    by_record rest (Ok (Some (Some u), next)) is = (omega (arith, is.0), earlier (u.offset + 1) (place_of next - start) (listing_from (up_to_end (unit_from order start)) fuel next).items (omega (arith, is.0, is.1, le)) (rest next is.1))
 
 handed_ascend : (s : Sections) (n : ℕ) (us : List (Option DwarfUnit)) (end : Result Window BadFile) → ItemsAscend n us → Ascends n (labels_of s (handed_out us ++ last_fault end))
 unfolding handed_out
@@ -157,6 +134,6 @@ handed_ascend s n (None ∷ us) end up = handed_ascend s n us end up
 handed_ascend s n (Some u ∷ us) end up = (up.0, handed_ascend s (u.offset + 1) us end up.1)
 
 pub labels_ascend : (s : Sections) → Ascends 0 (labels_of s (units_of s))
-unfolding units_from
-labels_ascend s = let units = listing (record_from s.order (place_of s.info)) s.info in
+unfolding units_from records_in
+labels_ascend s = let units = listing (up_to_end (unit_from s.order (place_of s.info))) s.info in
     handed_ascend s 0 units.items units.end (earlier 0 (place_of s.info - place_of s.info) units.items (omega arith) (items_ascend s.order (place_of s.info) (suc (left s.info)) s.info (omega arith)))

@@ -6,7 +6,7 @@ use Rattle.claim_sheet.specs.Known.{IsKnownBy}
 use Rattle.claim_sheet.specs.Sheets.{Sheet, adding}
 use Rattle.claim_sheet.proofs.KnownLemmas.{known_after}
 use Rattle.dwarf_lines.specs.declared.registers.LineRow.{LineRow}
-use Rattle.dwarf_lines.specs.Header.{LineHeader}
+use Rattle.dwarf_line_header.specs.Header.{LineHeader}
 use Rattle.dwarf_claims.specs.declared.known_rows.KnownRow.{KnownRow}
 use Rattle.dwarf_claims.specs.LineClaims.{row_label}
 use Rattle.dwarf_claims.specs.RowSteps.{AreKnownRows, IsKnownRow, label_by}

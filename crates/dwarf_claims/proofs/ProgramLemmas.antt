@@ -8,7 +8,7 @@ use Rattle.claim_sheet.specs.Sheets.{Sheet, adding, adding_read}
 use Rattle.claim_sheet.proofs.KnownLemmas.{added_after, added_now}
 use Rattle.dwarf_abbrev.specs.declared.shape.UnitShape.{UnitShape}
 use Rattle.dwarf_abbrev.specs.Reads.{inside}
-use Rattle.dwarf_lines.specs.Programs.{program_in}
+use Rattle.dwarf_line_header.specs.Programs.{program_in}
 use Rattle.dwarf_lines.specs.Rows.{line_rows}
 use Rattle.dwarf_units.specs.declared.sections.Sections.{Sections}
 use Rattle.dwarf_units.specs.Roots.{RootRecord}

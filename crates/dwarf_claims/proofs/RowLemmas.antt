@@ -11,7 +11,7 @@ use Rattle.claim_sheet.specs.Sheets.{Sheet, adding, adding_read}
 use Rattle.claim_sheet.proofs.LoopLemmas.{read_joined}
 use Rattle.claim_sheet.proofs.SheetLemmas.{adding_none}
 use Rattle.dwarf_lines.specs.declared.registers.LineRow.{LineRow}
-use Rattle.dwarf_lines.specs.Header.{LineHeader}
+use Rattle.dwarf_line_header.specs.Header.{LineHeader}
 use Rattle.dwarf_ranges.specs.Claims.{claims_nothing}
 use Rattle.dwarf_claims.specs.declared.row.Before.{Before}
 use Rattle.dwarf_claims.specs.LineClaims.{in_front, pair_claim, pair_claims, rows_claims, sequence_claims, sequences_of, whole_rows}

@@ -8,16 +8,17 @@ use Rattle.claim_sheet.specs.Reaches.{claim_on, in_memory, span}
 use Rattle.claim_sheet.specs.Read.{read_list}
 use Rattle.dwarf_abbrev.specs.declared.shape.UnitShape.{UnitShape}
 use Rattle.dwarf_lines.specs.declared.registers.LineRow.{LineRow}
-use Rattle.dwarf_lines.specs.Header.{LineHeader}
+use Rattle.dwarf_line_header.specs.Header.{LineHeader}
+use Rattle.dwarf_line_header.specs.UnitPrograms.{unit_program}
 use Rattle.dwarf_lines.specs.Paths.{path_of}
-use Rattle.dwarf_lines.specs.Programs.{program_at}
+use Rattle.dwarf_line_header.specs.Programs.{program_at}
 use Rattle.dwarf_lines.specs.Rows.{line_rows}
 use Rattle.dwarf_ranges.specs.Claims.{claims_nothing}
 use Rattle.dwarf_units.specs.declared.sections.Sections.{Sections}
 use Rattle.dwarf_units.specs.declared.unit.DwarfUnit.{DwarfUnit}
 use Rattle.dwarf_units.specs.Roots.{RootRecord, root_of}
 use Rattle.dwarf_units.specs.Units.{units_of}
-use Rattle.dwarf_claims.specs.UnitClaims.{Reading, program_of}
+use Rattle.dwarf_claims.specs.UnitClaims.{Reading}
 
 -- The label of a row: the path of its file, a colon and its line (DWARF 5, section 6.2.2).
 unfoldable pub row_label : LineHeader → LineRow → List ℕ
@@ -75,7 +76,7 @@ program_claims s root (Some p) = reading_at s root.shape p.0 p.1
 
 -- The claims of the lines of a unit, or the first fault (DWARF 5, section 6.2).
 unfoldable pub line_claims : Sections → DwarfUnit → Reading
-line_claims s unit = root_of s unit >>= λ root. program_claims s root (program_of root)
+line_claims s unit = root_of s unit >>= λ root. program_claims s root (unit_program root)
 
 -- The claims of the lines of an item of the list of units: a unit, or the fault that ends the list (DWARF 5, section
 -- 6.2).

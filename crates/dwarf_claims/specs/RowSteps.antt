@@ -5,7 +5,7 @@ use Rattle.size_model.specs.declared.view.LabelledClaim.{LabelledClaim}
 use Rattle.claim_sheet.specs.Known.{IsKnownBy}
 use Rattle.claim_sheet.specs.Read.{joined}
 use Rattle.dwarf_lines.specs.declared.registers.LineRow.{LineRow}
-use Rattle.dwarf_lines.specs.Header.{LineHeader}
+use Rattle.dwarf_line_header.specs.Header.{LineHeader}
 use Rattle.dwarf_lines.specs.Paths.{path_of}
 use Rattle.dwarf_ranges.specs.Claims.{claims_nothing}
 use Rattle.dwarf_claims.specs.declared.row.Before.{Before}

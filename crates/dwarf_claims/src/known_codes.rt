@@ -48,14 +48,6 @@ fn one_code(alloc: Global, table: &Abbrevs<'_>, code: u64) -> Result<KnownCodes,
     Ok(KnownCodes::One(KnownCode { code, specs }))
 }
 
-// Returns the index of a table.
-fn all_codes(alloc: Global, table: &Abbrevs<'_>) -> Result<KnownCodes, NoMemory>
-    ensures { IfOk result (IsKnownOf table.now.declarations) }
-{
-    let index = index_of(alloc, table)?;
-    Ok(KnownCodes::Index(index))
-}
-
 impl KnownCodes {
     /// Returns whether the declaration of this code is known.
     pub fn has(&self, code: u64) -> bool
@@ -80,7 +72,7 @@ impl KnownCodes {
     {
         match self {
             KnownCodes::Nothing => one_code(alloc, table, code),
-            _ => all_codes(alloc, table),
+            _ => Ok(KnownCodes::Index(index_of(alloc, table)?)),
         }
     }
 }

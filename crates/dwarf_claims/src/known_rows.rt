@@ -4,7 +4,7 @@
 ghost use Rattle.std.specs.Prelude.{List, IfOk};
 ghost use Rattle.size_model.specs.declared.view.LabelledClaim.{LabelledClaim};
 ghost use Rattle.claim_sheet.specs.Known.{IsKnownBy};
-ghost use Rattle.dwarf_lines.specs.Header.{LineHeader};
+ghost use Rattle.dwarf_line_header.specs.Header.{LineHeader};
 ghost use Rattle.dwarf_claims.specs.LineClaims.{row_label};
 ghost use Rattle.dwarf_claims.specs.RowSteps.{AreKnownRows};
 

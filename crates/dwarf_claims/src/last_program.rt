@@ -6,14 +6,14 @@ ghost use Rattle.size_model.specs.declared.view.LabelledClaim.{LabelledClaim};
 ghost use Rattle.claim_sheet.specs.Adds.{AddsRead};
 ghost use Rattle.claim_sheet.specs.Known.{AreAdded};
 ghost use Rattle.dwarf_units.specs.Roots.{shown_root};
+ghost use Rattle.dwarf_line_header.specs.UnitPrograms.{unit_program};
 ghost use Rattle.dwarf_claims.specs.LineClaims.{program_claims, reading_at};
 ghost use Rattle.dwarf_claims.specs.Tables.{IsProgramOf};
-ghost use Rattle.dwarf_claims.specs.UnitClaims.{program_of};
 
-use crate::program::program_of;
 use crate::row::add_rows;
 use claim_sheet::{ClaimSheet, Stop};
 use dwarf_abbrev::UnitShape;
+use dwarf_line_header::unit_program;
 use dwarf_lines::LineProgram;
 use dwarf_units::{Root, Sections};
 use std::alloc::Global;
@@ -68,10 +68,10 @@ pub fn add_program(
 ) -> Result<(), Stop>
     requires { IsProgramOf sections.now sheet.old last.old }
     ensures adds { AddsRead result sheet.old sheet.new
-        (program_claims sections.now (shown_root root.now) (program_of (shown_root root.now))) }
+        (program_claims sections.now (shown_root root.now) (unit_program (shown_root root.now))) }
     ensures program { OnOk result (IsProgramOf sections.now sheet.new last.new) }
 {
-    let Some(named) = program_of(root) else {
+    let Some(named) = unit_program(root) else {
         return Ok(());
     };
     if let Some(known) = last

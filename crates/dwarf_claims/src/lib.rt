@@ -11,7 +11,6 @@ mod last_label;
 mod last_program;
 mod last_ranges;
 mod lines;
-mod program;
 mod row;
 mod row_label;
 mod row_labels;

@@ -22,6 +22,13 @@ pub struct Before {
     pub claims: bool,
 }
 
+// A line program, and the size of an address in its unit.
+#[derive(Clone, Copy)]
+struct UnitProgram<'p, 'a> {
+    program: &'p LineProgram<'a>,
+    size: u8,
+}
+
 fn is_claimed(size: u8, before: Option<Before>, row: &LineRow) -> bool
     ensures { result ≡ makes_claims size before row.now }
 {
@@ -82,24 +89,23 @@ fn add_before(
 
 // Adds the claim of the previous row, which ends at this row, and returns the previous row of the next row.
 fn add_row(
-    program: &LineProgram<'_>,
-    size: u8,
+    unit: UnitProgram<'_, '_>,
     before: Option<Before>,
     row: Result<LineRow, BadFile>,
     labels: &mut RowLabels,
     sheet: &mut ClaimSheet,
 ) -> Result<Option<Before>, Stop>
-    requires { AreRowLabels sheet.old.made program.now labels.old }
+    requires { AreRowLabels sheet.old.made unit.program.now labels.old }
     ensures made { IfOk result (λ next. IsOkAnd row (λ r.
-        (sheet.new ≡ adding sheet.old (claim_before program.now before r))
-        × (next ≡ previous_of_next size before r))) }
+        (sheet.new ≡ adding sheet.old (claim_before unit.entry.program.now before r))
+        × (next ≡ previous_of_next unit.entry.size before r))) }
     ensures bad { (bad : BadFileSpec) → IsErrOf result (Stop.Bad bad) → row ≡ Err bad }
-    ensures labels { OnOk result (AreRowLabels sheet.new.made program.now labels.new) }
+    ensures labels { OnOk result (AreRowLabels sheet.new.made unit.entry.program.now labels.new) }
     ensures kept { sheet.new.pool ≡ sheet.old.pool }
 {
     let row = row?;
-    add_before(program, before, &row, labels, sheet)?;
-    Ok(before_next(size, before, row))
+    add_before(unit.program, before, &row, labels, sheet)?;
+    Ok(before_next(unit.size, before, row))
 }
 
 /// Adds the claims of the rows of a line program, for a unit with addresses of `size` bytes. Bad is the fault of the
@@ -117,7 +123,8 @@ pub fn add_rows(
     let mut labels = RowLabels::new(alloc, program)?;
     let mut before = None;
     for row in program.rows() {
-        before = add_row(program, size, before, row, &mut labels, sheet)?;
+        let unit = UnitProgram { program, size };
+        before = add_row(unit, before, row, &mut labels, sheet)?;
     }
     Ok(())
 }

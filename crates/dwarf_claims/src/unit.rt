@@ -13,9 +13,9 @@ ghost use Rattle.dwarf_claims.specs.UnitClaims.{bytes_claim, range_claim, told_c
 
 use crate::last_label::LastLabel;
 use crate::last_ranges::{LastRanges, read_ranges};
-use crate::program::{program_bytes, program_of};
 use crate::table::{LastTables, root_of};
 use claim_sheet::{ClaimSheet, KnownLabel, Reach, Stop, span};
+use dwarf_line_header::{program_bytes, unit_program};
 use dwarf_units::{DwarfUnit, Root, Sections};
 use size_core::{NoMemory, Span};
 use std::alloc::Global;
@@ -26,6 +26,13 @@ pub struct LastUnit<'a> {
     pub tables: LastTables<'a>,
     pub ranges: LastRanges,
     pub label: LastLabel<'a>,
+}
+
+// The code of a unit: its ranges of addresses, and the bytes of its line program.
+#[derive(Clone, Copy)]
+struct UnitCode<'r> {
+    ranges: &'r [(u64, u64)],
+    program: Option<Span>,
 }
 
 // Adds the claim of a range of addresses.
@@ -100,21 +107,21 @@ fn add_program(
 fn add_parts(
     unit: &DwarfUnit<'_>,
     root: &Root<'_>,
+    code: UnitCode<'_>,
     label: &mut KnownLabel<'_>,
-    ranges: &[(u64, u64)],
-    program: Option<Span>,
     sheet: &mut ClaimSheet,
 ) -> Result<(), NoMemory>
     requires { IsKnown sheet.old.made label.old }
     ensures adds { Adds result sheet.old sheet.new
-        (told_claims unit.now (shown_root root.now) label.old.text.now ranges.now program) }
+        (told_claims unit.now (shown_root root.now) label.old.text.now
+        code.entry.ranges.now code.entry.program) }
     ensures known { OnOk result (IsKnown sheet.new.made label.new) }
     ensures text { label.new.text.now ≡ label.old.text.now }
 {
-    add_ranges(ranges, label, sheet)?;
+    add_ranges(code.ranges, label, sheet)?;
     add_bytes(unit.place, unit.len, label, sheet)?;
     add_bytes(root.table_place, root.table_len, label, sheet)?;
-    add_program(program, label, sheet)
+    add_program(code.program, label, sheet)
 }
 
 /// Adds the claims of a unit, and returns its label. Bad is the first fault of the unit.
@@ -135,8 +142,12 @@ pub fn add_unit<'a>(
     let root = root_of(alloc, sections, unit, &mut last.tables)?;
     let mut label = last.label.read(&root, sections)?;
     read_ranges(alloc, sections, &root, &mut last.ranges)?;
-    let program = program_bytes(sections, program_of(&root))?;
-    add_parts(unit, &root, &mut label, &last.ranges.ranges, program, sheet)?;
+    let program = program_bytes(sections, unit_program(&root))?;
+    let code = UnitCode {
+        ranges: last.ranges.ranges.as_slice(),
+        program,
+    };
+    add_parts(unit, &root, code, &mut label, sheet)?;
     last.label = LastLabel {
         name: last.label.name,
         label,

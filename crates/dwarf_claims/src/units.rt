@@ -20,6 +20,13 @@ use dwarf_units::{DwarfUnit, Sections, Units};
 use size_core::{BadFile, NoMemory};
 use std::alloc::Global;
 
+// The units that were read, with their labels, and what was read last for a unit.
+#[derive(Drop)]
+struct ReadUnits<'a> {
+    known: Vec<KnownUnit<'a>>,
+    last: LastUnit<'a>,
+}
+
 // Keeps the label of a unit for the address sets.
 fn keep<'a>(
     units: &mut Vec<KnownUnit<'a>>,
@@ -40,21 +47,20 @@ fn add_item<'a>(
     alloc: Global,
     sections: &Sections<'a>,
     unit: Result<DwarfUnit<'a>, BadFile>,
-    last: &mut LastUnit<'a>,
-    units: &mut Vec<KnownUnit<'a>>,
+    units: &mut ReadUnits<'a>,
     sheet: &mut ClaimSheet,
 ) -> Result<(), Stop>
-    requires last { IsUnitOf sections.now sheet.old last.old }
-    requires known { AreKnownUnits sheet.old.made units.old.items }
+    requires last { IsUnitOf sections.now sheet.old units.old.last }
+    requires known { AreKnownUnits sheet.old.made units.old.known.items }
     ensures adds { AddsRead result sheet.old sheet.new (handed_claims sections.now unit.entry) }
-    ensures labels { OnOk result (shown_units units.new.items
-        ≡ shown_units units.old.items ++ labelled sections.now unit.entry) }
-    ensures known { OnOk result (AreKnownUnits sheet.new.made units.new.items) }
-    ensures last { OnOk result (IsUnitOf sections.now sheet.new last.new) }
+    ensures labels { OnOk result (shown_units units.new.known.items
+        ≡ shown_units units.old.known.items ++ labelled sections.now unit.entry) }
+    ensures known { OnOk result (AreKnownUnits sheet.new.made units.new.known.items) }
+    ensures last { OnOk result (IsUnitOf sections.now sheet.new units.new.last) }
 {
     let unit = unit?;
-    let label = add_unit(alloc, sections, &unit, last, sheet)?;
-    keep(units, unit.offset, label)?;
+    let label = add_unit(alloc, sections, &unit, &mut units.last, sheet)?;
+    keep(&mut units.known, unit.offset, label)?;
     Ok(())
 }
 
@@ -70,7 +76,7 @@ fn add_each<'a>(
         (λ v. shown_units v.items ≡ labels_of sections.now (units_of sections.now)) }
     ensures known { IfOk result (λ v. AreKnownUnits sheet.new.made v.items) }
 {
-    let mut last = LastUnit {
+    let last = LastUnit {
         tables: LastTables {
             recent: None,
             older: None,
@@ -88,11 +94,14 @@ fn add_each<'a>(
             },
         },
     };
-    let mut units = Vec::new(alloc);
+    let mut units = ReadUnits {
+        known: Vec::new(alloc),
+        last,
+    };
     for unit in Units::new(sections) {
-        add_item(alloc, sections, unit, &mut last, &mut units, sheet)?;
+        add_item(alloc, sections, unit, &mut units, sheet)?;
     }
-    Ok(units)
+    Ok(units.known)
 }
 
 /// Adds the claims of the units of `.debug_info`, in order, and then those of the sets of `.debug_aranges`.

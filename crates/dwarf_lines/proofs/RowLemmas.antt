@@ -1,110 +1,145 @@
 -- A line program, one instruction after another.
-use Rattle.std.proofs.Common.{◌≡◌, ℕ, zero, suc, ◌+◌, ◌-◌, ◌<◌, ◌≤◌, true, false, List, [], ◌∷◌, ◌++◌, length, Option, Some, None, Ok, Err, refl, sym, ap, ◌∙◌, arith}
-use Rattle.std.proofs.lemmas.Grind.{common_steps}
-use Rattle.std.specs.Prelude.{map, nat_lt, option_to_list, option_map, option_and_then}
-use Rattle.std.specs.Int.{w8}
+use Rattle.std.proofs.Common.{◌≡◌, ℕ, zero, suc, ◌-◌, ◌<◌, ◌≤◌, ◌==◌, List, [], ◌∷◌, ◌++◌, length, Option, Some, None, Ok, Err, refl, sym, ap, ◌∙◌, arith}
+use Rattle.std.specs.Prelude.{map, nat_le, option_to_list, slice_index}
+use Rattle.std.specs.Int.{w16}
 use Rattle.size_core.specs.declared.fault.BadFile.{BadFile}
 use Rattle.size_core.specs.declared.fault.Fault.TheVariants.{BadLine}
-use Rattle.byte_cursor.specs.declared.order.Order.TheVariants.{Little}
-use Rattle.byte_cursor.specs.Numbers.{num}
-use Rattle.byte_cursor.specs.Window.{Window}
-use Rattle.dwarf_lines.specs.declared.encoding.LineEncoding.{LineEncoding}
+use Rattle.size_core.specs.Checks.{◌>>=◌, bad}
+use Rattle.byte_cursor.specs.declared.order.Order.{Order}
+use Rattle.byte_cursor.specs.Window.{Window, place_of}
+use Rattle.dwarf_abbrev.specs.Lengths.{contents_from}
+use Rattle.dwarf_abbrev.specs.Listing.{Listing, last_fault, left}
+use Rattle.dwarf_abbrev.specs.Reads.{Reading, byte_from, num_from, sleb_from, uleb_from}
+use Rattle.dwarf_abbrev.proofs.Forward.{Below, below_at, bind_below, byte_below, contents_below, if_below, num_below, read_below, sleb_below, uleb_below, weaker}
+use Rattle.dwarf_abbrev.proofs.Records.{all_bad, all_done, all_more}
+use Rattle.dwarf_line_header.specs.declared.encoding.LineEncoding.{LineEncoding}
+use Rattle.dwarf_line_header.specs.Programs.{bad_lines_at}
+use Rattle.dwarf_line_header.specs.Tables.{before, many_from, passed_over}
+use Rattle.dwarf_lines.specs.declared.constants.TheConstants.{EXTENDED_OPCODE, DW_LNS_COPY, DW_LNS_ADVANCE_PC, DW_LNS_ADVANCE_LINE, DW_LNS_SET_FILE, DW_LNS_SET_COLUMN, DW_LNS_NEGATE_STMT, DW_LNS_SET_BASIC_BLOCK, DW_LNS_CONST_ADD_PC, DW_LNS_FIXED_ADVANCE_PC, DW_LNS_SET_PROLOGUE_END, DW_LNS_SET_EPILOGUE_BEGIN, DW_LNS_SET_ISA}
+use Rattle.dwarf_lines.specs.declared.instruction.Instruction.{Instruction}
+use Rattle.dwarf_lines.specs.declared.instruction.Instruction.TheVariants.{Special, CopyRow, AdvancePc, AdvanceLine, SetFile, SetColumn, NegateStatement, SetBasicBlock, ConstAddPc, FixedAdvancePc, SetPrologueEnd, SetEpilogueBegin, SetIsa, UnknownStandard}
 use Rattle.dwarf_lines.specs.declared.registers.Registers.{Registers}
 use Rattle.dwarf_lines.specs.declared.registers.LineRow.{LineRow}
-use Rattle.dwarf_lines.specs.declared.instruction.Instruction.{Instruction}
-use Rattle.dwarf_lines.specs.Instructions.{Program, operands, instruction_at, program_from, program}
+use Rattle.dwarf_lines.specs.Instructions.{extended_in, extended_from, made, standard_from, operands_from, opcode_and_operands, instruction_from, program}
 use Rattle.dwarf_lines.specs.Machine.{run, row_of, after}
-use Rattle.dwarf_lines.specs.Rows.{good, bad_line, rows_of, to_come}
-use Rattle.dwarf_lines.specs.Steps.{Found, IsUnreadable}
+use Rattle.dwarf_lines.specs.Rows.{good, rows_of, to_come}
+
+-- Operands may take no bytes.
+extended_below : (order : Order) (w : Window) → Below (suc (left w)) (extended_from order w)
+unfolding extended_from
+extended_below order w = bind_below (left w) (suc (left w)) (uleb_from w) _ (uleb_below w) (λ size less.
+    bind_below (suc (left size.1)) (suc (left w)) (contents_from size.0 size.1) _ (contents_below size.0 size.1) (λ contents fewer.
+    read_below (suc (left w)) (extended_in order contents.0) contents.1 (omega arith)))
+
+before_below : {X : Type 0} (n : ℕ) (x : X) (r : Reading (List X)) → Below n r → Below n (before x r)
+before_below n x (Ok xs) h = h
+before_below n x (Err e) h = tt
+
+numbers_below : (count : ℕ) (w : Window) → Below (suc (left w)) (many_from uleb_from count w)
+unfolding many_from
+numbers_below zero w = omega arith
+numbers_below (suc count) w = bind_below (left w) (suc (left w)) (uleb_from w) _ (uleb_below w) (λ x less.
+    before_below (suc (left w)) x.0 (many_from uleb_from count x.1) (weaker (suc (left x.1)) (suc (left w)) (many_from uleb_from count x.1) (omega arith) (numbers_below count x.1)))
+
+passed_below : {X : Type 0} (n : ℕ) (r : Reading X) → Below n r → Below n (passed_over r)
+unfolding passed_over
+passed_below n (Ok x) h = h
+passed_below n (Err e) h = tt
+
+made_below : {X Y : Type 0} (f : X → Y) (m n : ℕ) (r : Reading X) → m ≤ n → Below m r → Below n (made f r)
+made_below f m n (Ok x) le h = let lt : left x.1 < m = h in omega arith
+made_below f m n (Err e) le h = tt
+
+standard_below : (order : Order) (opcode count : ℕ) (w : Window) → Below (suc (left w)) (standard_from order opcode count w)
+unfolding standard_from
+standard_below order opcode count w =
+    if_below (suc (left w)) (opcode == DW_LNS_COPY) (Ok (CopyRow, w)) _ (none CopyRow) (
+    if_below (suc (left w)) (opcode == DW_LNS_ADVANCE_PC) (made AdvancePc (uleb_from w)) _ (number AdvancePc) (
+    if_below (suc (left w)) (opcode == DW_LNS_ADVANCE_LINE) (made AdvanceLine (sleb_from w)) _ (made_below AdvanceLine (left w) (suc (left w)) (sleb_from w) (omega arith) (sleb_below w)) (
+    if_below (suc (left w)) (opcode == DW_LNS_SET_FILE) (made SetFile (uleb_from w)) _ (number SetFile) (
+    if_below (suc (left w)) (opcode == DW_LNS_SET_COLUMN) (made SetColumn (uleb_from w)) _ (number SetColumn) (
+    if_below (suc (left w)) (opcode == DW_LNS_NEGATE_STMT) (Ok (NegateStatement, w)) _ (none NegateStatement) (
+    if_below (suc (left w)) (opcode == DW_LNS_SET_BASIC_BLOCK) (Ok (SetBasicBlock, w)) _ (none SetBasicBlock) (
+    if_below (suc (left w)) (opcode == DW_LNS_CONST_ADD_PC) (Ok (ConstAddPc, w)) _ (none ConstAddPc) (
+    if_below (suc (left w)) (opcode == DW_LNS_FIXED_ADVANCE_PC) (made FixedAdvancePc (num_from w16 order w)) _ (made_below FixedAdvancePc (left w) (suc (left w)) (num_from w16 order w) (omega arith) (num_below w16 order w (omega arith))) (
+    if_below (suc (left w)) (opcode == DW_LNS_SET_PROLOGUE_END) (Ok (SetPrologueEnd, w)) _ (none SetPrologueEnd) (
+    if_below (suc (left w)) (opcode == DW_LNS_SET_EPILOGUE_BEGIN) (Ok (SetEpilogueBegin, w)) _ (none SetEpilogueBegin) (
+    if_below (suc (left w)) (opcode == DW_LNS_SET_ISA) (made SetIsa (uleb_from w)) _ (number SetIsa)
+    (made_below (λ u. UnknownStandard opcode) (suc (left w)) (suc (left w)) (passed_over (many_from uleb_from count w)) (omega arith) (passed_below (suc (left w)) (many_from uleb_from count w) (numbers_below count w))))))))))))))
+  where
+    none : (i : Instruction) → left w < suc (left w)
+    none i = omega arith
+
+    number : (f : ℕ → Instruction) → Below (suc (left w)) (made f (uleb_from w))
+    number f = made_below f (left w) (suc (left w)) (uleb_from w) (omega arith) (uleb_below w)
+
+operands_below : (s : LineEncoding) (lengths : List ℕ) (opcode : ℕ) (w : Window) → Below (suc (left w)) (operands_from s lengths opcode w)
+unfolding operands_from
+operands_below s lengths opcode w = if_below (suc (left w)) (nat_le s.opcode_base opcode) (Ok (Special (opcode - s.opcode_base), w)) _ (omega arith)
+    (if_below (suc (left w)) (opcode == EXTENDED_OPCODE) (extended_from s.order w) _ (extended_below s.order w) (standard_below s.order opcode (slice_index lengths (opcode - 1)) w))
+
+lines_below : {X : Type 0} (n place : ℕ) (r : Reading X) → Below n r → Below n (bad_lines_at place r)
+lines_below n place (Ok x) h = h
+lines_below n place (Err e) h = tt
 
 -- An instruction takes at least one byte.
-pub goes_on : (s : LineEncoding) (lengths : List ℕ) (bytes : List ℕ) (at : ℕ) (x : Instruction × ℕ) → instruction_at s lengths bytes at ≡ Some x → at < x.1
-unfolding instruction_at
-goes_on s lengths bytes at x h = by_opcode (num bytes at w8 Little) h
+instruction_below : (s : LineEncoding) (lengths : List ℕ) (w : Window) → Below (left w) (instruction_from s lengths w)
+unfolding instruction_from
+instruction_below s lengths w = lines_below (left w) (place_of w) (opcode_and_operands s lengths w) (bind_below (left w) (left w) (byte_from w) _ (byte_below w) (λ opcode less.
+    weaker (suc (left opcode.1)) (left w) (operands_from s lengths opcode.0 opcode.1) (omega arith) (operands_below s lengths opcode.0 opcode.1)))
+
+pub instruction_less : (s : LineEncoding) (lengths : List ℕ) (w next : Window) (i : Instruction) → instruction_from s lengths w ≡ Ok (i, next) → left next < left w
+instruction_less s lengths w next i is = below_at (left w) (instruction_from s lengths w) i next (instruction_below s lengths w) is
+
+-- Each fault of an instruction is BadLine at its file offset.
+fault_is : (s : LineEncoding) (lengths : List ℕ) (w : Window) (e : BadFile) → instruction_from s lengths w ≡ Err e → e ≡ record { fault = BadLine; offset = place_of w }
+unfolding instruction_from
+fault_is s lengths w e is = by_reading (opcode_and_operands s lengths w) is
   where
-    by_operands : (read : Option (Instruction × ℕ)) → option_map (λ (y : Instruction × ℕ). (y.0, at + 1 + y.1)) read ≡ Some x → at < x.1
-    by_operands None e = cc
-    by_operands (Some y) e =
-        let same : (y.0, at + 1 + y.1) ≡ x = cc in
-        let next : at + 1 + y.1 ≡ x.1 = ap (λ (p : Instruction × ℕ). p.1) same in
-        omega arith
+    by_reading : (r : Reading Instruction) → bad_lines_at (place_of w) r ≡ Err e → e ≡ record { fault = BadLine; offset = place_of w }
+    by_reading (Ok x) h = cc
+    by_reading (Err d) h = cc
 
-    by_opcode : (opcode : Option ℕ) → option_and_then (λ opcode. option_map (λ (y : Instruction × ℕ). (y.0, at + 1 + y.1)) (operands s lengths bytes opcode (at + 1))) opcode ≡ Some x → at < x.1
-    by_opcode None e = cc
-    by_opcode (Some opcode) e = by_operands (operands s lengths bytes opcode (at + 1)) e
+abbrev stopped : BadFile → Listing Instruction
+stopped e = record { items = []; end = Err e }
 
--- Enough fuel is as good as more.
-pub same_fuel : (s : LineEncoding) (lengths : List ℕ) (base : ℕ) (bytes : List ℕ) (m n at : ℕ) → length bytes ≤ at + m → length bytes ≤ at + n → program_from s lengths base bytes m at ≡ program_from s lengths base bytes n at
-unfolding program_from
-same_fuel s lengths base bytes zero zero at p q = refl
-same_fuel s lengths base bytes zero (suc n) at p q = let past : nat_lt at (length bytes) ≡ false = grind (arith, common_steps) in rw past refl
-same_fuel s lengths base bytes (suc m) zero at p q = let past : nat_lt at (length bytes) ≡ false = grind (arith, common_steps) in rw past refl
-same_fuel s lengths base bytes (suc m) (suc n) at p q = by_reading (λ next forward. same_fuel s lengths base bytes m n next (omega arith) (omega arith)) (instruction_at s lengths bytes at) refl
-  where
-    by_reading : ((next : ℕ) → at < next → program_from s lengths base bytes m next ≡ program_from s lengths base bytes n next) → (read : Option (Instruction × ℕ)) → instruction_at s lengths bytes at ≡ read
-        → program_from s lengths base bytes (suc m) at ≡ program_from s lengths base bytes (suc n) at
-    by_reading rests None is = rw is refl
-    by_reading rests (Some x) is = rw (is, rests x.1 (goes_on s lengths bytes at x is)) refl
+-- A program is its first instruction and then the rest. It ends with a fault, or at the end of the window.
+pub program_more : (s : LineEncoding) (lengths : List ℕ) (w next : Window) (i : Instruction) → w.at < length w.bytes → instruction_from s lengths w ≡ Ok (i, next)
+    → program s lengths w ≡ record { items = i ∷ (program s lengths next).items; end = (program s lengths next).end }
+program_more s lengths w next i lt is = all_more (instruction_from s lengths) (instruction_below s lengths) w next i lt is
 
--- Nothing is at the end.
-pub program_end : (s : LineEncoding) (lengths : List ℕ) (base : ℕ) (bytes : List ℕ) (at : ℕ) → length bytes ≤ at → program s lengths base bytes at ≡ record { instructions = []; fault = None }
-unfolding program_from
-program_end s lengths base bytes at past = let none : length bytes - at ≡ 0 = omega arith in rw none refl
+pub program_bad : (s : LineEncoding) (lengths : List ℕ) (w : Window) (e : BadFile) → w.at < length w.bytes → instruction_from s lengths w ≡ Err e → program s lengths w ≡ record { items = []; end = bad BadLine (place_of w) }
+program_bad s lengths w e lt is = all_bad (instruction_from s lengths) (instruction_below s lengths) w e lt is ∙ ap stopped (fault_is s lengths w e is)
 
-one_more : (s : LineEncoding) (lengths : List ℕ) (base : ℕ) (bytes : List ℕ) (at fuel : ℕ) (i : Instruction) (next : ℕ) → at < length bytes → instruction_at s lengths bytes at ≡ Some (i, next)
-    → program_from s lengths base bytes (suc fuel) at ≡ record { instructions = i ∷ (program_from s lengths base bytes fuel next).instructions; fault = (program_from s lengths base bytes fuel next).fault }
-unfolding program_from
-one_more s lengths base bytes at fuel i next lt is = let within : nat_lt at (length bytes) ≡ true = grind (arith, common_steps) in rw (within, is) refl
-
-one_bad : (s : LineEncoding) (lengths : List ℕ) (base : ℕ) (bytes : List ℕ) (at fuel : ℕ) → at < length bytes → instruction_at s lengths bytes at ≡ None
-    → program_from s lengths base bytes (suc fuel) at ≡ record { instructions = []; fault = Some (record { fault = BadLine; offset = base + at }) }
-unfolding program_from
-one_bad s lengths base bytes at fuel lt is = let within : nat_lt at (length bytes) ≡ true = grind (arith, common_steps) in rw (within, is) refl
-
--- The program goes on with the instruction at a position.
-pub program_more : (s : LineEncoding) (lengths : List ℕ) (base : ℕ) (bytes : List ℕ) (at : ℕ) (i : Instruction) (next : ℕ) → at < length bytes → instruction_at s lengths bytes at ≡ Some (i, next)
-    → program s lengths base bytes at ≡ record { instructions = i ∷ (program s lengths base bytes next).instructions; fault = (program s lengths base bytes next).fault }
-program_more s lengths base bytes at i next lt is =
-    let forward : at < next = goes_on s lengths bytes at (i, next) is in
-    let rest : program_from s lengths base bytes (length bytes - at) next ≡ program s lengths base bytes next = same_fuel s lengths base bytes (length bytes - at) (length bytes - next) next (omega arith) (omega arith) in
-    same_fuel s lengths base bytes (length bytes - at) (suc (length bytes - at)) at (omega arith) (omega arith)
-    ∙ one_more s lengths base bytes at (length bytes - at) i next lt is
-    ∙ ap (λ (p : Program). record { instructions = i ∷ p.instructions; fault = p.fault }) rest
-
--- The program ends with the fault at a position.
-pub program_bad : (s : LineEncoding) (lengths : List ℕ) (base : ℕ) (bytes : List ℕ) (at : ℕ) → at < length bytes → instruction_at s lengths bytes at ≡ None
-    → program s lengths base bytes at ≡ record { instructions = []; fault = Some (record { fault = BadLine; offset = base + at }) }
-program_bad s lengths base bytes at lt is =
-    same_fuel s lengths base bytes (length bytes - at) (suc (length bytes - at)) at (omega arith) (omega arith) ∙ one_bad s lengths base bytes at (length bytes - at) lt is
+pub program_end : (s : LineEncoding) (lengths : List ℕ) (w : Window) → length w.bytes ≤ w.at → program s lengths w ≡ record { items = []; end = Ok w }
+program_end s lengths w past = all_done (instruction_from s lengths) (instruction_below s lengths) w past
 
 -- Nothing follows at the end of the bytes.
 pub comes_none : (s : LineEncoding) (lengths : List ℕ) (r : Registers) (w : Window) → length w.bytes ≤ w.at → to_come s lengths r w ≡ []
 unfolding to_come rows_of run
-comes_none s lengths r w past = rw (program_end s lengths w.base w.bytes w.at past) refl
+comes_none s lengths r w past = rw (program_end s lengths w past) refl
 
 -- The fault is the last item.
-pub comes_fault : (s : LineEncoding) (lengths : List ℕ) (r : Registers) (w : Window) (e : BadFile) → w.at < length w.bytes → IsUnreadable s lengths w e → to_come s lengths r w ≡ Err e ∷ []
+pub comes_fault : (s : LineEncoding) (lengths : List ℕ) (r : Registers) (w : Window) (e : BadFile) → w.at < length w.bytes → instruction_from s lengths w ≡ Err e → to_come s lengths r w ≡ Err e ∷ []
 unfolding to_come rows_of run
-comes_fault s lengths r w e lt h = rw (program_bad s lengths w.base w.bytes w.at lt h.none, h.fault) refl
+comes_fault s lengths r w e lt is = rw (all_bad (instruction_from s lengths) (instruction_below s lengths) w e lt is) refl
 
-by_row : (s : LineEncoding) (r : Registers) (i : Instruction) (p : Program) (row : Option LineRow)
-    → map good (option_to_list row ++ run s (after s r i) p.instructions) ++ option_to_list (option_map bad_line p.fault)
-    ≡ map good (option_to_list row) ++ (map good (run s (after s r i) p.instructions) ++ option_to_list (option_map bad_line p.fault))
+by_row : (s : LineEncoding) (r : Registers) (i : Instruction) (p : Listing Instruction) (row : Option LineRow)
+    → map good (option_to_list row ++ run s (after s r i) p.items) ++ last_fault p.end
+    ≡ map good (option_to_list row) ++ (map good (run s (after s r i) p.items) ++ last_fault p.end)
 by_row s r i p None = refl
 by_row s r i p (Some x) = refl
 
 -- An instruction's row comes first, and then what follows the instruction.
-pub comes_next : (s : LineEncoding) (lengths : List ℕ) (r : Registers) (w next : Window) (i : Instruction) → w.at < length w.bytes → Found (instruction_at s lengths w.bytes w.at) w i next
+comes_next : (s : LineEncoding) (lengths : List ℕ) (r : Registers) (w next : Window) (i : Instruction) → w.at < length w.bytes → instruction_from s lengths w ≡ Ok (i, next)
     → to_come s lengths r w ≡ map good (option_to_list (row_of s r i)) ++ to_come s lengths (after s r i) next
 unfolding to_come rows_of run
-comes_next s lengths r w next i lt h =
-    let more = program_more s lengths w.base w.bytes w.at i next.at lt h.read_is in
-    rw (more, h.same) (by_row s r i (program s lengths w.base w.bytes next.at) (row_of s r i))
+comes_next s lengths r w next i lt is = rw (program_more s lengths w next i lt is) (by_row s r i (program s lengths next) (row_of s r i))
 
-pub comes_row : (s : LineEncoding) (lengths : List ℕ) (r : Registers) (w next : Window) (i : Instruction) (row : LineRow) → w.at < length w.bytes → Found (instruction_at s lengths w.bytes w.at) w i next → Some row ≡ row_of s r i
+pub comes_row : (s : LineEncoding) (lengths : List ℕ) (r : Registers) (w next : Window) (i : Instruction) (row : LineRow) → w.at < length w.bytes → instruction_from s lengths w ≡ Ok (i, next) → Some row ≡ row_of s r i
     → to_come s lengths r w ≡ Ok row ∷ to_come s lengths (after s r i) next
 comes_row s lengths r w next i row lt h is = comes_next s lengths r w next i lt h ∙ ap (λ (o : Option LineRow). map good (option_to_list o) ++ to_come s lengths (after s r i) next) (sym is)
 
-pub comes_same : (s : LineEncoding) (lengths : List ℕ) (r : Registers) (w next : Window) (i : Instruction) → w.at < length w.bytes → Found (instruction_at s lengths w.bytes w.at) w i next → None ≡ row_of s r i
+pub comes_same : (s : LineEncoding) (lengths : List ℕ) (r : Registers) (w next : Window) (i : Instruction) → w.at < length w.bytes → instruction_from s lengths w ≡ Ok (i, next) → None ≡ row_of s r i
     → to_come s lengths r w ≡ to_come s lengths (after s r i) next
 comes_same s lengths r w next i lt h is = comes_next s lengths r w next i lt h ∙ ap (λ (o : Option LineRow). map good (option_to_list o) ++ to_come s lengths (after s r i) next) (sym is)

@@ -1,95 +1,85 @@
 -- The encoding of the instructions of a line program (DWARF 5, section 6.2.5).
-use Rattle.std.specs.Prelude.{ℕ, ◌≤◌, zero, suc, ◌+◌, ◌-◌, ◌==◌, ◌||◌, List, [], ◌∷◌, length, slice_index, Option, Some, None, Result, Ok, Err, nat_lt, nat_le, if◌then◌else◌, option_map, option_and_then}
-use Rattle.std.specs.Int.{w8, w16, w32, w64}
+use Rattle.std.specs.Prelude.{ℕ, ◌-◌, ◌==◌, List, slice_index, Result, Ok, nat_le, if◌then◌else◌}
+use Rattle.std.specs.Int.{w16}
 use Rattle.size_core.specs.declared.fault.BadFile.{BadFile}
 use Rattle.size_core.specs.declared.fault.Fault.TheVariants.{BadLine}
+use Rattle.size_core.specs.Checks.{◌>>=◌, bad}
 use Rattle.byte_cursor.specs.declared.order.Order.{Order}
-use Rattle.byte_cursor.specs.declared.order.Order.TheVariants.{Little}
-use Rattle.byte_cursor.specs.Numbers.{num, field}
-use Rattle.dwarf_lines.specs.Reads.{Reading, made, passed, signed_at, unsigned_at}
-use Rattle.dwarf_lines.specs.declared.encoding.LineEncoding.{LineEncoding}
+use Rattle.byte_cursor.specs.Window.{Window, place_of}
+use Rattle.dwarf_abbrev.specs.Lengths.{contents_from}
+use Rattle.dwarf_abbrev.specs.Listing.{Listing, left, listing, up_to_end}
+use Rattle.dwarf_abbrev.specs.Reads.{Reading, address_from, byte_from, num_from, sleb_from, uleb_from}
+use Rattle.dwarf_line_header.specs.declared.encoding.LineEncoding.{LineEncoding}
+use Rattle.dwarf_line_header.specs.Programs.{bad_lines_at}
+use Rattle.dwarf_line_header.specs.Tables.{many_from, passed_over}
+use Rattle.dwarf_lines.specs.declared.constants.TheConstants.{EXTENDED_OPCODE, DW_LNS_COPY, DW_LNS_ADVANCE_PC, DW_LNS_ADVANCE_LINE, DW_LNS_SET_FILE, DW_LNS_SET_COLUMN, DW_LNS_NEGATE_STMT, DW_LNS_SET_BASIC_BLOCK, DW_LNS_CONST_ADD_PC, DW_LNS_FIXED_ADVANCE_PC, DW_LNS_SET_PROLOGUE_END, DW_LNS_SET_EPILOGUE_BEGIN, DW_LNS_SET_ISA, DW_LNE_END_SEQUENCE, DW_LNE_SET_ADDRESS}
 use Rattle.dwarf_lines.specs.declared.instruction.Instruction.{Instruction}
 use Rattle.dwarf_lines.specs.declared.instruction.Instruction.TheVariants.{Special, CopyRow, AdvancePc, AdvanceLine, SetFile, SetColumn, NegateStatement, SetBasicBlock, ConstAddPc, FixedAdvancePc, SetPrologueEnd, SetEpilogueBegin, SetIsa, UnknownStandard, EndSequence, SetAddress, OtherExtended}
-use Rattle.dwarf_lines.specs.declared.constants.TheConstants.{EXTENDED_OPCODE, DW_LNS_COPY, DW_LNS_ADVANCE_PC, DW_LNS_ADVANCE_LINE, DW_LNS_SET_FILE, DW_LNS_SET_COLUMN, DW_LNS_NEGATE_STMT, DW_LNS_SET_BASIC_BLOCK, DW_LNS_CONST_ADD_PC, DW_LNS_FIXED_ADVANCE_PC, DW_LNS_SET_PROLOGUE_END, DW_LNS_SET_EPILOGUE_BEGIN, DW_LNS_SET_ISA, DW_LNE_END_SEQUENCE, DW_LNE_SET_ADDRESS}
 
--- An address of size bytes at a position (DWARF 5, section 6.2.5).
-unfoldable pub address_at : LineEncoding → List ℕ → ℕ → ℕ → Option ℕ
-address_at s bytes at size =
-    if size == 2 then num bytes at w16 s.order
-    else if size == 4 then num bytes at w32 s.order
-    else if size == 8 then num bytes at w64 s.order
-    else None
+-- The address that all bytes left are. BadLine unless they are 2, 4 or 8 bytes (DWARF 5, section 6.2.5).
+unfoldable pub whole_address : Order → Window → Reading ℕ
+whole_address order w =
+    if left w == 2 then address_from order 2 w
+    else if left w == 4 then address_from order 4 w
+    else if left w == 8 then address_from order 8 w
+    else bad BadLine (place_of w)
 
--- An extended instruction of size bytes at a position with that many bytes left (DWARF 5, section 6.2.5).
-unfoldable pub extended_instruction_of : LineEncoding → List ℕ → ℕ → ℕ → Option Instruction
-extended_instruction_of s bytes at size =
-    if field bytes at w8 Little == DW_LNE_END_SEQUENCE then Some EndSequence
-    else if field bytes at w8 Little == DW_LNE_SET_ADDRESS then option_map (λ n. SetAddress n) (address_at s bytes (at + 1) (size - 1))
-    else Some (OtherExtended (field bytes at w8 Little))
+-- An extended instruction in a window of its own: its opcode and its operands (DWARF 5, section 6.2.5).
+unfoldable pub extended_in : Order → Window → Result Instruction BadFile
+extended_in order w = byte_from w >>= (λ opcode.
+    if opcode.0 == DW_LNE_END_SEQUENCE then Ok EndSequence
+    else if opcode.0 == DW_LNE_SET_ADDRESS then whole_address order opcode.1 >>= (λ n. Ok (SetAddress n.0))
+    else Ok (OtherExtended opcode.0))
 
--- An extended instruction after its first byte. Its size is at least 1 (DWARF 5, section 6.2.5).
-unfoldable pub extended_instruction : LineEncoding → List ℕ → ℕ → Reading Instruction
-extended_instruction s bytes at = option_and_then
-    (λ size. if (size.0 == 0) || nat_lt (length bytes) (at + size.1 + size.0) then None
-    else option_map (λ i. (i, size.1 + size.0)) (extended_instruction_of s bytes (at + size.1) size.0))
-    (unsigned_at bytes at)
+-- An extended instruction after its first byte: its size, and then that many bytes (DWARF 5, section 6.2.5).
+unfoldable pub extended_from : Order → Window → Reading Instruction
+extended_from order w = do
+  size ← uleb_from w
+  contents ← contents_from size.0 size.1
+  instruction ← extended_in order contents.0
+  Ok (instruction, contents.1)
 
--- Each standard opcode has a number of operands (DWARF 5, section 6.2.5).
-abbrev pub HasLengths : LineEncoding → List ℕ → Type 0
-HasLengths s lengths = s.opcode_base ≤ length lengths + 1
+-- What a function makes of a value that is read.
+abbrev pub made : {X Y : Type 0} → (X → Y) → Reading X → Reading Y
+made f read = read >>= λ x. Ok (f x.0, x.1)
 
--- The instruction of a standard opcode whose operands are at a position, and the number of bytes that they
--- take. An unknown opcode has as many operands as the header says (DWARF 5, section 6.2.5).
-unfoldable pub standard_instruction : Order → List ℕ → ℕ → ℕ → ℕ → Reading Instruction
-standard_instruction order bytes opcode count at =
-    if opcode == DW_LNS_COPY then Some (CopyRow, 0)
-    else if opcode == DW_LNS_ADVANCE_PC then made AdvancePc (unsigned_at bytes at)
-    else if opcode == DW_LNS_ADVANCE_LINE then made AdvanceLine (signed_at bytes at)
-    else if opcode == DW_LNS_SET_FILE then made SetFile (unsigned_at bytes at)
-    else if opcode == DW_LNS_SET_COLUMN then made SetColumn (unsigned_at bytes at)
-    else if opcode == DW_LNS_NEGATE_STMT then Some (NegateStatement, 0)
-    else if opcode == DW_LNS_SET_BASIC_BLOCK then Some (SetBasicBlock, 0)
-    else if opcode == DW_LNS_CONST_ADD_PC then Some (ConstAddPc, 0)
-    else if opcode == DW_LNS_FIXED_ADVANCE_PC then option_map (λ n. (FixedAdvancePc n, 2)) (num bytes at w16 order)
-    else if opcode == DW_LNS_SET_PROLOGUE_END then Some (SetPrologueEnd, 0)
-    else if opcode == DW_LNS_SET_EPILOGUE_BEGIN then Some (SetEpilogueBegin, 0)
-    else if opcode == DW_LNS_SET_ISA then made SetIsa (unsigned_at bytes at)
-    else made (λ x. UnknownStandard opcode) (passed bytes count at)
+-- The instruction of a standard opcode, whose operands follow. An unknown opcode has `count` operands (DWARF 5, section
+-- 6.2.5).
+unfoldable pub standard_from : Order → ℕ → ℕ → Window → Reading Instruction
+standard_from order opcode count w =
+    if opcode == DW_LNS_COPY then Ok (CopyRow, w)
+    else if opcode == DW_LNS_ADVANCE_PC then made AdvancePc (uleb_from w)
+    else if opcode == DW_LNS_ADVANCE_LINE then made AdvanceLine (sleb_from w)
+    else if opcode == DW_LNS_SET_FILE then made SetFile (uleb_from w)
+    else if opcode == DW_LNS_SET_COLUMN then made SetColumn (uleb_from w)
+    else if opcode == DW_LNS_NEGATE_STMT then Ok (NegateStatement, w)
+    else if opcode == DW_LNS_SET_BASIC_BLOCK then Ok (SetBasicBlock, w)
+    else if opcode == DW_LNS_CONST_ADD_PC then Ok (ConstAddPc, w)
+    else if opcode == DW_LNS_FIXED_ADVANCE_PC then made FixedAdvancePc (num_from w16 order w)
+    else if opcode == DW_LNS_SET_PROLOGUE_END then Ok (SetPrologueEnd, w)
+    else if opcode == DW_LNS_SET_EPILOGUE_BEGIN then Ok (SetEpilogueBegin, w)
+    else if opcode == DW_LNS_SET_ISA then made SetIsa (uleb_from w)
+    else made (λ u. UnknownStandard opcode) (passed_over (many_from uleb_from count w))
 
--- The instruction of an opcode whose operands are at a position, and the number of bytes that they take (DWARF
--- 5, section 6.2.5).
-unfoldable pub operands : LineEncoding → List ℕ → List ℕ → ℕ → ℕ → Reading Instruction
-operands s lengths bytes opcode at =
-    if nat_le s.opcode_base opcode then Some (Special (opcode - s.opcode_base), 0)
-    else if opcode == EXTENDED_OPCODE then extended_instruction s bytes at
-    else standard_instruction s.order bytes opcode (slice_index lengths (opcode - 1)) at
+-- The instruction of an opcode, whose operands follow. The header has the number of operands of each standard opcode
+-- (DWARF 5, section 6.2.5).
+unfoldable pub operands_from : LineEncoding → List ℕ → ℕ → Window → Reading Instruction
+operands_from s lengths opcode w =
+    if nat_le s.opcode_base opcode then Ok (Special (opcode - s.opcode_base), w)
+    else if opcode == EXTENDED_OPCODE then extended_from s.order w
+    else standard_from s.order opcode (slice_index lengths (opcode - 1)) w
 
--- The instruction at a position, and the position after it (DWARF 5, section 6.2.5).
-unfoldable pub instruction_at : LineEncoding → List ℕ → List ℕ → ℕ → Reading Instruction
-instruction_at s lengths bytes at = option_and_then (λ opcode. option_map (λ x. (x.0, at + 1 + x.1)) (operands s lengths bytes opcode (at + 1))) (num bytes at w8 Little)
+-- An opcode and its operands (DWARF 5, section 6.2.5).
+abbrev pub opcode_and_operands : LineEncoding → List ℕ → Window → Reading Instruction
+opcode_and_operands s lengths w = do
+  opcode ← byte_from w
+  operands_from s lengths opcode.0 opcode.1
 
--- The instruction that was read, or BadLine at its file offset (DWARF 5, section 6.2.5).
-abbrev pub readable : Option (Instruction × ℕ) → ℕ → Result (Instruction × ℕ) BadFile
-readable None place = Err (record { fault = BadLine; offset = place })
-readable (Some x) place = Ok x
+-- An instruction. BadLine at its file offset if it can't be read (DWARF 5, section 6.2.5).
+unfoldable pub instruction_from : LineEncoding → List ℕ → Window → Reading Instruction
+instruction_from s lengths w = bad_lines_at (place_of w) (opcode_and_operands s lengths w)
 
--- The instructions of a program up to the first that can't be read, and its fault (DWARF 5, section 6.2.5).
-pub record Program : Type 0 where
-  pub instructions : List Instruction
-  pub fault : Option BadFile
-
--- The program that begins with an instruction and goes on at the next position (DWARF 5, section 6.2.5).
-abbrev pub going_on : Result (Instruction × ℕ) BadFile → (ℕ → Program) → Program
-going_on (Err e) rest = record { instructions = []; fault = Some e }
-going_on (Ok x) rest = record { instructions = x.0 ∷ (rest x.1).instructions; fault = (rest x.1).fault }
-
--- The program from a position on, of at most fuel instructions (DWARF 5, section 6.2.5).
-unfoldable pub program_from : LineEncoding → List ℕ → ℕ → List ℕ → ℕ → ℕ → Program
-program_from s lengths base bytes zero at = record { instructions = []; fault = None }
-program_from s lengths base bytes (suc fuel) at =
-    if nat_lt at (length bytes) then going_on (readable (instruction_at s lengths bytes at) (base + at)) (program_from s lengths base bytes fuel)
-    else record { instructions = []; fault = None }
-
--- The program from a position on. Each instruction takes at least one byte (DWARF 5, section 6.2.5).
-abbrev pub program : LineEncoding → List ℕ → ℕ → List ℕ → ℕ → Program
-program s lengths base bytes at = program_from s lengths base bytes (length bytes - at) at
+-- The instructions of a window up to the first that can't be read, and its fault or the window at the end (DWARF 5,
+-- section 6.2.5).
+abbrev pub program : LineEncoding → List ℕ → Window → Listing Instruction
+program s lengths w = listing (up_to_end (instruction_from s lengths)) w

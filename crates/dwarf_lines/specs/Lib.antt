@@ -1,15 +1,5 @@
-pub mod FormattedTables
-pub mod Header
 pub mod Instructions
 pub mod Laws
-pub mod Listed
 pub mod Machine
-pub mod Names
 pub mod Paths
-pub mod PlainTables
-pub mod Programs
-pub mod Tables
-pub mod Reads
 pub mod Rows
-pub mod Gathered
-pub mod Steps

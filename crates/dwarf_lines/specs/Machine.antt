@@ -1,9 +1,9 @@
 -- The state machine of a line program (DWARF 5, section 6.2).
-use Rattle.std.specs.Prelude.{ℕ, ℤ, pos, ◌+ℤ◌, ◌+◌, ◌-◌, ◌*◌, ◌/◌, ◌%◌, ◌^◌, ◌<◌, Bool, true, false, List, [], ◌∷◌, ◌++◌, Option, Some, None, option_to_list, unsigned_abs}
+use Rattle.std.specs.Prelude.{ℕ, ℤ, pos, ◌+ℤ◌, ◌+◌, ◌-◌, ◌*◌, ◌/◌, ◌%◌, ◌^◌, Bool, true, false, List, [], ◌∷◌, ◌++◌, Option, Some, None, option_to_list, unsigned_abs}
 use Rattle.std.specs.Int.{int_rem_euclid}
-use Rattle.dwarf_lines.specs.declared.encoding.LineEncoding.{LineEncoding}
-use Rattle.dwarf_lines.specs.declared.encoding.AddressSize.{AddressSize}
-use Rattle.dwarf_lines.specs.declared.encoding.AddressSize.TheVariants.{Two, Four, Eight}
+use Rattle.dwarf_line_header.specs.declared.encoding.LineEncoding.{LineEncoding}
+use Rattle.dwarf_line_header.specs.declared.encoding.AddressSize.{AddressSize}
+use Rattle.dwarf_line_header.specs.declared.encoding.AddressSize.TheVariants.{Two, Four, Eight}
 use Rattle.dwarf_lines.specs.declared.registers.Registers.{Registers}
 use Rattle.dwarf_lines.specs.declared.registers.LineRow.{LineRow}
 use Rattle.dwarf_lines.specs.declared.instruction.Instruction.{Instruction}
@@ -14,11 +14,6 @@ abbrev pub address_count : AddressSize → ℕ
 address_count Two = 2 ^ 16
 address_count Four = 2 ^ 32
 address_count Eight = 2 ^ 64
-
--- The numbers that the machine divides by aren't 0 (DWARF 5, sections 6.2.2 and 6.2.5).
-pub record IsUsable (s : LineEncoding) : Type 0 where
-  pub ops : 0 < s.max_ops
-  pub range : 0 < s.line_range
 
 -- The registers at the start of a sequence (DWARF 5, sections 6.2.2 and 6.2.5).
 abbrev pub start : Registers

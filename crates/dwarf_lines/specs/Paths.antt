@@ -1,15 +1,8 @@
 -- The path of a file of a line program.
-use Rattle.std.specs.Prelude.{ℕ, ◌-◌, ◌==◌, ◌||◌, Bool, List, ◌∷◌, ◌++◌, codes, Option, Some, None, slice_get, slice_index, nat_lt, if◌then◌else◌}
+use Rattle.std.specs.Prelude.{ℕ, ◌==◌, ◌||◌, Bool, List, ◌∷◌, ◌++◌, codes, Option, Some, None, slice_index, if◌then◌else◌}
 use Rattle.dwarf_lines.specs.declared.constants.TheConstants.{SLASH}
-use Rattle.dwarf_lines.specs.Header.{LineHeader}
-use Rattle.dwarf_lines.specs.Tables.{Entry}
-
--- The entry with this number. Numbers begin at 1 before DWARF 5, and at 0 from DWARF 5 on (DWARF 5, section
--- 6.2.4).
-abbrev pub entry_numbered : ℕ → List Entry → ℕ → Option Entry
-entry_numbered version entries n =
-    if nat_lt version 5 then (if n == 0 then None else slice_get entries (n - 1))
-    else slice_get entries n
+use Rattle.dwarf_line_header.specs.Header.{LineHeader, entry_numbered}
+use Rattle.dwarf_line_header.specs.Tables.{Entry}
 
 -- Whether a name is an absolute path (DWARF 5, section 6.2.4).
 abbrev pub is_absolute : List ℕ → Bool

@@ -1,4 +1,4 @@
-//! The constants of line programs that this crate distinguishes (DWARF 5, sections 6.2.4, 6.2.5 and 7.22).
+//! The constants of line programs that this crate distinguishes (DWARF 5, sections 6.2.5 and 7.22).
 
 /// The byte that begins an extended instruction. Its length and its opcode follow.
 pub const EXTENDED_OPCODE: u8 = 0;
@@ -44,16 +44,6 @@ pub const DW_LNE_END_SEQUENCE: u8 = 1;
 
 /// Sets the address (`DW_LNE_set_address`).
 pub const DW_LNE_SET_ADDRESS: u8 = 2;
-
-/// The path of a directory or a file (`DW_LNCT_path`).
-pub const DW_LNCT_PATH: u64 = 1;
-
-/// The number of a file's directory (`DW_LNCT_directory_index`).
-pub const DW_LNCT_DIRECTORY_INDEX: u64 = 2;
-
-/// The form whose value is stored in the declaration (`DW_FORM_implicit_const`). It isn't allowed in line
-/// programs.
-pub const DW_FORM_IMPLICIT_CONST: u64 = 0x21;
 
 /// The separator between a directory and a name.
 pub const SLASH: u8 = b'/';

@@ -1,13 +1,12 @@
 //! Reading the instructions of a line program.
 
-ghost use Rattle.std.specs.Prelude.{◌≡◌, ◌+◌, ◌<◌, ◌≤◌, true, length, OnSome, MatchResult};
-ghost use Rattle.std.specs.Int.{w16};
-ghost use Rattle.byte_cursor.specs.Numbers.{num};
-ghost use Rattle.byte_cursor.specs.Window.{moved, place_of};
-ghost use Rattle.byte_cursor.specs.Reads.{leb_len};
-ghost use Rattle.dwarf_lines.specs.Reads.{value_of};
-ghost use Rattle.dwarf_lines.specs.Instructions.{HasLengths, address_at, extended_instruction, extended_instruction_of, standard_instruction, operands, instruction_at};
-ghost use Rattle.dwarf_lines.specs.Steps.{IsAt, Found, IsUnreadable};
+ghost use Rattle.std.specs.Prelude.{◌≡◌};
+ghost use Rattle.size_core.specs.Checks.{bad};
+ghost use Rattle.size_core.specs.declared.fault.Fault.TheVariants.{BadLine};
+ghost use Rattle.dwarf_abbrev.specs.Reads.{Reads, uleb_from};
+ghost use Rattle.dwarf_line_header.specs.Header.{HasLengths};
+ghost use Rattle.dwarf_line_header.specs.Tables.{many_from, passed_over};
+ghost use Rattle.dwarf_lines.specs.Instructions.{extended_from, extended_in, instruction_from, opcode_and_operands, operands_from, standard_from, whole_address};
 
 use crate::constants::{
     DW_LNE_END_SEQUENCE, DW_LNE_SET_ADDRESS, DW_LNS_ADVANCE_LINE, DW_LNS_ADVANCE_PC,
@@ -15,164 +14,152 @@ use crate::constants::{
     DW_LNS_SET_BASIC_BLOCK, DW_LNS_SET_COLUMN, DW_LNS_SET_EPILOGUE_BEGIN, DW_LNS_SET_FILE,
     DW_LNS_SET_ISA, DW_LNS_SET_PROLOGUE_END, EXTENDED_OPCODE,
 };
-use crate::encoding::LineEncoding;
 use crate::instruction::Instruction;
-use crate::reads::{passed, signed, unsigned};
 use byte_cursor::{Cursor, Order};
+use dwarf_abbrev::{address_from, contents_from, sleb_from, u8_from, u16_from, uleb_from};
+use dwarf_line_header::LineEncoding;
 use size_core::{BadFile, Fault};
 
-/// Reads an address of `size` bytes.
-#[tactic(auto, unfolding(crate::specs::Instructions::address_at))]
-fn address(encoding: &LineEncoding, cursor: &mut Cursor, size: u64) -> Option<u64>
-    ensures { result ≡ address_at encoding.now cursor.old.bytes cursor.old.at size }
+/// The fault of an instruction at this file offset.
+fn bad_line<T>(place: u64) -> Result<T, BadFile>
+    ensures { result ≡ bad BadLine place }
 {
-    match size {
-        2 => Some(cursor.u16(encoding.order).ok()? as u64),
-        4 => Some(cursor.u32(encoding.order).ok()? as u64),
-        8 => cursor.u64(encoding.order).ok(),
-        _ => None,
+    Err(BadFile {
+        fault: Fault::BadLine,
+        offset: place,
+    })
+}
+
+/// Reads all bytes left as an address. BadLine unless they are 2, 4 or 8 bytes.
+#[tactic(auto, unfolding(crate::specs::Instructions::whole_address))]
+fn whole_address(cursor: &mut Cursor, order: Order) -> Result<u64, BadFile>
+    ensures { Reads (λ n. n) result cursor.new (whole_address order cursor.old) }
+{
+    match cursor.left() {
+        2 => address_from(cursor, order, 2),
+        4 => address_from(cursor, order, 4),
+        8 => address_from(cursor, order, 8),
+        _ => bad_line(cursor.place()),
     }
 }
 
-/// Reads an extended instruction of `size` bytes.
-#[tactic(auto, unfolding(crate::specs::Instructions::extended_instruction_of))]
-fn extended_instruction_of(
-    encoding: &LineEncoding,
-    cursor: &Cursor,
-    size: u64,
-) -> Option<Instruction>
-    requires some { 0 < size }
-    requires within { cursor.now.at + size ≤ length cursor.now.bytes }
-    ensures { result ≡ extended_instruction_of encoding.now cursor.now.bytes cursor.now.at size }
+/// Reads the extended instruction that these bytes are.
+#[tactic(auto, unfolding(crate::specs::Instructions::extended_in))]
+fn extended_in(mut contents: Cursor, order: Order) -> Result<Instruction, BadFile>
+    ensures { result ≡ extended_in order contents.entry }
 {
-    let mut inner = cursor.fork();
-    match inner.u8().ok()? {
-        DW_LNE_END_SEQUENCE => Some(Instruction::EndSequence),
-        DW_LNE_SET_ADDRESS => Some(Instruction::SetAddress(address(
-            encoding,
-            &mut inner,
-            size - 1,
-        )?)),
-        opcode => Some(Instruction::OtherExtended(opcode)),
+    let opcode = u8_from(&mut contents)?;
+    match opcode {
+        DW_LNE_END_SEQUENCE => Ok(Instruction::EndSequence),
+        DW_LNE_SET_ADDRESS => {
+            let address = whole_address(&mut contents, order)?;
+            Ok(Instruction::SetAddress(address))
+        }
+        _ => Ok(Instruction::OtherExtended(opcode)),
     }
 }
 
 /// Reads an extended instruction, after its first byte.
-#[tactic(auto, unfolding(crate::specs::Instructions::extended_instruction))]
-fn extended_instruction(encoding: &LineEncoding, cursor: &mut Cursor) -> Option<Instruction>
-    ensures value { result
-        ≡ value_of (extended_instruction encoding.now cursor.old.bytes cursor.old.at) }
-    ensures after { OnSome result (cursor.new
-        ≡ moved cursor.old true
-        (leb_len (extended_instruction encoding.now cursor.old.bytes cursor.old.at))) }
+#[tactic(auto, unfolding(crate::specs::Instructions::extended_from))]
+fn extended_from(cursor: &mut Cursor, order: Order) -> Result<Instruction, BadFile>
+    ensures { Reads (λ i. i) result cursor.new (extended_from order cursor.old) }
 {
-    let size = unsigned(cursor)?;
-    if size == 0 || cursor.left() < size {
-        return None;
-    }
-    let instruction = extended_instruction_of(encoding, cursor, size)?;
-    cursor.skip(size).ok()?;
-    Some(instruction)
+    let size = uleb_from(cursor)?;
+    let contents = contents_from(cursor, size)?;
+    extended_in(contents, order)
 }
 
-/// Reads a two-byte number.
-fn two_byte_number(order: Order, cursor: &mut Cursor) -> Option<u16>
-    ensures value { result ≡ num cursor.old.bytes cursor.old.at w16 order }
-    ensures after { OnSome result (cursor.new ≡ moved cursor.old true 2) }
+/// Skips `count` operands.
+#[tactic(auto, using(dwarf_line_header::proofs::TableLemmas::pass_bad, dwarf_line_header::proofs::TableLemmas::pass_end, dwarf_line_header::proofs::TableLemmas::pass_more))]
+fn pass_operands(count: u8, cursor: &mut Cursor) -> Result<(), BadFile>
+    ensures { Reads (λ u. u) result cursor.new
+        (passed_over (many_from uleb_from count cursor.old)) }
 {
-    cursor.u16(order).ok()
+    for i in 0..count {
+        let _operand = uleb_from(cursor)?;
+    }
+    Ok(())
 }
 
 /// Reads the operands of a standard opcode.
-#[tactic(auto, unfolding(crate::specs::Instructions::standard_instruction))]
-fn standard_instruction(
-    opcode: u8,
-    count: u8,
+#[tactic(auto, unfolding(crate::specs::Instructions::standard_from))]
+fn standard_from(
     cursor: &mut Cursor,
     order: Order,
-) -> Option<Instruction>
-    ensures value { result
-        ≡ value_of (standard_instruction order cursor.old.bytes opcode count cursor.old.at) }
-    ensures after { OnSome result (cursor.new
-        ≡ moved cursor.old true
-        (leb_len (standard_instruction order cursor.old.bytes opcode count cursor.old.at))) }
+    opcode: u8,
+    count: u8,
+) -> Result<Instruction, BadFile>
+    ensures { Reads (λ i. i) result cursor.new (standard_from order opcode count cursor.old) }
 {
-    Some(match opcode {
+    Ok(match opcode {
         DW_LNS_COPY => Instruction::CopyRow,
-        DW_LNS_ADVANCE_PC => Instruction::AdvancePc(unsigned(cursor)?),
-        DW_LNS_ADVANCE_LINE => Instruction::AdvanceLine(signed(cursor)?),
-        DW_LNS_SET_FILE => Instruction::SetFile(unsigned(cursor)?),
-        DW_LNS_SET_COLUMN => Instruction::SetColumn(unsigned(cursor)?),
+        DW_LNS_ADVANCE_PC => Instruction::AdvancePc(uleb_from(cursor)?),
+        DW_LNS_ADVANCE_LINE => Instruction::AdvanceLine(sleb_from(cursor)?),
+        DW_LNS_SET_FILE => Instruction::SetFile(uleb_from(cursor)?),
+        DW_LNS_SET_COLUMN => Instruction::SetColumn(uleb_from(cursor)?),
         DW_LNS_NEGATE_STMT => Instruction::NegateStatement,
         DW_LNS_SET_BASIC_BLOCK => Instruction::SetBasicBlock,
         DW_LNS_CONST_ADD_PC => Instruction::ConstAddPc,
-        DW_LNS_FIXED_ADVANCE_PC => Instruction::FixedAdvancePc(two_byte_number(order, cursor)?),
+        DW_LNS_FIXED_ADVANCE_PC => Instruction::FixedAdvancePc(u16_from(cursor, order)?),
         DW_LNS_SET_PROLOGUE_END => Instruction::SetPrologueEnd,
         DW_LNS_SET_EPILOGUE_BEGIN => Instruction::SetEpilogueBegin,
-        DW_LNS_SET_ISA => Instruction::SetIsa(unsigned(cursor)?),
+        DW_LNS_SET_ISA => Instruction::SetIsa(uleb_from(cursor)?),
         _ => {
-            passed(cursor, count)?;
+            pass_operands(count, cursor)?;
             Instruction::UnknownStandard(opcode)
         }
     })
 }
 
 /// Reads the operands of an opcode.
-#[tactic(auto, unfolding(crate::specs::Instructions::operands))]
-fn operands(
+#[tactic(auto, unfolding(crate::specs::Instructions::operands_from))]
+fn operands_from(
+    cursor: &mut Cursor,
     encoding: &LineEncoding,
     lengths: &[u8],
     opcode: u8,
-    cursor: &mut Cursor,
-) -> Option<Instruction>
-    requires { HasLengths encoding.now lengths.now }
-    ensures value { result
-        ≡ value_of (operands encoding.now lengths.now cursor.old.bytes opcode cursor.old.at) }
-    ensures after { OnSome result (cursor.new
-        ≡ moved cursor.old true
-        (leb_len (operands encoding.now lengths.now cursor.old.bytes opcode cursor.old.at))) }
-{
-    if opcode >= encoding.opcode_base {
-        return Some(Instruction::Special(opcode - encoding.opcode_base));
-    }
-    if opcode == EXTENDED_OPCODE {
-        return extended_instruction(encoding, cursor);
-    }
-    standard_instruction(opcode, lengths[opcode as usize - 1], cursor, encoding.order)
-}
-
-/// Reads an instruction with its opcode.
-#[tactic(auto, unfolding(crate::specs::Instructions::instruction_at))]
-fn opcode_and_operands(
-    encoding: &LineEncoding,
-    lengths: &[u8],
-    cursor: &mut Cursor,
-) -> Option<Instruction>
-    requires { HasLengths encoding.now lengths.now }
-    ensures value { result
-        ≡ value_of (instruction_at encoding.now lengths.now cursor.old.bytes cursor.old.at) }
-    ensures after { OnSome result (IsAt cursor.old
-        (instruction_at encoding.now lengths.now cursor.old.bytes cursor.old.at) cursor.new) }
-{
-    let opcode = cursor.u8().ok()?;
-    operands(encoding, lengths, opcode, cursor)
-}
-
-/// Reads an instruction. BadLine if none can be read.
-pub fn instruction(
-    encoding: &LineEncoding,
-    lengths: &[u8],
-    cursor: &mut Cursor,
 ) -> Result<Instruction, BadFile>
     requires { HasLengths encoding.now lengths.now }
-    ensures { MatchResult result
-        (λ i. Found (instruction_at encoding.now lengths.now cursor.old.bytes cursor.old.at)
-        cursor.old i cursor.new)
-        (λ e. IsUnreadable encoding.now lengths.now cursor.old e) }
+    ensures { Reads (λ i. i) result cursor.new
+        (operands_from encoding.now lengths.now opcode cursor.old) }
+{
+    if opcode >= encoding.opcode_base {
+        return Ok(Instruction::Special(opcode - encoding.opcode_base));
+    }
+    if opcode == EXTENDED_OPCODE {
+        return extended_from(cursor, encoding.order);
+    }
+    standard_from(cursor, encoding.order, opcode, lengths[opcode as usize - 1])
+}
+
+/// Reads an opcode and its operands.
+fn opcode_and_operands(
+    cursor: &mut Cursor,
+    encoding: &LineEncoding,
+    lengths: &[u8],
+) -> Result<Instruction, BadFile>
+    requires { HasLengths encoding.now lengths.now }
+    ensures { Reads (λ i. i) result cursor.new
+        (opcode_and_operands encoding.now lengths.now cursor.old) }
+{
+    let opcode = u8_from(cursor)?;
+    operands_from(cursor, encoding, lengths, opcode)
+}
+
+/// Reads an instruction. BadLine at its file offset if none can be read.
+#[tactic(auto, unfolding(crate::specs::Instructions::instruction_from))]
+pub fn instruction_from(
+    cursor: &mut Cursor,
+    encoding: &LineEncoding,
+    lengths: &[u8],
+) -> Result<Instruction, BadFile>
+    requires { HasLengths encoding.now lengths.now }
+    ensures { Reads (λ i. i) result cursor.new
+        (instruction_from encoding.now lengths.now cursor.old) }
 {
     let place = cursor.place();
-    opcode_and_operands(encoding, lengths, cursor).ok_or(BadFile {
-        fault: Fault::BadLine,
-        offset: place,
-    })
+    match opcode_and_operands(cursor, encoding, lengths) {
+        Ok(instruction) => Ok(instruction),
+        Err(_) => bad_line(place),
+    }
 }

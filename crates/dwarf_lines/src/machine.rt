@@ -1,11 +1,12 @@
 //! The state machine of a line program.
 
 ghost use Rattle.std.specs.Prelude.{◌≡◌, ◌*◌, ◌^◌, ◌≤◌};
-ghost use Rattle.dwarf_lines.specs.Machine.{row_of, after, line_plus, address_plus, line_step, advance, row, start, IsUsable};
+ghost use Rattle.dwarf_line_header.specs.Header.{IsUsable};
+ghost use Rattle.dwarf_lines.specs.Machine.{row_of, after, line_plus, address_plus, line_step, advance, row, start};
 
-use crate::encoding::{AddressSize, LineEncoding};
 use crate::instruction::Instruction;
 use crate::registers::{LineRow, Registers};
+use dwarf_line_header::{AddressSize, LineEncoding};
 
 /// The line number `by` lines further on, modulo 2^32.
 fn line_plus(line: u32, by: i64) -> u32

@@ -2,20 +2,21 @@
 
 ghost use Rattle.std.specs.Prelude.{◌≡◌, [], ◌∷◌, MatchOption};
 ghost use Rattle.std.specs.Iterator.{YieldsFirst, item_count};
-ghost use Rattle.dwarf_lines.specs.Instructions.{HasLengths, program};
-ghost use Rattle.dwarf_lines.specs.Machine.{start, IsUsable};
+ghost use Rattle.dwarf_line_header.specs.Header.{HasLengths, IsUsable};
+ghost use Rattle.dwarf_lines.specs.Instructions.{program};
+ghost use Rattle.dwarf_lines.specs.Machine.{start};
 ghost use Rattle.dwarf_lines.specs.Rows.{rows_of, to_come};
 
-use crate::encoding::LineEncoding;
-use crate::instructions::instruction;
+use crate::instructions::instruction_from;
 use crate::machine::{apply, start};
 use crate::registers::{LineRow, Registers};
 use byte_cursor::Cursor;
+use dwarf_line_header::LineEncoding;
 use size_core::BadFile;
 use std::marker::Model;
 
 /// The next row or fault. After a fault nothing follows.
-#[tactic(auto, using(crate::proofs::RowLemmas::comes_none, crate::proofs::RowLemmas::comes_fault, crate::proofs::RowLemmas::comes_row, crate::proofs::RowLemmas::comes_same, crate::proofs::RowLemmas::goes_on))]
+#[tactic(auto, using(crate::proofs::RowLemmas::comes_none, crate::proofs::RowLemmas::comes_fault, crate::proofs::RowLemmas::comes_row, crate::proofs::RowLemmas::comes_same, crate::proofs::RowLemmas::instruction_less))]
 fn next_row(
     encoding: &LineEncoding,
     lengths: &[u8],
@@ -31,7 +32,7 @@ fn next_row(
         ≡ x ∷ to_come encoding.now lengths.now registers.new cursor.new) }
 {
     while cursor.left() > 0 {
-        match instruction(encoding, lengths, cursor) {
+        match instruction_from(cursor, encoding, lengths) {
             Ok(instruction) => {
                 if let Some(row) = apply(encoding, registers, instruction) {
                     return Some(Ok(row));
@@ -58,9 +59,8 @@ pub struct LineRows<'a> {
 impl<'a> Model for LineRows<'a> {
     ghost use Rattle.std.specs.Prelude.{List, Result};
     ghost use Rattle.size_core.specs.declared.fault.BadFile.{BadFile};
+    ghost use Rattle.dwarf_line_header.specs.Header.{HasLengths, IsUsable};
     ghost use Rattle.dwarf_lines.specs.declared.registers.LineRow.{LineRow};
-    ghost use Rattle.dwarf_lines.specs.Instructions.{HasLengths};
-    ghost use Rattle.dwarf_lines.specs.Machine.{IsUsable};
     ghost use Rattle.dwarf_lines.specs.Rows.{to_come};
 
     ghost Value = { List (Result LineRow BadFile) };
@@ -76,8 +76,7 @@ impl<'a> LineRows<'a> {
     pub fn new(encoding: LineEncoding, lengths: &'a [u8], cursor: Cursor<'a>) -> LineRows<'a>
         requires usable { IsUsable encoding }
         requires lengths { HasLengths encoding lengths.now }
-        ensures { result ≡ rows_of encoding start
-            (program encoding lengths.now cursor.entry.base cursor.entry.bytes cursor.entry.at) }
+        ensures { result ≡ rows_of encoding start (program encoding lengths.now cursor.entry) }
     {
         LineRows {
             encoding,

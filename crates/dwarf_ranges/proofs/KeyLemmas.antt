@@ -4,11 +4,11 @@ use Rattle.size_core.specs.declared.fault.BadFile.{BadFile}
 use Rattle.size_core.specs.Checks.{◌>>=◌}
 use Rattle.byte_cursor.specs.Window.{Window}
 use Rattle.dwarf_abbrev.specs.declared.shape.UnitShape.{UnitShape}
-use Rattle.dwarf_abbrev.specs.Reads.{inside, offset_from}
+use Rattle.dwarf_abbrev.specs.Reads.{inside, offset_from, offset_size}
 use Rattle.dwarf_abbrev.specs.Values.{ValueRecord}
 use Rattle.dwarf_units.specs.declared.sections.Sections.{Sections}
 use Rattle.dwarf_units.specs.Roots.{RootRecord}
-use Rattle.dwarf_units.specs.Strings.{base_or, entry_in, entry_of, offset_size, table_header}
+use Rattle.dwarf_units.specs.Strings.{base_or, entry_in, entry_of, offset_at, table_header}
 use Rattle.dwarf_ranges.specs.declared.list_location.ListName.{ListName}
 use Rattle.dwarf_ranges.specs.declared.ranges.RangeKey.{RangeKey}
 use Rattle.dwarf_ranges.specs.Keys.{IsKeyOf, listed}
@@ -46,7 +46,7 @@ entry_any read (Some v) p q n e = by_read (read v) e
     by_read (Err b) e = cc e
 
 pub list_any_place : (s : Sections) (shape : UnitShape) (base p q : ℕ) (name : ListName) (w : Window) → list_at s shape base p name ≡ Ok w → list_at s shape base q name ≡ Ok w
-unfolding list_at list_entry
+unfolding list_at offset_at
 list_any_place s shape base p q (ListName.Offset n) w e = opened_any _ p q w e
 list_any_place s shape base p q (ListName.Index i) w e = by_entry (list_entry s shape.wide base i p) refl e
   where

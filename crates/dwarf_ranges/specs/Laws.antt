@@ -1,12 +1,11 @@
 -- Range lists are read entry by entry, each range that is returned claims something, and address sets are read one after
 -- another.
-use Rattle.std.specs.Prelude.{◌≡◌, ℕ, ◌<◌, false, All, List, [], ◌∷◌, Some, None, Ok, Err}
-use Rattle.size_core.specs.declared.fault.BadFile.{BadFile}
+use Rattle.std.specs.Prelude.{◌≡◌, ℕ, false, All, List, Ok}
 use Rattle.size_core.specs.Checks.{◌>>=◌}
 use Rattle.byte_cursor.specs.declared.order.Order.{Order}
 use Rattle.byte_cursor.specs.Window.{Window}
 use Rattle.dwarf_abbrev.specs.declared.shape.UnitShape.{UnitShape}
-use Rattle.dwarf_abbrev.specs.Listing.{left}
+use Rattle.dwarf_abbrev.specs.Listing.{RecordsFollow}
 use Rattle.dwarf_units.specs.declared.sections.Sections.{Sections}
 use Rattle.dwarf_units.specs.Roots.{RootRecord}
 use Rattle.dwarf_ranges.specs.declared.set.AddressSet.{AddressSet}
@@ -29,16 +28,8 @@ Claims size p = claims_nothing size p.0 p.1 ≡ false
 abbrev pub RangesClaim : Type 0
 RangesClaim = (s : Sections) (r : RootRecord) (ranges : List (ℕ × ℕ)) → ranges_of s r ≡ Ok ranges → All (Claims r.shape.address) ranges
 
--- The address sets of a window are its first set and then those of the rest of the window. A set that is skipped isn't
--- among them. A fault is the last item, and at the end of the section there is none (DWARF 5, section 6.1.2).
-pub record SetsFollow (order : Order) : Type 0 where
-  pub more : (w next : Window) (set : AddressSet) → 0 < left w → set_from order w ≡ Ok (Some set, next)
-      → sets_from order w ≡ Ok set ∷ sets_from order next
-  pub skipped : (w next : Window) → 0 < left w → set_from order w ≡ Ok (None, next)
-      → sets_from order w ≡ sets_from order next
-  pub fault : (w : Window) (e : BadFile) → 0 < left w → set_from order w ≡ Err e → sets_from order w ≡ Err e ∷ []
-  pub done : (w : Window) → left w ≡ 0 → sets_from order w ≡ []
-
--- Address sets are read one after another, in either byte order.
+-- The address sets of a window are its first set and then those of the rest of the window, in either byte order. A set
+-- that is skipped isn't among them. A fault is the last item, and at the end of the section there is none (DWARF 5,
+-- section 6.1.2).
 abbrev pub SetsAreOneAfterAnother : Type 0
-SetsAreOneAfterAnother = (order : Order) → SetsFollow order
+SetsAreOneAfterAnother = (order : Order) → RecordsFollow AddressSet (set_from order) (sets_from order)

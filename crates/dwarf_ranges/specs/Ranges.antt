@@ -6,11 +6,11 @@ use Rattle.size_core.specs.declared.fault.Fault.TheVariants.{OffsetOutside}
 use Rattle.size_core.specs.Checks.{◌>>=◌, bad}
 use Rattle.byte_cursor.specs.Window.{Window}
 use Rattle.dwarf_abbrev.specs.declared.shape.UnitShape.{UnitShape}
-use Rattle.dwarf_abbrev.specs.Reads.{inside, offset_from}
+use Rattle.dwarf_abbrev.specs.Reads.{inside}
 use Rattle.dwarf_abbrev.specs.Values.{Meaning, ValueRecord, AConstant, ASigned, ASecOffset, AListIndex}
 use Rattle.dwarf_units.specs.declared.sections.Sections.{Sections}
 use Rattle.dwarf_units.specs.Roots.{RootRecord, address_of}
-use Rattle.dwarf_units.specs.Strings.{base_or, entry_in, offset_size, table_header}
+use Rattle.dwarf_units.specs.Strings.{base_or, offset_at, table_header}
 use Rattle.dwarf_ranges.specs.declared.list_location.ListName.{ListName}
 use Rattle.dwarf_ranges.specs.declared.list_location.ListName.TheVariants.{Offset, Index}
 use Rattle.dwarf_ranges.specs.declared.ranges.High.{High}
@@ -43,8 +43,8 @@ opened (Some w) place = Ok w
 
 -- The offset at an index of the table in `.debug_rnglists`. It is counted from the table's begin (DWARF 5,
 -- section 7.28).
-unfoldable pub list_entry : Sections → Bool → ℕ → ℕ → ℕ → Result ℕ BadFile
-list_entry s wide base index place = entry_in (offset_from s.order wide) (inside s.rnglists (base + index * offset_size wide)) place
+abbrev pub list_entry : Sections → Bool → ℕ → ℕ → ℕ → Result ℕ BadFile
+list_entry s wide base index place = offset_at s.order wide s.rnglists base index place
 
 -- The window at a list: in `.debug_rnglists` in DWARF 5, in `.debug_ranges` in earlier versions. Faults have
 -- the file offset of the value that refers to the list (DWARF 5, section 7.28; DWARF 4, section 2.17.3).

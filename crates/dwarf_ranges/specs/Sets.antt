@@ -1,14 +1,14 @@
 -- Address sets (DWARF 5, section 6.1.2; also DWARF 2 to 4).
-use Rattle.std.specs.Prelude.{ℕ, ◌+◌, ◌-◌, ◌*◌, ◌/◌, ◌==◌, ◌&&◌, ◌||◌, Bool, true, List, [], ◌∷◌, ◌++◌, length, min, Option, Some, None, Result, Ok, Err, if◌then◌else◌}
+use Rattle.std.specs.Prelude.{ℕ, ◌+◌, ◌-◌, ◌*◌, ◌/◌, ◌==◌, ◌&&◌, Bool, List, length, min, Option, Some, None, Result, Ok, Err, if◌then◌else◌}
 use Rattle.std.specs.Int.{w16}
 use Rattle.size_core.specs.declared.fault.BadFile.{BadFile}
 use Rattle.size_core.specs.Checks.{◌>>=◌}
 use Rattle.byte_cursor.specs.declared.order.Order.{Order}
-use Rattle.byte_cursor.specs.Reads.{sub_window}
-use Rattle.byte_cursor.specs.Window.{Window, place_of, moved}
-use Rattle.dwarf_abbrev.specs.Lengths.{initial_length_from}
-use Rattle.dwarf_abbrev.specs.Listing.{left, listing}
+use Rattle.byte_cursor.specs.Window.{Window, place_of}
+use Rattle.dwarf_abbrev.specs.Lengths.{contents_from, initial_length_from, length_len}
+use Rattle.dwarf_abbrev.specs.Listing.{left, records_in}
 use Rattle.dwarf_abbrev.specs.Reads.{byte_from, num_from, offset_from}
+use Rattle.dwarf_abbrev.specs.Shapes.{is_address_size}
 use Rattle.dwarf_units.specs.declared.sections.Sections.{Sections}
 use Rattle.dwarf_ranges.specs.declared.header.SetHeader.{SetHeader}
 use Rattle.dwarf_ranges.specs.declared.set.AddressSet.{AddressSet}
@@ -27,11 +27,7 @@ header_from order wide w = do
 -- Whether a set with this header is supported: it has version 2, no segments, and addresses of 2, 4 or 8 bytes
 -- (DWARF 5, sections 6.1.2 and 7.21).
 abbrev pub is_read : SetHeader → Bool
-is_read h = h.version == 2 && (h.address == 2 || h.address == 4 || h.address == 8) && h.segment == 0
-
--- The size of the length field of a set in bytes (DWARF 5, section 6.1.2).
-abbrev pub length_len : Bool → ℕ
-length_len wide = if wide then 12 else 4
+is_read h = h.version == 2 && is_address_size h.address && h.segment == 0
 
 -- The size of a set's header in bytes, with the length field (DWARF 5, section 6.1.2).
 abbrev pub header_len : Bool → ℕ
@@ -66,10 +62,6 @@ headed order place wide contents (Err e) = None
 unfoldable pub set_in : Order → ℕ → Bool → Window → Option AddressSet
 set_in order place wide contents = headed order place wide contents (header_from order wide contents)
 
--- The next len bytes as a window of their own, and the window after them (DWARF 5, section 6.1.2).
-unfoldable pub contents_from : ℕ → Window → Result (Window × Window) BadFile
-contents_from len w = sub_window w w.at len >>= λ contents. Ok (contents, moved w true len)
-
 -- The set at the begin of a window, or none if it is skipped, and the window after it (DWARF 5, section
 -- 6.1.2).
 unfoldable pub set_from : Order → Window → Result (Option AddressSet × Window) BadFile
@@ -78,29 +70,9 @@ set_from order w = do
   contents ← contents_from initial.0.len initial.1
   Ok (set_in order (place_of w) initial.0.wide contents.0, contents.1)
 
--- The end of the section (DWARF 5, section 6.1.2).
-abbrev pub at_end : Window → Result (Option (Option AddressSet) × Window) BadFile
-at_end w = Ok (None, w)
-
--- The set at the begin of a window, or none if it is skipped, up to the end of the section (DWARF 5, section
--- 6.1.2).
-unfoldable pub record_from : Order → Window → Result (Option (Option AddressSet) × Window) BadFile
-record_from order w = if left w == 0 then at_end w else set_from order w >>= (λ set. Ok (Some set.0, set.1))
-
--- The sets of these that aren't skipped (DWARF 5, section 6.1.2).
-unfoldable pub handed_out : List (Option AddressSet) → List (Result AddressSet BadFile)
-handed_out [] = []
-handed_out (None ∷ sets) = handed_out sets
-handed_out (Some set ∷ sets) = Ok set ∷ handed_out sets
-
--- The fault that ends the sets, if one does (DWARF 5, section 6.1.2).
-abbrev pub last_fault : Result Window BadFile → List (Result AddressSet BadFile)
-last_fault (Ok next) = []
-last_fault (Err e) = Err e ∷ []
-
 -- The sets of a window of `.debug_aranges` that aren't skipped, and then the fault (DWARF 5, section 6.1.2).
 unfoldable pub sets_from : Order → Window → List (Result AddressSet BadFile)
-sets_from order w = handed_out (listing (record_from order) w).items ++ last_fault (listing (record_from order) w).end
+sets_from order w = records_in (set_from order) w
 
 -- The address sets of `.debug_aranges`, each with its file offset, its length, its unit's offset, the size of
 -- an address, and its tuples; and then the fault (DWARF 5, section 6.1.2).

@@ -11,7 +11,7 @@ use thiserror::Error;
 #[derive(Clone, Copy, Debug, PartialEq, Eq, Error)]
 pub enum RangeAnswer {
     /// The file has a fault.
-    #[error("bad file")]
+    #[error("{0}")]
     Bad(BadFile),
     /// An allocation failed.
     #[error("out of memory")]

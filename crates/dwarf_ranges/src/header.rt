@@ -5,7 +5,7 @@ ghost use Rattle.dwarf_abbrev.specs.Reads.{Reads};
 ghost use Rattle.dwarf_ranges.specs.Sets.{header_from, is_read};
 
 use byte_cursor::{Cursor, Order};
-use dwarf_abbrev::{offset_from, u8_from, u16_from};
+use dwarf_abbrev::{is_address_size, offset_from, u8_from, u16_from};
 use size_core::BadFile;
 
 /// The fields of an address set between its length and its tuples.
@@ -43,7 +43,5 @@ pub fn header_from(cursor: &mut Cursor, order: Order, wide: bool) -> Result<SetH
 pub fn is_read(header: &SetHeader) -> bool
     ensures { result ≡ is_read header.now }
 {
-    header.version == 2
-        && (header.address == 2 || header.address == 4 || header.address == 8)
-        && header.segment == 0
+    header.version == 2 && is_address_size(header.address) && header.segment == 0
 }

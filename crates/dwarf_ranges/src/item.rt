@@ -9,9 +9,9 @@ use crate::claims::{base_sum, greatest};
 use crate::entry::{Entry, bad_list, entry_from};
 use crate::operands::addresses_from;
 use byte_cursor::{Cursor, Order};
-use dwarf_abbrev::{Content, UnitShape, Value};
-use dwarf_units::{Sections, address_by};
-use size_core::{BadFile, Fault};
+use dwarf_abbrev::UnitShape;
+use dwarf_units::{Sections, address_at};
+use size_core::BadFile;
 
 /// What a range list entry means.
 #[derive(Clone, Copy)]
@@ -35,31 +35,21 @@ pub struct ListUnit<'s, 'a> {
     pub table: u64,
 }
 
+impl<'s, 'a> ListUnit<'s, 'a> {
+    /// The address at an index of the unit's table in `.debug_addr`.
+    fn address(self, index: u64, place: u64) -> Result<u64, BadFile>
+        ensures { result ≡ address_at self.entry.sections.now self.entry.shape self.entry.table
+            index place }
+    {
+        address_at(self.sections, &self.shape, self.table, index, place)
+    }
+}
+
 /// The range from a start to an end.
 fn range_between(start: u64, end: u64) -> ListItem
     ensures { result ≡ range_between start end }
 {
     ListItem::Range(start, end.saturating_sub(start))
-}
-
-/// The address at an index of the unit's table in `.debug_addr`.
-#[tactic(auto, unfolding(dwarf_units::specs::Strings::address_by))]
-fn address_at(unit: ListUnit<'_, '_>, index: u64, place: u64) -> Result<u64, BadFile>
-    ensures { result ≡ address_at unit.entry.sections.now unit.entry.shape unit.entry.table
-        index place }
-{
-    let value = Value {
-        place,
-        content: Content::AddrIndex(index),
-    };
-    match address_by(&value, &unit.shape, unit.table, unit.sections) {
-        Ok(Some(address)) => Ok(address),
-        Ok(None) => Err(BadFile {
-            fault: Fault::OffsetOutside,
-            offset: place,
-        }),
-        Err(bad) => Err(bad),
-    }
 }
 
 /// What an entry at the file offset `place` means, with this base.
@@ -71,16 +61,16 @@ fn item_of(unit: ListUnit<'_, '_>, place: u64, base: u64, entry: Entry) -> Resul
     match entry {
         Entry::EndOfList => Ok(ListItem::End),
         Entry::BaseAddressx(index) => {
-            let other = address_at(unit, index, place)?;
+            let other = unit.address(index, place)?;
             Ok(ListItem::Base(other))
         }
         Entry::StartxEndx(first, second) => {
-            let start = address_at(unit, first, place)?;
-            let end = address_at(unit, second, place)?;
+            let start = unit.address(first, place)?;
+            let end = unit.address(second, place)?;
             Ok(range_between(start, end))
         }
         Entry::StartxLength(index, len) => {
-            let start = address_at(unit, index, place)?;
+            let start = unit.address(index, place)?;
             Ok(ListItem::Range(start, len))
         }
         Entry::OffsetPair(first, second) => {

@@ -1,16 +1,13 @@
 //! The offsets of range lists in their sections.
 
-ghost use Rattle.std.specs.Prelude.{◌≡◌, ◌+◌, ◌*◌};
-ghost use Rattle.size_core.specs.Checks.{bad};
-ghost use Rattle.size_core.specs.declared.fault.Fault.TheVariants.{OffsetOutside};
+ghost use Rattle.std.specs.Prelude.{◌≡◌, ◌+◌};
 ghost use Rattle.dwarf_abbrev.specs.Reads.{inside};
 ghost use Rattle.dwarf_abbrev.specs.Values.{meaning};
-ghost use Rattle.dwarf_units.specs.Strings.{offset_size};
 ghost use Rattle.dwarf_ranges.specs.Ranges.{list_at, list_entry, list_name, lists_header, opened, up_to};
 
 use byte_cursor::Cursor;
-use dwarf_abbrev::{Content, UnitShape, Value, inside, offset_from};
-use dwarf_units::Sections;
+use dwarf_abbrev::{Content, UnitShape, Value, inside};
+use dwarf_units::{OffsetTable, Sections};
 use size_core::{BadFile, Fault};
 
 /// The form in which a unit refers to its range list.
@@ -75,24 +72,6 @@ fn inside_sum<'a>(section: &Cursor<'a>, base: u64, offset: u64) -> Option<Cursor
     inside(section, sum as u64)
 }
 
-/// The size of an offset in bytes.
-fn offset_size(wide: bool) -> u8
-    ensures { result ≡ offset_size wide }
-{
-    if wide { 8 } else { 4 }
-}
-
-/// The cursor at an entry of a table of offsets. `None` if the entry doesn't begin inside the section.
-fn entry_inside<'a>(section: &Cursor<'a>, base: u64, index: u64, wide: bool) -> Option<Cursor<'a>>
-    ensures { result ≡ inside section.now (base + index * offset_size wide) }
-{
-    let offset = base as u128 + index as u128 * offset_size(wide) as u128;
-    if offset >= section.left() as u128 {
-        return None;
-    }
-    inside(section, offset as u64)
-}
-
 /// The window, or OffsetOutside if there is none.
 fn opened<'a>(window: Option<Cursor<'a>>, place: u64) -> Result<Cursor<'a>, BadFile>
     ensures { result ≡ opened window.entry place }
@@ -106,18 +85,7 @@ fn opened<'a>(window: Option<Cursor<'a>>, place: u64) -> Result<Cursor<'a>, BadF
     }
 }
 
-/// The fault of an entry that isn't completely inside its section.
-fn outside_section(place: u64) -> Result<u64, BadFile>
-    ensures { result ≡ bad OffsetOutside place }
-{
-    Err(BadFile {
-        fault: Fault::OffsetOutside,
-        offset: place,
-    })
-}
-
 /// The offset at an index of the table in `.debug_rnglists` that begins at `base`.
-#[tactic(auto, unfolding(crate::specs::Ranges::list_entry))]
 fn list_entry(
     sections: &Sections,
     wide: bool,
@@ -127,13 +95,13 @@ fn list_entry(
 ) -> Result<u64, BadFile>
     ensures { result ≡ list_entry sections.now wide base index place }
 {
-    let Some(mut cursor) = entry_inside(&sections.rnglists, base, index, wide) else {
-        return outside_section(place);
+    let table = OffsetTable {
+        order: sections.order,
+        wide,
+        section: &sections.rnglists,
+        base,
     };
-    match offset_from(&mut cursor, sections.order, wide) {
-        Ok(offset) => Ok(offset),
-        Err(_) => outside_section(place),
-    }
+    table.offset(index, place)
 }
 
 /// The window at a unit's range list: in `.debug_rnglists` in DWARF 5, in `.debug_ranges` in earlier versions.

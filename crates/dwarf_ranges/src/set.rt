@@ -1,13 +1,13 @@
 //! Address sets (DWARF 5, section 6.1.2).
 
 ghost use Rattle.std.specs.Prelude.{◌≡◌, ◌<◌};
-ghost use Rattle.dwarf_abbrev.specs.Reads.{Reads, Takes};
-ghost use Rattle.dwarf_ranges.specs.Sets.{contents_from, first_tuple, header_len, length_len, set_from, set_in, set_with};
+ghost use Rattle.dwarf_abbrev.specs.Reads.{Reads};
+ghost use Rattle.dwarf_ranges.specs.Sets.{first_tuple, header_len, set_from, set_in, set_with};
 
 use crate::header::{SetHeader, header_from, is_read};
 use crate::tuples::Tuples;
 use byte_cursor::{Cursor, Order};
-use dwarf_abbrev::initial_length;
+use dwarf_abbrev::{contents_from, initial_length, length_len};
 use size_core::BadFile;
 
 /// An address set of `.debug_aranges`: the addresses of one unit.
@@ -23,13 +23,6 @@ pub struct AddressSet<'a> {
     pub address: u8,
     /// The set's tuples.
     pub tuples: Tuples<'a>,
-}
-
-/// The size of a length field in bytes (section 7.4).
-fn length_len(wide: bool) -> u64
-    ensures { result ≡ length_len wide }
-{
-    if wide { 12 } else { 4 }
 }
 
 /// The size of a set's header in bytes, with its length field.
@@ -85,14 +78,6 @@ fn set_in<'a>(order: Order, place: u64, wide: bool, contents: &Cursor<'a>) -> Op
         Ok(header) => set_with(order, place, wide, contents, &header),
         Err(_) => None,
     }
-}
-
-/// The next `len` bytes as a window of their own. The cursor moves past them.
-#[tactic(auto, unfolding(crate::specs::Sets::contents_from))]
-fn contents_from<'a>(cursor: &mut Cursor<'a>, len: u64) -> Result<Cursor<'a>, BadFile>
-    ensures { Takes (λ x. x) result cursor.old cursor.new (contents_from len cursor.old) }
-{
-    cursor.take(len)
 }
 
 /// Reads the set at the cursor. `None` if it is skipped: it is too short for its header, has a version other

@@ -7,30 +7,17 @@ use Rattle.size_core.specs.declared.fault.Fault.TheVariants.{BadUnit}
 use Rattle.size_core.specs.Checks.{◌>>=◌, ◌>>◌, demand}
 use Rattle.byte_cursor.specs.declared.order.Order.{Order}
 use Rattle.byte_cursor.specs.Window.{Window, place_of}
-use Rattle.dwarf_abbrev.specs.Lengths.{initial_length_from}
+use Rattle.dwarf_abbrev.specs.Lengths.{contents_from, initial_length_from}
 use Rattle.dwarf_abbrev.specs.Reads.{num_from}
-use Rattle.dwarf_abbrev.specs.Listing.{left, going_on, listing_from, listing}
+use Rattle.dwarf_abbrev.specs.Listing.{left, going_on, listing_from, listing, up_to_end, handed_out, last_fault, records_in}
+use Rattle.dwarf_abbrev.specs.Shapes.{is_address_size, is_version}
+use Rattle.dwarf_abbrev.proofs.Every.{Every, bind_every, bind_some}
 use Rattle.dwarf_units.specs.declared.header.Header.{Header}
 use Rattle.dwarf_units.specs.declared.sections.Sections.{Sections}
 use Rattle.dwarf_units.specs.declared.unit.DwarfUnit.{DwarfUnit}
 use Rattle.dwarf_units.specs.declared.unit.Position.{Position}
-use Rattle.dwarf_units.specs.Units.{contents_from, header_from, headed, or_bad_unit, is_version, is_address_size, position_of, unit_of, unit_in, versioned, unit_from, record_from, handed_out, last_fault, units_from, units_of}
+use Rattle.dwarf_units.specs.Units.{header_from, headed, or_bad_unit, position_of, unit_of, unit_in, versioned, unit_from, units_from, units_of}
 use Rattle.dwarf_units.specs.Laws.{IsKnown, AllKnown}
-
--- What is read has a property.
-Every : {X : Type 0} → (X → Type 0) → Result X BadFile → Type 0
-Every P (Ok x) = P x
-Every P (Err e) = Unit {0}
-
-bind_every : {A B : Type 0} (P : B → Type 0) (r : Result A BadFile) (f : A → Result B BadFile) → ((x : A) → Every P (f x)) → Every P (r >>= f)
-unfolding Every
-bind_every P (Ok x) f h = h x
-bind_every P (Err e) f h = tt
-
-bind_some : {A B : Type 0} (Q : A → Type 0) (P : B → Type 0) (r : Result A BadFile) (f : A → Result B BadFile) → Every Q r → ((x : A) → Q x → Every P (f x)) → Every P (r >>= f)
-unfolding Every
-bind_some Q P (Ok x) f q h = h x q
-bind_some Q P (Err e) f q h = tt
 
 abbrev MaybeKnown : Option DwarfUnit → Type 0
 MaybeKnown None = Unit {0}
@@ -71,8 +58,8 @@ abbrev RecordKnown : Option (Option DwarfUnit) → Type 0
 RecordKnown None = Unit {0}
 RecordKnown (Some u) = MaybeKnown u
 
-record_known : (order : Order) (start : ℕ) (w : Window) → Every (λ x. RecordKnown x.0) (record_from order start w)
-unfolding record_from Every
+record_known : (order : Order) (start : ℕ) (w : Window) → Every (λ x. RecordKnown x.0) (up_to_end (unit_from order start) w)
+unfolding up_to_end Every
 record_known order start w = by_end (left w == 0)
   where
     none : Result (Option (Option DwarfUnit) × Window) BadFile
@@ -87,13 +74,13 @@ abbrev ItemsKnown : List (Option DwarfUnit) → Type 0
 ItemsKnown [] = Unit {0}
 ItemsKnown (u ∷ us) = MaybeKnown u × ItemsKnown us
 
-items_known : (order : Order) (start fuel : ℕ) (w : Window) → ItemsKnown (listing_from (record_from order start) fuel w).items
+items_known : (order : Order) (start fuel : ℕ) (w : Window) → ItemsKnown (listing_from (up_to_end (unit_from order start)) fuel w).items
 unfolding listing_from Every
 items_known order start zero w = tt
-items_known order start (suc fuel) w = by_record (λ next. items_known order start fuel next) (record_from order start w) (record_known order start w)
+items_known order start (suc fuel) w = by_record (λ next. items_known order start fuel next) (up_to_end (unit_from order start) w) (record_known order start w)
   where
-    by_record : ((next : Window) → ItemsKnown (listing_from (record_from order start) fuel next).items) → (r : Result (Option (Option DwarfUnit) × Window) BadFile) → Every (λ x. RecordKnown x.0) r
-        → ItemsKnown (going_on r (listing_from (record_from order start) fuel)).items
+    by_record : ((next : Window) → ItemsKnown (listing_from (up_to_end (unit_from order start)) fuel next).items) → (r : Result (Option (Option DwarfUnit) × Window) BadFile) → Every (λ x. RecordKnown x.0) r
+        → ItemsKnown (going_on r (listing_from (up_to_end (unit_from order start)) fuel)).items
     by_record rest (Err e) known = tt
     by_record rest (Ok (None, next)) known = tt
     by_record rest (Ok (Some u, next)) known = (known, rest next)
@@ -106,5 +93,6 @@ handed_known (None ∷ us) end known = handed_known us end known.1
 handed_known (Some u ∷ us) end known = (known.0, handed_known us end known.1)
 
 pub units_known : (s : Sections) → AllKnown (units_of s)
-unfolding units_from
-units_known s = handed_known (listing (record_from s.order (place_of s.info)) s.info).items (listing (record_from s.order (place_of s.info)) s.info).end (items_known s.order (place_of s.info) (suc (left s.info)) s.info)
+unfolding units_from records_in
+units_known s = let units = listing (up_to_end (unit_from s.order (place_of s.info))) s.info in
+    handed_known units.items units.end (items_known s.order (place_of s.info) (suc (left s.info)) s.info)

@@ -1,12 +1,12 @@
 -- Units are read one after another, and properties of each unit that is returned.
-use Rattle.std.specs.Prelude.{◌≡◌, ℕ, ◌<◌, true, List, [], ◌∷◌, Some, None, Result, Ok, Err}
+use Rattle.std.specs.Prelude.{◌≡◌, ℕ, true, List, [], ◌∷◌, Result, Ok, Err}
 use Rattle.size_core.specs.declared.fault.BadFile.{BadFile}
 use Rattle.byte_cursor.specs.declared.order.Order.{Order}
-use Rattle.byte_cursor.specs.Window.{Window}
-use Rattle.dwarf_abbrev.specs.Listing.{left}
+use Rattle.dwarf_abbrev.specs.Listing.{RecordsFollow}
+use Rattle.dwarf_abbrev.specs.Shapes.{is_address_size, is_version}
 use Rattle.dwarf_units.specs.declared.sections.Sections.{Sections}
 use Rattle.dwarf_units.specs.declared.unit.DwarfUnit.{DwarfUnit}
-use Rattle.dwarf_units.specs.Units.{is_version, is_address_size, unit_from, units_from, units_of}
+use Rattle.dwarf_units.specs.Units.{unit_from, units_from, units_of}
 
 -- A unit has a version from 2 to 5, and its addresses have 2, 4 or 8 bytes.
 pub record IsKnown (u : DwarfUnit) : Type 0 where
@@ -24,16 +24,7 @@ abbrev pub UnitsAreKnown : Type 0
 UnitsAreKnown = (s : Sections) → AllKnown (units_of s)
 
 -- The units of a window are its first unit and then those of the rest of the window. A unit that is skipped isn't among
--- them. A fault is the last item, and at the end of the section there is none.
-pub record UnitsFollow (order : Order) (start : ℕ) : Type 0 where
-  pub more : (w next : Window) (unit : DwarfUnit) → 0 < left w → unit_from order start w ≡ Ok (Some unit, next)
-      → units_from order start w ≡ Ok unit ∷ units_from order start next
-  pub skipped : (w next : Window) → 0 < left w → unit_from order start w ≡ Ok (None, next)
-      → units_from order start w ≡ units_from order start next
-  pub fault : (w : Window) (e : BadFile) → 0 < left w → unit_from order start w ≡ Err e
-      → units_from order start w ≡ Err e ∷ []
-  pub done : (w : Window) → left w ≡ 0 → units_from order start w ≡ []
-
--- Units are read one after another. This is the contract of `units_are_read_one_after_another`.
+-- them. A fault is the last item, and at the end of the section there is none. This is the contract of
+-- `units_are_read_one_after_another`.
 abbrev pub AreOneAfterAnother : Type 0
-AreOneAfterAnother = (order : Order) (start : ℕ) → UnitsFollow order start
+AreOneAfterAnother = (order : Order) (start : ℕ) → RecordsFollow DwarfUnit (unit_from order start) (units_from order start)

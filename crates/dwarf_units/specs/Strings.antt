@@ -3,10 +3,11 @@ use Rattle.std.specs.Prelude.{ℕ, ◌+◌, ◌*◌, ◌==◌, Bool, List, Optio
 use Rattle.size_core.specs.declared.fault.BadFile.{BadFile}
 use Rattle.size_core.specs.declared.fault.Fault.TheVariants.{OffsetOutside, BadString}
 use Rattle.size_core.specs.Checks.{◌>>=◌, bad}
+use Rattle.byte_cursor.specs.declared.order.Order.{Order}
 use Rattle.byte_cursor.specs.Window.{Window}
 use Rattle.byte_cursor.specs.Numbers.{text}
 use Rattle.dwarf_abbrev.specs.declared.shape.UnitShape.{UnitShape}
-use Rattle.dwarf_abbrev.specs.Reads.{inside, offset_from, address_from}
+use Rattle.dwarf_abbrev.specs.Reads.{inside, offset_from, offset_size, address_from}
 use Rattle.dwarf_abbrev.specs.Values.{Meaning, ValueRecord, AnAddress, AnAddrIndex, AText, AStrOffset, ALineStrOffset, AStrIndex, ASecOffset}
 use Rattle.dwarf_units.specs.declared.sections.Sections.{Sections}
 use Rattle.dwarf_units.specs.declared.strings.StringAt.{StringAt}
@@ -38,10 +39,6 @@ abbrev pub entry_in : (Window → Result (ℕ × Window) BadFile) → Option Win
 entry_in read None place = bad OffsetOutside place
 entry_in read (Some w) place = entry_of (read w) place
 
--- The size of an offset in bytes (DWARF 5, sections 7.4, 7.26 and 7.27).
-abbrev pub offset_size : Bool → ℕ
-offset_size wide = if wide then 8 else 4
-
 -- The size of an address in bytes (DWARF 5, sections 7.4, 7.26 and 7.27).
 abbrev pub address_size : UnitShape → ℕ
 address_size s = if s.address == 2 then 2 else if s.address == 4 then 4 else 8
@@ -51,9 +48,13 @@ address_size s = if s.address == 2 then 2 else if s.address == 4 then 4 else 8
 abbrev pub table_header : Bool → ℕ
 table_header wide = if wide then 16 else 8
 
--- An entry of `.debug_str_offsets`, by its index and a base (DWARF 5, sections 7.26 and 7.27).
-unfoldable pub string_offset_at : Sections → Bool → ℕ → ℕ → ℕ → Result ℕ BadFile
-string_offset_at s wide base index place = entry_in (offset_from s.order wide) (inside s.str_offsets (base + index * offset_size wide)) place
+-- An entry of a table of offsets in a section, by its index and a base (DWARF 5, sections 7.26 and 7.28).
+unfoldable pub offset_at : Order → Bool → Window → ℕ → ℕ → ℕ → Result ℕ BadFile
+offset_at order wide section base index place = entry_in (offset_from order wide) (inside section (base + index * offset_size wide)) place
+
+-- An entry of `.debug_str_offsets`, by its index and a base (DWARF 5, section 7.26).
+abbrev pub string_offset_at : Sections → Bool → ℕ → ℕ → ℕ → Result ℕ BadFile
+string_offset_at s wide base index place = offset_at s.order wide s.str_offsets base index place
 
 -- An entry of `.debug_addr`, by its index and a base (DWARF 5, sections 7.26 and 7.27).
 unfoldable pub address_at : Sections → UnitShape → ℕ → ℕ → ℕ → Result ℕ BadFile

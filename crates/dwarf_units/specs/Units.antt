@@ -5,21 +5,17 @@ use Rattle.size_core.specs.declared.fault.BadFile.{BadFile}
 use Rattle.size_core.specs.declared.fault.Fault.TheVariants.{BadUnit}
 use Rattle.size_core.specs.Checks.{◌>>=◌, ◌>>◌, bad, demand}
 use Rattle.byte_cursor.specs.declared.order.Order.{Order}
-use Rattle.byte_cursor.specs.Reads.{sub_window}
-use Rattle.byte_cursor.specs.Window.{Window, place_of, moved}
+use Rattle.byte_cursor.specs.Window.{Window, place_of}
 use Rattle.dwarf_abbrev.specs.declared.length.InitialLength.{InitialLength}
-use Rattle.dwarf_abbrev.specs.Lengths.{initial_length_from}
-use Rattle.dwarf_abbrev.specs.Listing.{left, listing}
+use Rattle.dwarf_abbrev.specs.Lengths.{contents_from, initial_length_from, length_len}
+use Rattle.dwarf_abbrev.specs.Listing.{left, records_in}
 use Rattle.dwarf_abbrev.specs.Reads.{byte_from, num_from, offset_from, skip_from}
+use Rattle.dwarf_abbrev.specs.Shapes.{is_address_size, is_version}
 use Rattle.dwarf_units.specs.declared.constants.TheConstants.{DW_UT_COMPILE, DW_UT_TYPE, DW_UT_SKELETON, DW_UT_SPLIT_COMPILE, DW_UT_SPLIT_TYPE}
 use Rattle.dwarf_units.specs.declared.sections.Sections.{Sections}
 use Rattle.dwarf_units.specs.declared.header.Header.{Header}
 use Rattle.dwarf_units.specs.declared.unit.DwarfUnit.{DwarfUnit}
 use Rattle.dwarf_units.specs.declared.unit.Position.{Position}
-
--- The next len bytes as a window of their own, and the window after them.
-unfoldable pub contents_from : ℕ → Window → Result (Window × Window) BadFile
-contents_from len w = sub_window w w.at len >>= λ contents. Ok (contents, moved w true len)
 
 -- The number of bytes after the offset of the abbreviations, by the type of a unit of DWARF 5 (DWARF 5,
 -- sections 7.5.1.2 and 7.5.1.3).
@@ -66,18 +62,6 @@ header_from order wide version w = if version == 5 then new_header_from order wi
 abbrev pub or_bad_unit : {X : Type 0} → ℕ → Result X BadFile → Result X BadFile
 or_bad_unit place (Ok x) = Ok x
 or_bad_unit place (Err e) = bad BadUnit place
-
--- Whether this version of DWARF is supported.
-abbrev pub is_version : ℕ → Bool
-is_version version = nat_le 2 version && nat_le version 5
-
--- Whether an address may have this size in bytes.
-abbrev pub is_address_size : ℕ → Bool
-is_address_size size = size == 2 || size == 4 || size == 8
-
--- The size of an initial length in bytes (DWARF 5, section 7.5.1).
-abbrev pub length_len : Bool → ℕ
-length_len wide = if wide then 12 else 4
 
 -- What is known of a unit before its header is read (DWARF 5, section 7.5.1).
 abbrev pub position_of : ℕ → Window → InitialLength → Window → Position
@@ -127,25 +111,10 @@ unit_from order start w = do
   unit ← unit_in order (position_of start w initial.0 contents.0) contents.0
   Ok (unit, contents.1)
 
--- The same, up to the end of the section (DWARF 5, section 7.5.1).
-unfoldable pub record_from : Order → ℕ → Window → Result (Option (Option DwarfUnit) × Window) BadFile
-record_from order start w = if left w == 0 then Ok (None, w) else unit_from order start w >>= (λ unit. Ok (Some unit.0, unit.1))
-
--- The units of these that aren't skipped.
-unfoldable pub handed_out : List (Option DwarfUnit) → List (Result DwarfUnit BadFile)
-handed_out [] = []
-handed_out (None ∷ us) = handed_out us
-handed_out (Some u ∷ us) = Ok u ∷ handed_out us
-
--- The fault that ends the units, if one does.
-abbrev pub last_fault : Result Window BadFile → List (Result DwarfUnit BadFile)
-last_fault (Ok next) = []
-last_fault (Err e) = Err e ∷ []
-
 -- The units of a window of `.debug_info` in order, and then the fault. The section begins at the file offset
 -- start (DWARF 5, section 7.5.1).
 unfoldable pub units_from : Order → ℕ → Window → List (Result DwarfUnit BadFile)
-units_from order start w = handed_out (listing (record_from order start) w).items ++ last_fault (listing (record_from order start) w).end
+units_from order start w = records_in (unit_from order start) w
 
 -- The units of `.debug_info` in order, and then the fault (DWARF 5, section 7.5.1).
 abbrev pub units_of : Sections → List (Result DwarfUnit BadFile)

@@ -6,12 +6,12 @@ ghost use Rattle.size_core.specs.Checks.{Gives, bad};
 ghost use Rattle.size_core.specs.declared.fault.Fault.TheVariants.{OffsetOutside};
 ghost use Rattle.dwarf_abbrev.specs.Reads.{inside};
 ghost use Rattle.dwarf_abbrev.specs.Values.{meaning, shown};
-ghost use Rattle.dwarf_units.specs.Strings.{address_at, address_by, address_size, base_or, named, offset_size, string_at, string_in_section, string_offset_at, table_header, text_by, text_of};
+ghost use Rattle.dwarf_units.specs.Strings.{address_at, address_by, address_size, base_or, named, offset_at, string_at, string_in_section, string_offset_at, table_header, text_by, text_of};
 ghost use Rattle.dwarf_units.specs.Roots.{shown_value};
 
 use crate::sections::Sections;
-use byte_cursor::Cursor;
-use dwarf_abbrev::{Content, UnitShape, Value, address_from, inside, offset_from};
+use byte_cursor::{Cursor, Order};
+use dwarf_abbrev::{Content, UnitShape, Value, address_from, inside, offset_from, offset_size};
 use size_core::{BadFile, Fault};
 
 /// A string in a section, by its offset.
@@ -54,13 +54,6 @@ fn entry_inside<'a>(section: &Cursor<'a>, base: u64, index: u64, size: u8) -> Op
     inside(section, offset as u64)
 }
 
-/// The size of an offset in bytes.
-fn offset_size(wide: bool) -> u8
-    ensures { result ≡ offset_size wide }
-{
-    if wide { 8 } else { 4 }
-}
-
 /// The size of an address in bytes.
 fn address_size(shape: &UnitShape) -> u8
     ensures { result ≡ address_size shape.now }
@@ -82,8 +75,40 @@ fn outside_section(place: u64) -> Result<u64, BadFile>
     })
 }
 
+/// A table of offsets in a section: in `.debug_str_offsets`, or in `.debug_rnglists` (DWARF 5, sections 7.26 and
+/// 7.28).
+#[derive(Clone, Copy)]
+pub struct OffsetTable<'s, 'a> {
+    /// The byte order.
+    pub order: Order,
+    /// Whether offsets have 8 bytes or 4.
+    pub wide: bool,
+    /// The section.
+    pub section: &'s Cursor<'a>,
+    /// The offset of the first entry in the section.
+    pub base: u64,
+}
+
+impl<'s, 'a> OffsetTable<'s, 'a> {
+    /// The offset at an index. OffsetOutside at the file offset `place` if the entry isn't completely inside the
+    /// section.
+    #[tactic(auto, unfolding(crate::specs::Strings::offset_at))]
+    pub fn offset(self, index: u64, place: u64) -> Result<u64, BadFile>
+        ensures { result ≡ offset_at self.entry.order self.entry.wide self.entry.section.now
+            self.entry.base index place }
+    {
+        let size = offset_size(self.wide);
+        let Some(mut cursor) = entry_inside(self.section, self.base, index, size) else {
+            return outside_section(place);
+        };
+        match offset_from(&mut cursor, self.order, self.wide) {
+            Ok(offset) => Ok(offset),
+            Err(_) => outside_section(place),
+        }
+    }
+}
+
 /// An entry of `.debug_str_offsets`.
-#[tactic(auto, unfolding(crate::specs::Strings::string_offset_at))]
 fn string_offset_at(
     sections: &Sections,
     wide: bool,
@@ -93,19 +118,19 @@ fn string_offset_at(
 ) -> Result<u64, BadFile>
     ensures { result ≡ string_offset_at sections.now wide base index place }
 {
-    let Some(mut cursor) = entry_inside(&sections.str_offsets, base, index, offset_size(wide))
-    else {
-        return outside_section(place);
+    let table = OffsetTable {
+        order: sections.order,
+        wide,
+        section: &sections.str_offsets,
+        base,
     };
-    match offset_from(&mut cursor, sections.order, wide) {
-        Ok(offset) => Ok(offset),
-        Err(_) => outside_section(place),
-    }
+    table.offset(index, place)
 }
 
-/// An entry of `.debug_addr`.
+/// The address at an index of the table in `.debug_addr` that begins at `base`. OffsetOutside at the file offset
+/// `place` if the entry isn't completely inside the section.
 #[tactic(auto, unfolding(crate::specs::Strings::address_at))]
-fn address_at(
+pub fn address_at(
     sections: &Sections,
     shape: &UnitShape,
     base: u64,

@@ -4,12 +4,15 @@ ghost use Rattle.std.specs.Prelude.{◌≡◌};
 ghost use Rattle.size_core.specs.Checks.{bad};
 ghost use Rattle.size_core.specs.declared.fault.Fault.TheVariants.{BadUnit};
 ghost use Rattle.byte_cursor.specs.Window.{Window, place_of};
-ghost use Rattle.dwarf_abbrev.specs.Reads.{Reads, Takes};
-ghost use Rattle.dwarf_units.specs.Units.{contents_from, headed, is_address_size, is_version, position_of, unit_from, unit_in, versioned};
+ghost use Rattle.dwarf_abbrev.specs.Reads.{Reads};
+ghost use Rattle.dwarf_units.specs.Units.{headed, position_of, unit_from, unit_in, versioned};
 
 use crate::header::{Header, header_from};
 use byte_cursor::{Cursor, Order};
-use dwarf_abbrev::{InitialLength, UnitShape, initial_length, u16_from};
+use dwarf_abbrev::{
+    InitialLength, UnitShape, contents_from, initial_length, is_address_size, is_version,
+    length_len, u16_from,
+};
 use size_core::{BadFile, Fault};
 
 /// A unit of `.debug_info`.
@@ -41,20 +44,6 @@ pub struct Position {
     pub wide: bool,
 }
 
-/// Whether this version of DWARF is supported.
-fn is_version(version: u16) -> bool
-    ensures { result ≡ is_version version }
-{
-    2 <= version && version <= 5
-}
-
-/// Whether an address may have this size in bytes.
-fn is_address_size(size: u8) -> bool
-    ensures { result ≡ is_address_size size }
-{
-    size == 2 || size == 4 || size == 8
-}
-
 /// The fault of a unit whose header can't be read.
 fn bad_unit<'a>(place: u64) -> Result<Option<DwarfUnit<'a>>, BadFile>
     ensures { result ≡ bad BadUnit place }
@@ -70,11 +59,10 @@ fn position_of(start: u64, place: u64, initial: InitialLength, contents: &Cursor
     ensures { (w : Window) → place ≡ place_of w
         → result ≡ position_of start w initial contents.now }
 {
-    let length_len = if initial.wide { 12 } else { 4 };
     Position {
         place,
         offset: place.saturating_sub(start),
-        len: length_len + contents.left(),
+        len: length_len(initial.wide) + contents.left(),
         wide: initial.wide,
     }
 }
@@ -144,14 +132,6 @@ fn unit_in<'a>(
     }
     let version = u16_from(&mut contents, order)?;
     versioned(order, position, version, contents)
-}
-
-/// The next `len` bytes as a window of their own. The cursor moves past them.
-#[tactic(auto, unfolding(crate::specs::Units::contents_from))]
-fn contents_from<'a>(cursor: &mut Cursor<'a>, len: u64) -> Result<Cursor<'a>, BadFile>
-    ensures { Takes (λ x. x) result cursor.old cursor.new (contents_from len cursor.old) }
-{
-    cursor.take(len)
 }
 
 /// Reads the unit at the cursor. `None` if it is skipped.

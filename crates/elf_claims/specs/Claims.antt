@@ -1,5 +1,5 @@
 -- The claims of the sections, the headers and the loads of an ELF file.
-use Rattle.std.specs.Prelude.{ℕ, ◌*◌, ◌-◌, ◌==◌, Bool, List, [], ◌∷◌, ◌++◌, length, codes, decimal, Option, None, Some, if◌then◌else◌}
+use Rattle.std.specs.Prelude.{ℕ, ◌*◌, ◌-◌, ◌==◌, Bool, List, [], ◌++◌, length, codes, decimal, Option, None, Some, if◌then◌else◌}
 use Rattle.std.specs.Option.{option_map}
 use Rattle.size_core.specs.declared.claim.Span.{Span}
 use Rattle.size_core.specs.Gather.{gather}
@@ -10,13 +10,8 @@ use Rattle.elf_file.specs.Tables.{section_at, section_count, segment_at, segment
 use Rattle.elf_file.specs.Names.{name_of}
 use Rattle.claim_sheet.specs.declared.reach.Reach.{Reach}
 use Rattle.claim_sheet.specs.declared.labels.Wrap.{Wrap}
-use Rattle.claim_sheet.specs.Reaches.{claim_on, claim_on_some, in_both, in_file, in_memory, of_load, span, wrapped}
+use Rattle.claim_sheet.specs.Reaches.{claim_on, claim_on_some, in_both, in_file, in_memory, of_load, or_if_empty, span, wrapped}
 use Rattle.elf_claims.specs.Loads.{has_flag, is_relocatable, has_addresses, slot_count, slot_load}
-
--- A name, or the other label if the name is empty.
-abbrev pub or_if_empty : List ℕ → List ℕ → List ℕ
-or_if_empty [] other = other
-or_if_empty (b ∷ label) other = b ∷ label
 
 -- Sections.
 

@@ -1,6 +1,8 @@
 -- The loads of an ELF file: the parts that are mapped at virtual addresses.
 use Rattle.std.specs.Prelude.{ℕ, ◌==◌, ◌&&◌, not, bit_and, Bool, List, Option, None, Some, if◌then◌else◌}
+use Rattle.std.specs.Option.{option_to_list}
 use Rattle.size_core.specs.declared.claim.Load.{Load}
+use Rattle.size_core.specs.Gather.{gather}
 use Rattle.elf_file.specs.declared.constants.TheConstants.{ET_REL, PT_LOAD, SHF_ALLOC, SHF_TLS, SHT_NOBITS}
 use Rattle.elf_file.specs.Tables.{header_of, section_at, section_count, segment_at, segment_count, is_null}
 
@@ -38,3 +40,7 @@ slot_count file = if is_relocatable file then section_count file else segment_co
 -- Slot i as a load, if it is one: section i of a relocatable file, program header i of others.
 unfoldable pub slot_load : List ℕ → ℕ → Option Load
 slot_load file i = if is_relocatable file then section_load file i else segment_load file i
+
+-- All loads, in the order of the slots.
+unfoldable pub loads_of : List ℕ → List Load
+loads_of file = gather (λ i. option_to_list (slot_load file i)) 0 (slot_count file)

@@ -11,7 +11,7 @@ use size_core::NoMemory;
 fn header_reach(file: &ElfFile<'_>) -> Reach
     ensures { result ≡ header_reach file.now }
 {
-    Reach::in_file(span(0, 0, file.encoding().header_len()))
+    Reach::in_file(span(0, 0, file.header_len()))
 }
 
 #[tactic(auto, unfolding(elf_file::specs::Tables::header_of))]
@@ -19,7 +19,7 @@ fn segment_table_reach(file: &ElfFile<'_>) -> Reach
     ensures { result ≡ segment_table_reach file.now }
 {
     let header = file.header();
-    let len = u64::from(header.segments) * file.encoding().segment_len();
+    let len = u64::from(header.segments) * file.segment_len();
     Reach::in_file(span(0, header.phoff, len))
 }
 
@@ -28,7 +28,7 @@ fn section_table_reach(file: &ElfFile<'_>) -> Reach
     ensures { result ≡ section_table_reach file.now }
 {
     let header = file.header();
-    let len = u64::from(header.sections) * file.encoding().section_len();
+    let len = u64::from(header.sections) * file.section_len();
     Reach::in_file(span(0, header.shoff, len))
 }
 

@@ -16,6 +16,6 @@ pub use debug_claims::{add_lines, add_units};
 pub use dwarf_sections::debug_sections;
 pub use headers::add_headers;
 pub use load_claims::add_loads;
-pub use loads::{load_at, load_slots};
+pub use loads::{load_at, load_slots, loads_of};
 pub use sections::add_sections;
 pub use symbols::add_symbols;

@@ -1,12 +1,14 @@
 //! The loads of a file: the parts that are mapped at virtual addresses.
 
-ghost use Rattle.std.specs.Prelude.{◌≡◌, ◌<◌, IfSome};
+ghost use Rattle.std.specs.Prelude.{◌≡◌, ◌<◌, All, IfOk, IfSome};
 ghost use Rattle.size_model.specs.Loads.{IsLoad};
 ghost use Rattle.elf_file.specs.Tables.{section_count, segment_count, is_null};
-ghost use Rattle.elf_claims.specs.Loads.{has_addresses, has_flag, is_relocatable, section_load, segment_load, slot_count, slot_load};
+ghost use Rattle.elf_claims.specs.Loads.{has_addresses, has_flag, is_relocatable, loads_of, section_load, segment_load, slot_count, slot_load};
 
+use claim_sheet::push_load;
 use elf_file::{ET_REL, ElfFile, PT_LOAD, SHF_ALLOC, SHF_TLS, SHT_NOBITS, SHT_NULL};
-use size_core::Load;
+use size_core::{Load, NoMemory};
+use std::alloc::Global;
 
 /// Returns whether the file is an object file (ET_REL). Each section with addresses then has its own address space.
 #[tactic(auto, unfolding(elf_file::specs::Tables::header_of))]
@@ -97,4 +99,17 @@ pub fn load_at(file: &ElfFile<'_>, i: u32) -> Option<Load>
     } else {
         segment_load(file, i)
     }
+}
+
+/// Returns all loads, in the order of the slots. It walks the file's tables once.
+#[tactic(auto, using(size_core::proofs::Gathered::gather_next, size_core::proofs::Gathered::gather_end), unfolding(crate::specs::Loads::loads_of))]
+pub fn loads_of(alloc: Global, file: &ElfFile<'_>) -> Result<Vec<Load>, NoMemory>
+    ensures are { IfOk result (λ v. v.items ≡ loads_of file.now) }
+    ensures fit { IfOk result (λ v. All IsLoad v.items) }
+{
+    let mut loads = Vec::new(alloc);
+    for i in 0..load_slots(file) {
+        push_load(&mut loads, load_at(file, i))?;
+    }
+    Ok(loads)
 }

@@ -3,10 +3,10 @@
 ghost use Rattle.std.specs.Prelude.{◌≡◌, ◌<◌};
 ghost use Rattle.elf_file.specs.Tables.{section_count};
 ghost use Rattle.claim_sheet.specs.Adds.{Adds};
-ghost use Rattle.elf_claims.specs.Claims.{or_if_empty, section_addresses, section_claim, section_claims, section_reach};
+ghost use Rattle.elf_claims.specs.Claims.{section_addresses, section_claim, section_claims, section_reach};
 
 use crate::loads::{has_addresses, is_relocatable};
-use claim_sheet::{ClaimSheet, Reach, Wrap, span};
+use claim_sheet::{ClaimSheet, Reach, Wrap, or_if_empty, span};
 use elf_file::{ElfFile, SHF_ALLOC, SHT_NOBITS, SHT_NULL};
 use size_core::{NoMemory, Span};
 
@@ -43,16 +43,6 @@ fn section_reach(file: &ElfFile<'_>, i: u32) -> Option<Reach>
         Some(Reach::in_both(section_addresses(file, i), bytes))
     } else {
         Some(Reach::in_file(bytes))
-    }
-}
-
-// Returns the label, or the other one if the label is empty.
-fn or_if_empty<'a>(label: &'a [u8], other: &'a [u8]) -> &'a [u8]
-    ensures { result.now ≡ or_if_empty label.now other.now }
-{
-    match label {
-        [] => other,
-        _ => label,
     }
 }
 

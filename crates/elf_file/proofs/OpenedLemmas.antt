@@ -5,12 +5,12 @@ use Rattle.std.specs.Prelude.{Result, MatchResult, bit_and}
 use Rattle.size_core.specs.declared.fault.BadFile.{BadFile}
 use Rattle.size_core.specs.Checks.{◌>>◌, Check, first_of, AllHold, IsFirstFault}
 use Rattle.size_core.proofs.FirstFault.{first_of_append, each_is, means}
+use Rattle.byte_cursor.specs.declared.encoding.Encoding.{Encoding}
 use Rattle.elf_file.specs.declared.constants.TheConstants.{SHF_ALLOC, PT_LOAD}
 use Rattle.elf_file.specs.Layout.{encoding_of, section_len, segment_len}
 use Rattle.elf_file.specs.Tables.{section_at, section_count, segment_at, segment_count, is_null, has_bytes}
 use Rattle.elf_file.specs.Names.{is_unnamed, name_of, name_text}
 use Rattle.elf_file.specs.ElfChecks.{opened, elf_checks, header_checks, section_table_checks, segment_table_checks, name_table_checks, section_fits, section_has_name, segment_fits}
-use Rattle.elf_file.specs.declared.encoding.Encoding.{Encoding}
 use Rattle.elf_file.specs.Known.{HasSections, HasSegments, IsOpened, sections_fit, sections_have_names, segments_fit}
 use Rattle.elf_file.specs.WellFormed.{IsWellFormed}
 use Rattle.elf_file.proofs.KnownLemmas.{fits_at, named_at, loaded_at}

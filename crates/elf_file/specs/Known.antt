@@ -1,7 +1,7 @@
 -- What a reader knows of an ELF file, step by step.
 use Rattle.std.specs.Prelude.{◌≡◌, ℕ, ◌+◌, ◌-◌, ◌^◌, ◌≤◌, ◌<◌, List, length, Ok}
 use Rattle.size_core.specs.Checks.{Check, each}
-use Rattle.elf_file.specs.declared.encoding.Encoding.{Encoding}
+use Rattle.byte_cursor.specs.declared.encoding.Encoding.{Encoding}
 use Rattle.elf_file.specs.Layout.{encoding_of, header_len, section_len, segment_len}
 use Rattle.elf_file.specs.Tables.{section_place, section_count, segment_place, segment_count, name_index, section_bytes}
 use Rattle.elf_file.specs.ElfChecks.{section_fits, section_has_name, segment_fits}

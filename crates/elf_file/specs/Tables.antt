@@ -1,10 +1,12 @@
 -- The sections and segments in the tables of an ELF file.
 use Rattle.std.specs.Prelude.{ℕ, ◌+◌, ◌*◌, ◌==◌, ◌&&◌, ◌||◌, not, Bool, List, [], take, drop, nat_lt, if◌then◌else◌}
+use Rattle.byte_cursor.specs.Encoding.{four, half, word}
 use Rattle.elf_file.specs.declared.header.ElfHeader.{ElfHeader}
 use Rattle.elf_file.specs.declared.section.SectionHeader.{SectionHeader}
 use Rattle.elf_file.specs.declared.segment.Segment.{Segment}
 use Rattle.elf_file.specs.declared.constants.TheConstants.{SHT_NULL, SHT_NOBITS, SHN_XINDEX, PN_XNUM}
-use Rattle.elf_file.specs.Layout.{encoding_of, half, four, word, section_len, segment_len, phoff, shoff, phnum, shnum, shstrndx}
+use Rattle.elf_file.specs.declared.layout.TheConstants.{E_TYPE, E_MACHINE, SH_NAME, SH_TYPE, SH_FLAGS, SH_ADDR, SH_OFFSET, SH_SIZE, SH_LINK, SH_INFO, P_TYPE, P_FLAGS, P_OFFSET, P_VADDR, P_FILESZ, P_MEMSZ}
+use Rattle.elf_file.specs.Layout.{encoding_of, section_len, segment_len, phoff, shoff, phnum, shnum, shstrndx}
 
 -- The file offset of the header of section i (gABI, ELF Header: e_shoff, e_shentsize).
 abbrev pub section_place : List ℕ → ℕ → ℕ
@@ -12,20 +14,20 @@ section_place file i = shoff file + i * section_len (encoding_of file)
 
 -- The fields of section i but for the name: Elf32_Shdr, Elf64_Shdr (gABI, Section Header).
 unfoldable pub section_at : List ℕ → ℕ → SectionHeader
-section_at file i = let place = section_place file i in record {
+section_at file i = let e = encoding_of file in let place = section_place file i in record {
   place = place;
-  kind = four file place 4 4;
-  flags = word file place 8 8;
-  addr = word file place 12 16;
-  offset = word file place 16 24;
-  size = word file place 20 32;
-  link = four file place 24 40;
-  info = four file place 28 44;
+  kind = four e file place SH_TYPE;
+  flags = word e file place SH_FLAGS;
+  addr = word e file place SH_ADDR;
+  offset = word e file place SH_OFFSET;
+  size = word e file place SH_SIZE;
+  link = four e file place SH_LINK;
+  info = four e file place SH_INFO;
 }
 
 -- The offset of the name of section i in the section name table (gABI, Section Header: sh_name).
 unfoldable pub name_offset : List ℕ → ℕ → ℕ
-name_offset file i = four file (section_place file i) 0 0
+name_offset file i = four (encoding_of file) file (section_place file i) SH_NAME
 
 -- The number of sections: 0 if e_shoff is 0, and sh_size of section 0 if e_shnum is 0 (gABI, ELF
 -- Header: e_shnum).
@@ -50,14 +52,14 @@ segment_place file i = phoff file + i * segment_len (encoding_of file)
 
 -- The fields of segment i: Elf32_Phdr, Elf64_Phdr (gABI, Program Header).
 unfoldable pub segment_at : List ℕ → ℕ → Segment
-segment_at file i = let place = segment_place file i in record {
+segment_at file i = let e = encoding_of file in let place = segment_place file i in record {
   place = place;
-  kind = four file place 0 0;
-  flags = four file place 24 4;
-  offset = word file place 4 8;
-  vaddr = word file place 8 16;
-  filesz = word file place 16 32;
-  memsz = word file place 20 40;
+  kind = four e file place P_TYPE;
+  flags = four e file place P_FLAGS;
+  offset = word e file place P_OFFSET;
+  vaddr = word e file place P_VADDR;
+  filesz = word e file place P_FILESZ;
+  memsz = word e file place P_MEMSZ;
 }
 
 -- The bytes of segment i, cut at the end of the file (gABI, Program Header: p_offset, p_filesz).
@@ -66,11 +68,11 @@ segment_bytes file i = take (segment_at file i).filesz (drop (segment_at file i)
 
 -- The fields of the file header, with the numbers of sections and segments (gABI, ELF Header).
 unfoldable pub header_of : List ℕ → ElfHeader
-header_of file = record {
-  wide = (encoding_of file).wide;
-  order = (encoding_of file).order;
-  kind = half file 0 16 16;
-  machine = half file 0 18 18;
+header_of file = let e = encoding_of file in record {
+  wide = e.wide;
+  order = e.order;
+  kind = half e file 0 E_TYPE;
+  machine = half e file 0 E_MACHINE;
   phoff = phoff file;
   shoff = shoff file;
   segments = segment_count file;

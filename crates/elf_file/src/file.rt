@@ -2,7 +2,7 @@
 
 ghost use Rattle.std.specs.Prelude.{◌≡◌, ◌<◌, ◌^◌, length, MatchResult, OnOk};
 ghost use Rattle.size_core.specs.Checks.{AllHold, IsFirstFault};
-ghost use Rattle.elf_file.specs.Layout.{encoding_of};
+ghost use Rattle.elf_file.specs.Layout.{encoding_of, header_len, section_len, segment_len};
 ghost use Rattle.elf_file.specs.Tables.{header_of, section_at, section_bytes, section_count, segment_at, segment_bytes, segment_count};
 ghost use Rattle.elf_file.specs.Names.{name_of, section_named};
 ghost use Rattle.elf_file.specs.ElfChecks.{elf_checks, opened};
@@ -10,13 +10,14 @@ ghost use Rattle.elf_file.specs.WellFormed.{IsWellFormed};
 ghost use Rattle.elf_file.specs.Shown.{numbers};
 
 use crate::constants::SHT_NULL;
-use crate::encoding::Encoding;
 use crate::header::ElfHeader;
+use crate::layout::{E_MACHINE, E_PHOFF, E_SHOFF, E_TYPE, HEADER_LEN, SECTION_LEN, SEGMENT_LEN};
 use crate::names::{NameTable, name_of, name_table, names_of, sections_have_names};
 use crate::section::Section;
 use crate::sections::{encoding, section_bytes, section_of_table, section_table, sections_fit};
 use crate::segment::Segment;
 use crate::segments::{segment_bytes, segment_of_table, segment_table, segments_fit};
+use byte_cursor::Encoding;
 use size_core::BadFile;
 use std::marker::Model;
 
@@ -105,13 +106,34 @@ impl<'a> ElfFile<'a> {
         ElfHeader {
             wide: encoding.wide,
             order: encoding.order,
-            kind: encoding.half(self.file, 0, 16, 16),
-            machine: encoding.half(self.file, 0, 18, 18),
-            phoff: encoding.phoff(self.file),
-            shoff: encoding.shoff(self.file),
+            kind: encoding.half(self.file, 0, E_TYPE),
+            machine: encoding.half(self.file, 0, E_MACHINE),
+            phoff: encoding.word(self.file, 0, E_PHOFF),
+            shoff: encoding.word(self.file, 0, E_SHOFF),
             segments: self.segments,
             sections: self.sections,
         }
+    }
+
+    /// Returns the size of the file header in bytes, which depends on the class.
+    pub fn header_len(&self) -> u64
+        ensures { result ≡ header_len (encoding_of self.now) }
+    {
+        self.encoding.pick(HEADER_LEN)
+    }
+
+    /// Returns the size of a section header in bytes, which depends on the class.
+    pub fn section_len(&self) -> u64
+        ensures { result ≡ section_len (encoding_of self.now) }
+    {
+        self.encoding.pick(SECTION_LEN)
+    }
+
+    /// Returns the size of a program header in bytes, which depends on the class.
+    pub fn segment_len(&self) -> u64
+        ensures { result ≡ segment_len (encoding_of self.now) }
+    {
+        self.encoding.pick(SEGMENT_LEN)
     }
 
     /// Returns section `i` (ELF gABI, Section Header).

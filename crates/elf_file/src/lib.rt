@@ -3,7 +3,6 @@
 #![tactic(auto)]
 
 mod constants;
-mod encoding;
 mod file;
 mod header;
 mod layout;
@@ -18,8 +17,8 @@ pub use constants::{
     SHF_EXECINSTR, SHF_TLS, SHF_WRITE, SHN_LORESERVE, SHN_XINDEX, SHT_NOBITS, SHT_NOTE, SHT_NULL,
     standard_numbers,
 };
-pub use encoding::Encoding;
 pub use file::ElfFile;
 pub use header::ElfHeader;
+pub use layout::standard_layout;
 pub use section::Section;
 pub use segment::Segment;

@@ -8,9 +8,9 @@ ghost use Rattle.elf_file.specs.ElfChecks.{checked, name_table_checks, section_h
 ghost use Rattle.elf_file.specs.Known.{HasHeader, HasSection, HasSections, HasNameTable, sections_fit, sections_have_names};
 
 use crate::constants::{SHN_XINDEX, SHT_NULL};
-use crate::encoding::Encoding;
+use crate::layout::{E_SHSTRNDX, SH_NAME};
 use crate::sections::{section_bytes, section_of_table, section_place};
-use byte_cursor::text_at;
+use byte_cursor::{Encoding, text_at};
 use size_core::{BadFile, Fault};
 
 /// The section name table: its number, which is 0 if sections have no names, and its bytes.
@@ -29,7 +29,7 @@ fn name_index(file: &[u8], encoding: Encoding, sections: u32) -> u32
     if sections == 0 {
         return 0;
     }
-    let index = encoding.shstrndx(file);
+    let index = encoding.half(file, 0, E_SHSTRNDX);
     if index == SHN_XINDEX {
         section_of_table(file, encoding, sections, 0).link
     } else {
@@ -49,7 +49,7 @@ pub fn name_table(file: &[u8], encoding: Encoding, sections: u32) -> Result<u32,
     if index != 0 && index >= sections {
         return Err(BadFile {
             fault: Fault::BadIndex,
-            offset: encoding.shstrndx_place(),
+            offset: encoding.pick(E_SHSTRNDX),
         });
     }
     Ok(index)
@@ -79,7 +79,7 @@ fn name_text<'a>(file: &[u8], encoding: Encoding, names: &'a [u8], i: u32) -> Op
     ensures { option_copied result ≡ name_text file.now i }
 {
     let place = section_place(file, encoding, i);
-    text_at(names, encoding.four(file, place, 0, 0) as usize)
+    text_at(names, encoding.four(file, place, SH_NAME) as usize)
 }
 
 /// Checks that the name of section `i` has its terminating zero byte.

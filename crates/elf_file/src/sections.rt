@@ -7,9 +7,12 @@ ghost use Rattle.elf_file.specs.ElfChecks.{checked, header_checks, section_table
 ghost use Rattle.elf_file.specs.Known.{HasHeader, HasSection, HasSections, sections_fit};
 
 use crate::constants::{SHF_ALLOC, SHT_NOBITS, SHT_NULL};
-use crate::encoding::Encoding;
+use crate::layout::{
+    E_SHENTSIZE, E_SHNUM, E_SHOFF, HEADER_LEN, SECTION_LEN, SH_ADDR, SH_FLAGS, SH_INFO, SH_LINK,
+    SH_OFFSET, SH_SIZE, SH_TYPE,
+};
 use crate::section::SectionHeader;
-use byte_cursor::Order;
+use byte_cursor::{Encoding, Order};
 use size_core::{BadFile, Fault};
 
 /// Returns the class and the byte order. Checks that the file header is complete.
@@ -43,7 +46,7 @@ pub fn encoding(file: &[u8]) -> Result<Encoding, BadFile>
         }),
     };
     let encoding = Encoding { wide, order };
-    if (file.len() as u64) < encoding.header_len() {
+    if (file.len() as u64) < encoding.pick(HEADER_LEN) {
         return Err(truncated);
     }
     Ok(encoding)
@@ -56,15 +59,15 @@ pub fn section_table(file: &[u8], encoding: Encoding) -> Result<u32, BadFile>
     ensures value { result ≡ checked (section_table_checks file.now) (section_count file.now) }
     ensures known { IfOk result (λ n. HasSections file.now encoding n) }
 {
-    let table = encoding.shoff(file);
+    let table = encoding.word(file, 0, E_SHOFF);
     if table == 0 {
         return Ok(0);
     }
-    let len = encoding.section_len();
-    if u64::from(encoding.shentsize(file)) != len {
+    let len = encoding.pick(SECTION_LEN);
+    if u64::from(encoding.half(file, 0, E_SHENTSIZE)) != len {
         return Err(BadFile {
             fault: Fault::BadHeader,
-            offset: encoding.shentsize_place(),
+            offset: encoding.pick(E_SHENTSIZE),
         });
     }
     let past_end = BadFile {
@@ -76,7 +79,7 @@ pub fn section_table(file: &[u8], encoding: Encoding) -> Result<u32, BadFile>
         return Err(past_end);
     }
     let room = size - table;
-    let mut count = u64::from(encoding.shnum(file));
+    let mut count = u64::from(encoding.half(file, 0, E_SHNUM));
     if count == 0 {
         if room < len {
             return Err(past_end);
@@ -95,7 +98,7 @@ pub fn section_place(file: &[u8], encoding: Encoding, i: u32) -> u64
     requires within { HasSection file.now i }
     ensures { result ≡ section_place file.now i }
 {
-    encoding.shoff(file) + i as u64 * encoding.section_len()
+    encoding.word(file, 0, E_SHOFF) + i as u64 * encoding.pick(SECTION_LEN)
 }
 
 /// Returns the header of section `i`, which lies in the file.
@@ -108,13 +111,13 @@ pub fn section_header(file: &[u8], encoding: Encoding, i: u32) -> SectionHeader
     let place = section_place(file, encoding, i);
     SectionHeader {
         place,
-        kind: encoding.four(file, place, 4, 4),
-        flags: encoding.word(file, place, 8, 8),
-        addr: encoding.word(file, place, 12, 16),
-        offset: encoding.word(file, place, 16, 24),
-        size: encoding.word(file, place, 20, 32),
-        link: encoding.four(file, place, 24, 40),
-        info: encoding.four(file, place, 28, 44),
+        kind: encoding.four(file, place, SH_TYPE),
+        flags: encoding.word(file, place, SH_FLAGS),
+        addr: encoding.word(file, place, SH_ADDR),
+        offset: encoding.word(file, place, SH_OFFSET),
+        size: encoding.word(file, place, SH_SIZE),
+        link: encoding.four(file, place, SH_LINK),
+        info: encoding.four(file, place, SH_INFO),
     }
 }
 

@@ -6,9 +6,13 @@ ghost use Rattle.elf_file.specs.ElfChecks.{checked, segment_table_checks, segmen
 ghost use Rattle.elf_file.specs.Known.{HasSections, HasSegment, HasSegments, segments_fit};
 
 use crate::constants::{PN_XNUM, PT_LOAD};
-use crate::encoding::Encoding;
+use crate::layout::{
+    E_PHENTSIZE, E_PHNUM, E_PHOFF, P_FILESZ, P_FLAGS, P_MEMSZ, P_OFFSET, P_TYPE, P_VADDR,
+    SEGMENT_LEN,
+};
 use crate::sections::{passes_end, section_of_table};
 use crate::segment::Segment;
+use byte_cursor::Encoding;
 use size_core::{BadFile, Fault};
 
 /// Returns the number of segments, from the file header or from section 0.
@@ -17,7 +21,7 @@ fn segment_count(file: &[u8], encoding: Encoding, sections: u32) -> u32
     requires { HasSections file.now encoding sections }
     ensures { result ≡ segment_count file.now }
 {
-    let count = encoding.phnum(file);
+    let count = encoding.half(file, 0, E_PHNUM);
     if count == PN_XNUM && sections > 0 {
         section_of_table(file, encoding, sections, 0).info
     } else {
@@ -36,14 +40,14 @@ pub fn segment_table(file: &[u8], encoding: Encoding, sections: u32) -> Result<u
     if count == 0 {
         return Ok(0);
     }
-    let len = encoding.segment_len();
-    if u64::from(encoding.phentsize(file)) != len {
+    let len = encoding.pick(SEGMENT_LEN);
+    if u64::from(encoding.half(file, 0, E_PHENTSIZE)) != len {
         return Err(BadFile {
             fault: Fault::BadHeader,
-            offset: encoding.phentsize_place(),
+            offset: encoding.pick(E_PHENTSIZE),
         });
     }
-    let table = encoding.phoff(file);
+    let table = encoding.word(file, 0, E_PHOFF);
     let size = file.len() as u64;
     if table > size || (size - table) / len < count as u64 {
         return Err(BadFile {
@@ -62,15 +66,15 @@ pub fn segment_of_table(file: &[u8], encoding: Encoding, segments: u32, i: u32) 
     ensures value { result ≡ segment_at file.now i }
     ensures within { HasSegment file.now i }
 {
-    let place = encoding.phoff(file) + i as u64 * encoding.segment_len();
+    let place = encoding.word(file, 0, E_PHOFF) + i as u64 * encoding.pick(SEGMENT_LEN);
     Segment {
         place,
-        kind: encoding.four(file, place, 0, 0),
-        flags: encoding.four(file, place, 24, 4),
-        offset: encoding.word(file, place, 4, 8),
-        vaddr: encoding.word(file, place, 8, 16),
-        filesz: encoding.word(file, place, 16, 32),
-        memsz: encoding.word(file, place, 20, 40),
+        kind: encoding.four(file, place, P_TYPE),
+        flags: encoding.four(file, place, P_FLAGS),
+        offset: encoding.word(file, place, P_OFFSET),
+        vaddr: encoding.word(file, place, P_VADDR),
+        filesz: encoding.word(file, place, P_FILESZ),
+        memsz: encoding.word(file, place, P_MEMSZ),
     }
 }
 

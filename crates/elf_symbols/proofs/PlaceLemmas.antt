@@ -10,9 +10,8 @@ use Rattle.size_core.specs.declared.fault.Fault.TheVariants.{NameOutside}
 use Rattle.byte_cursor.specs.Numbers.{text}
 use Rattle.byte_cursor.proofs.Windows.{text-window}
 use Rattle.byte_cursor.proofs.Zeros.{at_place}
-use Rattle.elf_file.specs.Layout.{four}
 use Rattle.elf_file.specs.Tables.{has_bytes, section_at, section_bytes}
-use Rattle.elf_symbols.specs.Symbols.{bytes_place, name_at, names_of, present, symbol_place}
+use Rattle.elf_symbols.specs.Symbols.{bytes_place, name_at, name_start, names_of, present, symbol_place}
 use Rattle.elf_symbols.specs.Names.{IsNameAt, name_offset, name_place, symbol_name}
 
 -- a text and the zero byte after it lie in the bytes
@@ -109,17 +108,31 @@ present_some (Some s) place t e = let same : s ≡ t = cc e in ap (λ (x : List 
 
 pub name_placed : (file : List ℕ) (i k : ℕ) (t : List ℕ) → symbol_name file i k ≡ Ok t → 0 < length t → text file (name_place file i k) ≡ Some t
 unfolding name_at
-name_placed file i k t is some = by_offset (four file (symbol_place file i k) 0 0 == 0) is
+name_placed file i k t is some = by_offset (name_start file (symbol_place file i k) == 0) is
   where
-    by_offset : (b : Bool) → (if b then Ok [] else present (text (names_of file i) (four file (symbol_place file i k) 0 0)) NameOutside (symbol_place file i k)) ≡ Ok t
+    by_offset : (b : Bool) → (if b then Ok [] else present (text (names_of file i) (name_start file (symbol_place file i k))) NameOutside (symbol_place file i k)) ≡ Ok t
         → text file (name_place file i k) ≡ Some t
     by_offset true is = let none : t ≡ [] = cc is in absurd (omega (arith, some, ap length none))
-    by_offset false is = placed file (section_at file i).link (four file (symbol_place file i k) 0 0) t (present_some _ _ t is)
+    by_offset false is = placed file (section_at file i).link (name_start file (symbol_place file i k)) t (present_some _ _ t is)
 
 -- the text at the file offset of a name is the name, if its end is in the table's names
-pub is_name : (file : List ℕ) (i k : ℕ) (t : List ℕ) → text file (name_place file i k) ≡ Some t → 0 < four file (symbol_place file i k) 0 0
-    → four file (symbol_place file i k) 0 0 + length t < length (names_of file i) → IsNameAt file (name_offset file i k) t
+pub is_name : (file : List ℕ) (i k : ℕ) (t : List ℕ) → text file (name_place file i k) ≡ Some t → 0 < name_start file (symbol_place file i k)
+    → name_start file (symbol_place file i k) + length t < length (names_of file i) → IsNameAt file (name_offset file i k) t
 unfolding name_at
 is_name file i k t is some fits = λ place same.
-    let other : (four file (symbol_place file i k) 0 0 == 0) ≡ false = grind (arith, common_steps) in
-    rw (same, other, kept file (section_at file i).link (four file (symbol_place file i k) 0 0) t is fits) refl
+    let other : (name_start file (symbol_place file i k) == 0) ≡ false = grind (arith, common_steps) in
+    rw (same, other, kept file (section_at file i).link (name_start file (symbol_place file i k)) t is fits) refl
+
+-- a name that isn't empty has an offset, and ends in the table's names
+pub name_fits : (file : List ℕ) (i k : ℕ) (t : List ℕ) → symbol_name file i k ≡ Ok t → 0 < length t
+    → (0 < name_start file (symbol_place file i k)) × (name_start file (symbol_place file i k) + length t < length (names_of file i))
+unfolding name_at
+name_fits file i k t is some = by_offset (name_start file (symbol_place file i k) == 0) refl is
+  where
+    by_offset : (b : Bool) → (name_start file (symbol_place file i k) == 0) ≡ b
+        → (if b then Ok [] else present (text (names_of file i) (name_start file (symbol_place file i k))) NameOutside (symbol_place file i k)) ≡ Ok t
+        → (0 < name_start file (symbol_place file i k)) × (name_start file (symbol_place file i k) + length t < length (names_of file i))
+    by_offset true e is = let none : t ≡ [] = cc is in absurd (omega (arith, some, ap length none))
+    by_offset false e is =
+        let some : 0 < name_start file (symbol_place file i k) = grind (arith, common_steps) in
+        (some, text_within (names_of file i) (name_start file (symbol_place file i k)) t (present_some _ _ t is))

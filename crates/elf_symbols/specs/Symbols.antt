@@ -1,17 +1,19 @@
 -- Symbol tables and their symbols (ELF gABI, Symbol Table).
-use Rattle.std.specs.Prelude.{◌≡◌, ℕ, ◌+◌, ◌*◌, ◌-◌, ◌/◌, ◌%◌, ◌<◌, ◌==◌, ◌&&◌, ◌⊎◌, Bool, List, [], length, Option, Some, None, Result, Ok, nat_lt, slice_index, if◌then◌else◌}
+use Rattle.std.specs.Prelude.{◌≡◌, ℕ, ◌+◌, ◌*◌, ◌-◌, ◌/◌, ◌%◌, ◌<◌, ◌==◌, ◌&&◌, ◌⊎◌, Bool, List, [], length, Option, Some, None, Result, Ok, nat_lt, if◌then◌else◌}
 use Rattle.std.specs.Int.{w32}
 use Rattle.size_core.specs.declared.fault.BadFile.{BadFile}
 use Rattle.size_core.specs.declared.fault.Fault.{Fault}
 use Rattle.size_core.specs.declared.fault.Fault.TheVariants.{BadIndex, NameOutside}
 use Rattle.size_core.specs.Checks.{◌>>=◌, ◌>>◌, demand, bad}
 use Rattle.size_core.specs.Gather.{first_from}
+use Rattle.byte_cursor.specs.declared.encoding.Encoding.{Encoding}
+use Rattle.byte_cursor.specs.Encoding.{byte, four, half, pick, word}
 use Rattle.byte_cursor.specs.Numbers.{num, text}
-use Rattle.elf_file.specs.declared.encoding.Encoding.{Encoding}
 use Rattle.elf_file.specs.declared.constants.TheConstants.{SHN_XINDEX}
-use Rattle.elf_file.specs.Layout.{encoding_of, pick, half, four, word}
+use Rattle.elf_file.specs.Layout.{encoding_of}
 use Rattle.elf_file.specs.Tables.{section_at, section_count, section_bytes}
 use Rattle.elf_symbols.specs.declared.constants.TheConstants.{SHT_SYMTAB, SHT_DYNSYM, SHT_SYMTAB_SHNDX}
+use Rattle.elf_symbols.specs.declared.layout.TheConstants.{SYMBOL_LEN, ST_NAME, ST_VALUE, ST_SIZE, ST_INFO, ST_SHNDX}
 
 -- Section i is a symbol table: it is a section of the file and has the type SHT_SYMTAB or SHT_DYNSYM
 -- (gABI, Sections: Section Types).
@@ -34,7 +36,7 @@ table_at file i = do
 
 -- The size of a symbol in bytes: Elf32_Sym, Elf64_Sym (gABI, Symbol Table).
 abbrev pub symbol_len : Encoding → ℕ
-symbol_len e = pick e 16 24
+symbol_len e = pick e SYMBOL_LEN
 
 -- How many symbols the table in section i has (gABI, Symbol Table).
 unfoldable pub symbol_count : List ℕ → ℕ → ℕ
@@ -49,14 +51,20 @@ abbrev pub present : {X : Type 0} → Option X → Fault → ℕ → Result X Ba
 present None fault place = bad fault place
 present (Some x) fault place = Ok x
 
+-- st_name of the symbol at file offset place: the offset of its name in the names of its table, or 0 if it
+-- has no name (gABI, Symbol Table: st_name).
+abbrev pub name_start : List ℕ → ℕ → ℕ
+name_start file place = four (encoding_of file) file place ST_NAME
+
 -- The name of the symbol at file offset place, in the names of its table. Empty if st_name is 0 (gABI,
 -- Symbol Table: st_name).
 unfoldable pub name_at : List ℕ → List ℕ → ℕ → Result (List ℕ) BadFile
-name_at file names place = if four file place 0 0 == 0 then Ok [] else present (text names (four file place 0 0)) NameOutside place
+name_at file names place =
+    if name_start file place == 0 then Ok [] else present (text names (name_start file place)) NameOutside place
 
 -- st_shndx of the symbol at file offset place (gABI, Symbol Table: st_shndx).
 abbrev pub shndx_at : List ℕ → ℕ → ℕ
-shndx_at file place = half file place 14 6
+shndx_at file place = half (encoding_of file) file place ST_SHNDX
 
 -- The section number of symbol k, which is at file offset place: st_shndx, or if that is SHN_XINDEX,
 -- entry k of the table's extended section indexes (gABI, Symbol Table: st_shndx).
@@ -109,12 +117,12 @@ pub record SymbolRecord : Type 0 where
 -- The symbol at file offset place, with the name and the section that were found for it (gABI, Symbol
 -- Table).
 abbrev pub record_at : List ℕ → ℕ → List ℕ → ℕ → SymbolRecord
-record_at file place name section = record {
+record_at file place name section = let e = encoding_of file in record {
   place = place;
   name = name;
-  value = word file place 4 8;
-  size = word file place 8 16;
-  kind = slice_index file (place + pick (encoding_of file) 12 4) % 16;
+  value = word e file place ST_VALUE;
+  size = word e file place ST_SIZE;
+  kind = byte e file place ST_INFO % 16;
   shndx = shndx_at file place;
   section = section;
 }

@@ -1,6 +1,6 @@
 -- What is known of a symbol table.
 use Rattle.std.specs.Prelude.{◌≡◌, ℕ, ◌+◌, ◌*◌, ◌^◌, ◌<◌, ◌≤◌, List, length}
-use Rattle.elf_file.specs.declared.encoding.Encoding.{Encoding}
+use Rattle.byte_cursor.specs.declared.encoding.Encoding.{Encoding}
 use Rattle.elf_file.specs.Layout.{encoding_of}
 use Rattle.elf_file.specs.Tables.{section_at}
 use Rattle.elf_symbols.specs.Symbols.{symbol_len, symbol_count, names_of, names_place, numbers_of}

@@ -3,11 +3,12 @@
 ghost use Rattle.std.specs.Prelude.{◌≡◌, ◌+◌, ◌*◌, ◌≤◌, ◌<◌, ◌^◌, length};
 ghost use Rattle.size_core.specs.Checks.{Gives};
 ghost use Rattle.elf_file.specs.Layout.{encoding_of};
-ghost use Rattle.elf_symbols.specs.Symbols.{name_at, section_number_at, shndx_at, symbol_len};
+ghost use Rattle.elf_symbols.specs.Symbols.{name_at, section_number_at, shndx_at};
 ghost use Rattle.elf_symbols.specs.TableFacts.{HasSymbol};
 
-use byte_cursor::{text_at, u32_at};
-use elf_file::{Encoding, SHN_XINDEX};
+use crate::layout::{ST_NAME, ST_SHNDX};
+use byte_cursor::{Encoding, text_at, u32_at};
+use elf_file::SHN_XINDEX;
 use size_core::{BadFile, Fault};
 
 /// A symbol (ELF gABI, Symbol Table).
@@ -38,13 +39,6 @@ pub struct NameOffset {
     pub offset: u32,
 }
 
-/// Returns the size of a symbol in bytes.
-pub fn symbol_len(encoding: Encoding) -> u64
-    ensures { result ≡ symbol_len encoding }
-{
-    encoding.pick(16, 24)
-}
-
 /// Returns the name of the symbol at file offset `place`. NameOutside if it has no terminating zero byte
 /// in `names`.
 #[tactic(auto, unfolding(crate::specs::Symbols::name_at))]
@@ -58,7 +52,7 @@ pub fn name_at<'a>(
     requires within { HasSymbol file.now place }
     ensures { Gives (λ name. name.now) result (name_at file.now names.now place) }
 {
-    let offset = encoding.four(file, place, 0, 0);
+    let offset = encoding.four(file, place, ST_NAME);
     if offset == 0 {
         return Ok(&[]);
     }
@@ -77,7 +71,7 @@ pub fn shndx_at(file: &[u8], encoding: Encoding, place: u64) -> u16
     requires within { HasSymbol file.now place }
     ensures { result ≡ shndx_at file.now place }
 {
-    encoding.half(file, place, 14, 6)
+    encoding.half(file, place, ST_SHNDX)
 }
 
 /// Returns the section number of symbol `k`, which is at file offset `place`. BadIndex if it needs an

@@ -1,6 +1,6 @@
 //! Symbol tables.
 
-ghost use Rattle.std.specs.Prelude.{◌≡◌, ◌+◌, ◌*◌, ◌<◌, ◌≤◌, ◌^◌, length, true, IfOk, IfSome, Some};
+ghost use Rattle.std.specs.Prelude.{◌≡◌, ◌+◌, ◌*◌, ◌<◌, ◌≤◌, ◌^◌, length, true, IfOk, IfSome, Ok, Some};
 ghost use Rattle.size_core.specs.Checks.{Gives};
 ghost use Rattle.byte_cursor.specs.Numbers.{text};
 ghost use Rattle.elf_file.specs.Layout.{encoding_of};
@@ -11,9 +11,11 @@ ghost use Rattle.elf_symbols.specs.Shown.{shown};
 ghost use Rattle.elf_symbols.specs.TableFacts.{HasSymbol};
 
 use crate::constants::SHT_SYMTAB_SHNDX;
+use crate::layout::{ST_INFO, ST_NAME, ST_SIZE, ST_VALUE, SYMBOL_LEN};
 use crate::numbers::NumbersIndex;
-use crate::symbol::{NameOffset, Symbol, name_at, section_number_at, shndx_at, symbol_len};
-use elf_file::{ElfFile, Encoding};
+use crate::symbol::{NameOffset, Symbol, name_at, section_number_at, shndx_at};
+use byte_cursor::Encoding;
+use elf_file::ElfFile;
 use size_core::{BadFile, Fault};
 use std::marker::Model;
 
@@ -142,7 +144,7 @@ impl<'a> SymbolTable<'a> {
             index: i,
             encoding,
             offset: section.offset,
-            count: (section.size / symbol_len(encoding)) as u32,
+            count: (section.size / encoding.pick(SYMBOL_LEN)) as u32,
             link: section.link,
             base: bytes_place(file, section.link),
             names: file.section_bytes(section.link),
@@ -163,7 +165,7 @@ impl<'a> SymbolTable<'a> {
         ensures value { result ≡ symbol_place self.now.file self.now.index k }
         ensures within { HasSymbol self.now.file result }
     {
-        self.offset + k as u64 * symbol_len(self.encoding)
+        self.offset + k as u64 * self.encoding.pick(SYMBOL_LEN)
     }
 
     /// Returns where the name of symbol `k` is.
@@ -173,7 +175,7 @@ impl<'a> SymbolTable<'a> {
     {
         NameOffset {
             section: self.link,
-            offset: self.encoding.four(self.file, self.offset_of(k), 0, 0),
+            offset: self.encoding.four(self.file, self.offset_of(k), ST_NAME),
         }
     }
 
@@ -182,19 +184,21 @@ impl<'a> SymbolTable<'a> {
         requires { k < symbol_count self.now.file self.now.index }
         ensures { result ≡ name_place self.now.file self.now.index k }
     {
-        self.base + self.encoding.four(self.file, self.offset_of(k), 0, 0) as u64
+        self.base + self.encoding.four(self.file, self.offset_of(k), ST_NAME) as u64
     }
 
     /// Returns whether symbol `k` has a name that ends in the table's names if it has the size of this one. If this one
     /// is at the same file offset, it is then the name of the symbol.
-    #[tactic(auto, using(crate::proofs::PlaceLemmas::is_name))]
+    #[tactic(auto, using(crate::proofs::PlaceLemmas::is_name, crate::proofs::PlaceLemmas::name_fits))]
     pub fn is_name(&self, k: u32, name: &[u8]) -> bool
         requires { k < symbol_count self.now.file self.now.index }
-        ensures { result ≡ true
+        ensures known { result ≡ true
             → text self.now.file (name_place self.now.file self.now.index k) ≡ Some name.now
             → IsNameAt self.now.file (name_offset self.now.file self.now.index k) name.now }
+        ensures every { 0 < length name.now
+            → symbol_name self.now.file self.now.index k ≡ Ok name.now → result ≡ true }
     {
-        let offset = self.encoding.four(self.file, self.offset_of(k), 0, 0);
+        let offset = self.encoding.four(self.file, self.offset_of(k), ST_NAME);
         0 < offset && (offset as usize) < self.names.len().saturating_sub(name.len())
     }
 
@@ -225,12 +229,12 @@ impl<'a> SymbolTable<'a> {
         let encoding = self.encoding;
         let place = self.offset_of(k);
         let section = section_number_at(self.file, encoding, self.numbers, place, k)?;
-        let info = self.file[(place + encoding.pick(12, 4)) as usize];
+        let info = encoding.byte(self.file, place, ST_INFO);
         Ok(Symbol {
             place,
             name,
-            value: encoding.word(self.file, place, 4, 8),
-            size: encoding.word(self.file, place, 8, 16),
+            value: encoding.word(self.file, place, ST_VALUE),
+            size: encoding.word(self.file, place, ST_SIZE),
             kind: info % 16,
             shndx: shndx_at(self.file, encoding, place),
             section,

@@ -12,7 +12,7 @@ use thiserror::Error;
 #[derive(Clone, Copy, Debug, PartialEq, Eq, Error)]
 pub enum ProfileAnswer {
     /// The first fault of the file, or of a data source on it.
-    #[error("bad file")]
+    #[error("{0}")]
     Bad(BadFile),
     /// The claims of the plan's data sources exceed the limit.
     #[error("too many claims")]
@@ -29,7 +29,7 @@ pub enum ProfileAnswer {
 #[derive(Clone, Copy, Debug, PartialEq, Eq, Error)]
 pub enum PairAnswer {
     /// The first fault of the file, which is file 1, or of its debug file, which is file 2, or of a data source on it.
-    #[error("bad file")]
+    #[error("file {0}: {1}")]
     Bad(u32, BadFile),
     /// The identifiers of the two differ, or one has none.
     #[error("no match")]
@@ -49,7 +49,7 @@ pub enum PairAnswer {
 #[derive(Clone, Copy, Debug, PartialEq, Eq, Error)]
 pub enum PlaceAnswer {
     /// The first fault of the file, or of a data source on it.
-    #[error("bad file")]
+    #[error("{0}")]
     Bad(BadFile),
     /// The file offset isn't below the file's end, or the address isn't mapped.
     #[error("place outside the file")]

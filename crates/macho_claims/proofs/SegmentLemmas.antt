@@ -1,21 +1,12 @@
 -- Segments, and the segments that are loads.
-use Rattle.std.proofs.Common.{◌≡◌, ℕ, zero, suc, ◌+◌, ◌^◌, ◌≤◌, List, [], ◌∷◌, ◌++◌, length, Option, Some, slice_get, refl, sym, ap, ◌∙◌, subst, arith, append_assoc}
+use Rattle.std.proofs.Common.{◌≡◌, ℕ, zero, suc, ◌+◌, List, [], ◌∷◌, ◌++◌, length, Option, Some, slice_get, refl, sym, ap, ◌∙◌, arith, append_assoc}
 use Rattle.std.specs.List.{flat_map}
 use Rattle.std.specs.Option.{option_and_then, option_to_list}
 use Rattle.std.proofs.lemmas.List.{append-nil}
-use Rattle.std.proofs.lemmas.List.Elements.{All-get_or}
-use Rattle.std.proofs.lemmas.Option.{get_or_from_slice_get, slice_get_within}
 use Rattle.size_core.specs.declared.claim.Load.{Load}
 use Rattle.size_core.specs.Gather.{gather}
 use Rattle.macho_file.specs.Tables.{SegmentRecord, segments}
-use Rattle.macho_file.specs.WellFormed.{HasAddresses, IsWellFormed}
 use Rattle.macho_claims.specs.Loads.{loads_of, segment_load, slot_count, slot_load}
-
--- the addresses of each segment of a well-formed file end by 2^64
-pub addresses_end : (file : List ℕ) (k : ℕ) (s : SegmentRecord) → IsWellFormed file → slice_get (segments file) k ≡ Some s → s.vaddr + s.memsz ≤ 2 ^ 64
-addresses_end file k s known e =
-    subst HasAddresses (get_or_from_slice_get (segments file) k s s e)
-    (All-get_or HasAddresses (segments file) k s (slice_get_within (segments file) k s e) known.each_segment)
 
 -- The loads by their slots are those of the segments in order.
 shift : {X : Type 0} (f : ℕ → List X) (i n : ℕ) → gather f (i + 1) n ≡ gather (λ k. f (suc k)) i n

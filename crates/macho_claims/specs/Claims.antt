@@ -1,5 +1,5 @@
 -- The claims of the sections, the link-edit parts, the headers and the loads of a Mach-O file.
-use Rattle.std.specs.Prelude.{ℕ, ◌-◌, min, List, [], ◌∷◌, ◌++◌, length, codes, if◌then◌else◌}
+use Rattle.std.specs.Prelude.{ℕ, ◌-◌, min, List, ◌++◌, length, codes, if◌then◌else◌}
 use Rattle.std.specs.List.{flat_map}
 use Rattle.std.specs.Option.{option_map}
 use Rattle.size_model.specs.declared.view.LabelledClaim.{LabelledClaim}
@@ -11,13 +11,8 @@ use Rattle.macho_file.specs.LinkEdit.{link_edit_parts}
 use Rattle.macho_file.specs.Tables.{SectionRecord, SegmentRecord, sections, segments}
 use Rattle.claim_sheet.specs.declared.reach.Reach.{Reach}
 use Rattle.claim_sheet.specs.declared.labels.Wrap.{Wrap}
-use Rattle.claim_sheet.specs.Reaches.{claim_on, claim_on_some, in_both, in_file, in_memory, of_load, span, wrapped}
+use Rattle.claim_sheet.specs.Reaches.{claim_on, claim_on_some, in_both, in_file, in_memory, of_load, or_if_empty, span, wrapped}
 use Rattle.macho_claims.specs.Loads.{segment_load}
-
--- A label, or the other one if the label is empty.
-abbrev pub or_if_empty : List ℕ → List ℕ → List ℕ
-or_if_empty [] other = other
-or_if_empty (b ∷ label) other = b ∷ label
 
 -- Sections.
 

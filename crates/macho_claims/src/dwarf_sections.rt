@@ -39,8 +39,6 @@ fn window_over<'a>(file: &MachoFile<'a>, section: &MachoSection<'_>) -> Cursor<'
 fn window_named<'a>(file: &MachoFile<'a>, name: &[u8]) -> Cursor<'a>
     ensures { result ≡ window_named file.now name.now }
 {
-    // The bytes of each section of a well-formed file are in the file.
-    let _ = file.bytes();
     for section in file.sections() {
         if is_debug(&section, name) {
             return window_over(file, &section);

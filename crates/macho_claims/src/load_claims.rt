@@ -1,24 +1,13 @@
 //! The claims of loads.
 
-ghost use Rattle.std.specs.Prelude.{◌≡◌};
 ghost use Rattle.macho_file.specs.Shown.{segment_shown};
 ghost use Rattle.claim_sheet.specs.Adds.{Adds};
-ghost use Rattle.macho_claims.specs.Claims.{load_claim, load_claims, or_if_empty};
+ghost use Rattle.macho_claims.specs.Claims.{load_claim, load_claims};
 
 use crate::loads::segment_load;
-use claim_sheet::{ClaimSheet, Reach, Wrap};
+use claim_sheet::{ClaimSheet, Reach, Wrap, or_if_empty};
 use macho_file::{MachoFile, MachoSegment};
 use size_core::NoMemory;
-
-// Returns the label, or the other one if the label is empty.
-fn or_if_empty<'a>(label: &'a [u8], other: &'a [u8]) -> &'a [u8]
-    ensures { result.now ≡ or_if_empty label.now other.now }
-{
-    match label {
-        [] => other,
-        _ => label,
-    }
-}
 
 #[tactic(auto, using(claim_sheet::proofs::SheetLemmas::adding_none), unfolding(crate::specs::Claims::load_claim))]
 fn add_load(

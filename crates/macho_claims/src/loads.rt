@@ -1,11 +1,11 @@
 //! The loads of a file: the parts that are mapped at virtual addresses.
 
-ghost use Rattle.std.specs.Prelude.{◌≡◌, ◌+◌, ◌^◌, ◌≤◌, ◌<◌, ◌++◌, All, IfOk, IfSome, OnOk};
-ghost use Rattle.std.specs.Option.{option_to_list};
+ghost use Rattle.std.specs.Prelude.{◌≡◌, ◌+◌, ◌^◌, ◌≤◌, ◌<◌, All, IfOk, IfSome};
 ghost use Rattle.size_model.specs.Loads.{IsLoad};
 ghost use Rattle.macho_file.specs.Shown.{segment_shown};
 ghost use Rattle.macho_claims.specs.Loads.{loads_of, segment_load, slot_count, slot_load};
 
+use claim_sheet::push_load;
 use macho_file::{MachoFile, MachoSegment};
 use size_core::{Load, NoMemory};
 use std::alloc::Global;
@@ -37,29 +37,13 @@ pub fn load_slots(file: &MachoFile<'_>) -> u32
 }
 
 /// Returns the load of a slot, or None if the segment is no load. It walks the load commands up to the segment.
-#[tactic(auto, using(crate::proofs::SegmentLemmas::addresses_end), unfolding(crate::specs::Loads::slot_count, crate::specs::Loads::slot_load))]
+#[tactic(auto, unfolding(crate::specs::Loads::slot_count, crate::specs::Loads::slot_load))]
 pub fn load_at(file: &MachoFile<'_>, i: u32) -> Option<Load>
     requires { i < slot_count file.now }
     ensures load { result ≡ slot_load file.now i }
     ensures fits { IfSome result IsLoad }
 {
-    // The checks of the file say that the addresses of each segment end by 2^64.
-    let _ = file.bytes();
     segment_load(&file.segment(i))
-}
-
-// Pushes the load of a segment, if it is a load.
-fn push_load(loads: &mut Vec<Load>, segment: &MachoSegment<'_>) -> Result<(), NoMemory>
-    requires addresses { segment.now.vaddr + segment.now.memsz ≤ 2 ^ 64 }
-    requires all { All IsLoad loads.old.items }
-    ensures pushed { OnOk result (loads.new.items
-        ≡ loads.old.items ++ option_to_list (segment_load (segment_shown segment.now))) }
-    ensures all { OnOk result (All IsLoad loads.new.items) }
-{
-    if let Some(load) = segment_load(segment) {
-        loads.push(load)?;
-    }
-    Ok(())
 }
 
 /// Returns all loads, in the order of the slots. It walks the load commands once.
@@ -69,10 +53,8 @@ pub fn loads_of(alloc: Global, file: &MachoFile<'_>) -> Result<Vec<Load>, NoMemo
     ensures fit { IfOk result (λ v. All IsLoad v.items) }
 {
     let mut loads = Vec::new(alloc);
-    // The checks of the file say that the addresses of each segment end by 2^64.
-    let _ = file.bytes();
     for segment in file.segments() {
-        push_load(&mut loads, &segment)?;
+        push_load(&mut loads, segment_load(&segment))?;
     }
     Ok(loads)
 }

@@ -3,7 +3,7 @@ use Rattle.std.proofs.Common.{◌≡◌, ℕ, suc, ◌+◌, ◌-◌, ◌<◌, �
 use Rattle.size_core.specs.declared.fault.BadFile.{BadFile}
 use Rattle.size_core.specs.Checks.{◌>>◌, first_of}
 use Rattle.size_core.proofs.FirstFault.{first_of_append}
-use Rattle.macho_file.specs.declared.encoding.Encoding.{Encoding}
+use Rattle.byte_cursor.specs.declared.encoding.Encoding.{Encoding}
 use Rattle.macho_file.specs.Commands.{command_at, commands_from, section_len}
 use Rattle.macho_file.specs.Tables.{section_at, sections_from}
 use Rattle.macho_file.specs.Checks.{command_checks, section_fits}

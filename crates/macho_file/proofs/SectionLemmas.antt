@@ -1,8 +1,8 @@
 -- The remaining sections.
 use Rattle.std.proofs.Common.{◌≡◌, ℕ, zero, suc, ◌+◌, ◌-◌, ◌<◌, true, List, [], ◌∷◌, ◌++◌, refl, ◌∙◌, arith}
 use Rattle.std.specs.List.{flat_map}
+use Rattle.byte_cursor.specs.declared.encoding.Encoding.{Encoding}
 use Rattle.macho_file.specs.declared.command.Command.{Command}
-use Rattle.macho_file.specs.declared.encoding.Encoding.{Encoding}
 use Rattle.macho_file.specs.Layout.{encoding_of}
 use Rattle.macho_file.specs.Commands.{is_segment, form_of, segment_len, section_len, section_count_of}
 use Rattle.macho_file.specs.Tables.{SectionRecord, section_at, sections_from, sections_of}

@@ -7,12 +7,14 @@ use Rattle.std.proofs.lemmas.List.{length-take}
 use Rattle.std.proofs.lemmas.List.Quantifiers.{position-Some}
 use Rattle.size_core.specs.declared.fault.BadFile.{BadFile}
 use Rattle.size_core.specs.declared.fault.Fault.TheVariants.{NameOutside}
+use Rattle.byte_cursor.specs.Encoding.{four}
 use Rattle.byte_cursor.specs.Numbers.{text}
 use Rattle.byte_cursor.proofs.Windows.{text-window}
 use Rattle.macho_file.specs.declared.answer.SpanAnswer.{SpanAnswer}
 use Rattle.macho_file.specs.declared.answer.SpanAnswer.TheVariants.{Bad, NoMemory}
 use Rattle.macho_file.specs.declared.symbol_table.SymbolTable.{SymbolTable}
-use Rattle.macho_file.specs.Layout.{encoding_of, four}
+use Rattle.macho_file.specs.declared.layout.TheConstants.{NLIST_STRX}
+use Rattle.macho_file.specs.Layout.{encoding_of}
 use Rattle.macho_file.specs.Symbols.{place_of_name, present, strings, symbol_len, symbol_name, symbol_of}
 use Rattle.macho_file.specs.Known.{HasTable}
 use Rattle.macho_file.specs.Taken.{ForBad}
@@ -38,14 +40,14 @@ present_some (Some s) place t e = let same : s ≡ t = cc e in ap (λ (x : List 
 -- a name that isn't empty is the text at its file offset
 pub name_placed : (file : List ℕ) (t : SymbolTable) (place : ℕ) (name : List ℕ) → symbol_name file t place ≡ Ok name → 0 < length name → text file (place_of_name file t place) ≡ Some name
 unfolding symbol_name
-name_placed file t place name is some = by_offset (four (encoding_of file) file place == 0) is
+name_placed file t place name is some = by_offset (four (encoding_of file) file place NLIST_STRX == 0) is
   where
-    by_offset : (b : Bool) → (if b then Ok [] else present (text (strings file t) (four (encoding_of file) file place)) NameOutside place) ≡ Ok name → text file (place_of_name file t place) ≡ Some name
+    by_offset : (b : Bool) → (if b then Ok [] else present (text (strings file t) (four (encoding_of file) file place NLIST_STRX)) NameOutside place) ≡ Ok name → text file (place_of_name file t place) ≡ Some name
     by_offset true is = let none : name ≡ [] = cc is in absurd (omega (arith, some, ap length none))
     by_offset false is =
-        let there : text (strings file t) (four (encoding_of file) file place) ≡ Some name = present_some _ _ name is in
-        let within = text_within (strings file t) (four (encoding_of file) file place) name there in
-        text-window file t.stroff t.strsize (four (encoding_of file) file place) name (omega (arith, within, length-take t.strsize (drop t.stroff file))) there
+        let there : text (strings file t) (four (encoding_of file) file place NLIST_STRX) ≡ Some name = present_some _ _ name is in
+        let within = text_within (strings file t) (four (encoding_of file) file place NLIST_STRX) name there in
+        text-window file t.stroff t.strsize (four (encoding_of file) file place NLIST_STRX) name (omega (arith, within, length-take t.strsize (drop t.stroff file))) there
 
 -- the fault of a name is that of its symbol
 pub symbol_bad : (file : List ℕ) (t : SymbolTable) (k : ℕ) (e : SpanAnswer) → ForBad e (λ bad. symbol_name file t (t.symoff + k * symbol_len file) ≡ Err bad) → ForBad e (λ bad. symbol_of file t k ≡ Err bad)

@@ -2,9 +2,10 @@
 use Rattle.std.proofs.Common.{◌≡◌, ℕ, zero, suc, ◌+◌, ◌-◌, ◌*◌, ◌^◌, ◌<◌, ◌≤◌, ◌==◌, Bool, true, false, List, [], ◌∷◌, length, Option, Some, None, refl, sym, ap, subst, ◌∙◌, arith, length-append, add-one, add-zero, zero-add, add_comm, if◌then◌else◌}
 use Rattle.std.proofs.lemmas.Grind.{common_steps}
 use Rattle.std.specs.List.{flat_map, find}
+use Rattle.byte_cursor.specs.declared.encoding.Encoding.{Encoding}
 use Rattle.macho_file.specs.declared.constants.TheConstants.{LC_SYMTAB}
 use Rattle.macho_file.specs.declared.command.Command.{Command}
-use Rattle.macho_file.specs.declared.encoding.Encoding.{Encoding}
+use Rattle.macho_file.specs.declared.layout.TheConstants.{SYMTAB_COMMAND_LEN}
 use Rattle.macho_file.specs.Layout.{encoding_of, header_len, command_count, commands_end}
 use Rattle.macho_file.specs.Commands.{command_at, commands, commands_from, is_segment, form_of, least_size, least_by_kind, section_count_of, section_len, segment_len}
 use Rattle.macho_file.specs.Tables.{sections, sections_from, sections_of, segments, segments_from}
@@ -132,6 +133,6 @@ pub found_more : (o : Option Command) (c : Command) (cs : List Command)
 found_more o c cs = found_by_kind o (find (λ c. c.kind == LC_SYMTAB) cs) c (c.kind == LC_SYMTAB)
 
 -- The fields of a symtab_command lie in the file.
-pub table_inside : (file : List ℕ) (c : Command) → IsInside file c → c.kind ≡ LC_SYMTAB → c.place + 24 ≤ length file
+pub table_inside : (file : List ℕ) (c : Command) → IsInside file c → c.kind ≡ LC_SYMTAB → c.place + SYMTAB_COMMAND_LEN ≤ length file
 unfolding least_size least_by_kind
 table_inside file c known is = grind (arith, common_steps, known.least, known.within)

@@ -3,8 +3,9 @@ use Rattle.std.proofs.Common.{◌≡◌, ℕ, zero, suc, ◌+◌, ◌-◌, ◌<�
 use Rattle.std.proofs.lemmas.Grind.{common_steps}
 use Rattle.size_core.specs.Checks.{◌>>◌, Check, first_of}
 use Rattle.size_core.proofs.FirstFault.{first_of_append}
+use Rattle.byte_cursor.specs.declared.encoding.Encoding.{Encoding}
 use Rattle.macho_file.specs.declared.command.Command.{Command}
-use Rattle.macho_file.specs.declared.encoding.Encoding.{Encoding}
+use Rattle.macho_file.specs.declared.layout.TheConstants.{LOAD_COMMAND_LEN}
 use Rattle.macho_file.specs.Commands.{command_at, commands_from, is_whole}
 use Rattle.macho_file.specs.Checks.{command_checks}
 use Rattle.macho_file.specs.Known.{HasCommands, HasHeader, IsInside, commands_fit}
@@ -44,9 +45,9 @@ fits_here file e place n known some = (split file place n some known.fit).0
 pub is_inside : (file : List ℕ) (e : Encoding) (place n : ℕ) → HasCommands file e place n → 0 < n → IsInside file (command_at file place)
 is_inside file e place n known some = inside file e (command_at file place) known.header (fits_here file e place n known some)
 
-pub has_eight : (file : List ℕ) (e : Encoding) (place n : ℕ) → HasCommands file e place n → 0 < n → place + 8 ≤ length file
+pub has_load_command : (file : List ℕ) (e : Encoding) (place n : ℕ) → HasCommands file e place n → 0 < n → place + LOAD_COMMAND_LEN ≤ length file
 unfolding command_at is_whole
-has_eight file e place n known some =
+has_load_command file e place n known some =
     let w : is_whole file (command_at file place) ≡ true = whole file (command_at file place) (fits_here file e place n known some) in
     grind (arith, common_steps, known.header.ends)
 

@@ -1,15 +1,16 @@
 -- What is known of a file whose checks hold.
-use Rattle.std.proofs.Common.{◌≡◌, ℕ, zero, suc, ◌+◌, ◌-◌, Bool, true, false, List, [], ◌∷◌, map, Ok, refl, subst, arith}
+use Rattle.std.proofs.Common.{◌≡◌, ℕ, zero, suc, ◌+◌, ◌-◌, ◌^◌, ◌≤◌, Bool, true, false, List, [], ◌∷◌, map, Ok, Some, slice_get, refl, subst, arith}
 use Rattle.std.specs.Prelude.{All}
 use Rattle.std.specs.List.{flat_map}
 use Rattle.std.proofs.lemmas.Grind.{common_steps}
-use Rattle.std.proofs.lemmas.List.Elements.{All-cons, All-nil, All-head, All-tail, All-append, All-weaker}
+use Rattle.std.proofs.lemmas.List.Elements.{All-cons, All-nil, All-head, All-tail, All-append, All-get_or, All-weaker}
+use Rattle.std.proofs.lemmas.Option.{get_or_from_slice_get, slice_get_within}
 use Rattle.size_core.specs.Checks.{first_of}
+use Rattle.byte_cursor.specs.declared.encoding.Encoding.{Encoding}
 use Rattle.macho_file.specs.declared.command.Command.{Command}
-use Rattle.macho_file.specs.declared.encoding.Encoding.{Encoding}
 use Rattle.macho_file.specs.Layout.{header_len, command_count}
 use Rattle.macho_file.specs.Commands.{command_at, commands_from, is_segment, section_count_of}
-use Rattle.macho_file.specs.Tables.{SectionRecord, segment_at, segments, segments_from, sections, sections_of}
+use Rattle.macho_file.specs.Tables.{SectionRecord, SegmentRecord, segment_at, segments, segments_from, sections, sections_of}
 use Rattle.macho_file.specs.Checks.{command_checks, segment_checks, section_fits}
 use Rattle.macho_file.specs.Known.{HasCommands}
 use Rattle.macho_file.specs.WellFormed.{IsWellFormed, IsAmongCommands, HasAddresses, Fits}
@@ -75,3 +76,8 @@ is_well_formed file e known =
       each_segment = segments_all file cs all 0;
       each_section = sections_all file cs all;
     }
+
+-- The addresses of a segment by its number.
+pub addresses_at : (ss : List SegmentRecord) (k : ℕ) (s : SegmentRecord) → slice_get ss k ≡ Some s → All HasAddresses ss → s.vaddr + s.memsz ≤ 2 ^ 64
+addresses_at ss k s at all =
+    subst HasAddresses (get_or_from_slice_get ss k s s at) (All-get_or HasAddresses ss k s (slice_get_within ss k s at) all)

@@ -4,9 +4,10 @@ use Rattle.std.specs.List.{flat_map}
 use Rattle.size_core.specs.declared.fault.BadFile.{BadFile}
 use Rattle.size_core.specs.declared.fault.Fault.TheVariants.{BadCommand}
 use Rattle.size_core.specs.Checks.{◌>>◌, Check, demand, first_of}
+use Rattle.byte_cursor.specs.declared.encoding.Encoding.{Encoding}
 use Rattle.macho_file.specs.declared.command.Command.{Command}
-use Rattle.macho_file.specs.declared.encoding.Encoding.{Encoding}
 use Rattle.macho_file.specs.declared.symbol_table.SymbolTable.{SymbolTable}
+use Rattle.macho_file.specs.declared.layout.TheConstants.{SYMTAB_COMMAND_LEN}
 use Rattle.macho_file.specs.Layout.{encoding_of, header_len, command_count, commands_end}
 use Rattle.macho_file.specs.Commands.{commands_from, least_size, is_whole}
 use Rattle.macho_file.specs.Tables.{segments, segments_from, sections, sections_from, sections_of}
@@ -52,7 +53,7 @@ IsSomeInside file (Some c) = IsInside file c
 -- If there is a symtab_command, its fields lie in the file.
 abbrev pub IsSomeTable : List ℕ → Option Command → Type 0
 IsSomeTable file None = Unit {0}
-IsSomeTable file (Some c) = c.place + 24 ≤ length file
+IsSomeTable file (Some c) = c.place + SYMTAB_COMMAND_LEN ≤ length file
 
 -- The symbols and the string table of a symbol table lie in the file.
 pub record HasTable (file : List ℕ) (t : SymbolTable) : Type 0 where

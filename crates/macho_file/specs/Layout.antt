@@ -1,11 +1,13 @@
 -- The header of a Mach-O file, and the fields of records (mach-o/loader.h: mach_header, mach_header_64).
 use Rattle.std.specs.Prelude.{ℕ, ◌+◌, ◌==◌, ◌||◌, ◌&&◌, Bool, List, length, take, drop, nat_le, unwrap_or, if◌then◌else◌}
-use Rattle.std.specs.Int.{w32, w64}
+use Rattle.std.specs.Int.{w32}
 use Rattle.byte_cursor.specs.declared.order.Order.{Order}
 use Rattle.byte_cursor.specs.declared.order.Order.TheVariants.{Little, Big}
+use Rattle.byte_cursor.specs.declared.encoding.Encoding.{Encoding}
+use Rattle.byte_cursor.specs.Encoding.{four, pick}
 use Rattle.byte_cursor.specs.Numbers.{field, text}
-use Rattle.macho_file.specs.declared.encoding.Encoding.{Encoding}
 use Rattle.macho_file.specs.declared.constants.TheConstants.{MH_MAGIC, MH_MAGIC_64}
+use Rattle.macho_file.specs.declared.layout.TheConstants.{MACH_HEADER_LEN, HEADER_FILETYPE, HEADER_NCMDS, HEADER_SIZEOFCMDS}
 
 -- The first four bytes in this byte order are a magic number (mach-o/loader.h: MH_MAGIC, MH_MAGIC_64).
 abbrev pub has_magic_in : List ℕ → Order → Bool
@@ -23,21 +25,6 @@ encoding_of file = record {
   order = if has_magic_in file Big then Big else Little;
 }
 
--- The first number in the 32-bit class, and the second in the 64-bit class (mach-o/loader.h: MH_MAGIC,
--- MH_MAGIC_64).
-abbrev pub pick : Encoding → ℕ → ℕ → ℕ
-pick e narrow wide = if e.wide then wide else narrow
-
--- The four-byte field at a file offset (mach-o/loader.h).
-unfoldable pub four : Encoding → List ℕ → ℕ → ℕ
-four e file at = field file at w32 e.order
-
--- The field of the record at file offset place that has four bytes in the 32-bit class and eight in the
--- 64-bit class. narrow and wide are its offsets in the two records (mach-o/loader.h).
-unfoldable pub word : Encoding → List ℕ → ℕ → ℕ → ℕ → ℕ
-word e file place narrow wide =
-    if e.wide then field file (place + wide) w64 e.order else field file (place + narrow) w32 e.order
-
 -- The name in the 16 bytes at a file offset, without trailing zeros. It ends before the first zero byte, or
 -- has 16 bytes (mach-o/loader.h: segname, sectname).
 unfoldable pub name_16 : List ℕ → ℕ → List ℕ
@@ -45,19 +32,19 @@ name_16 file at = let bytes = take 16 (drop at file) in unwrap_or (text bytes 0)
 
 -- The size of the header in bytes (mach-o/loader.h: mach_header, mach_header_64).
 abbrev pub header_len : List ℕ → ℕ
-header_len file = pick (encoding_of file) 28 32
+header_len file = pick (encoding_of file) MACH_HEADER_LEN
 
 -- The type of the file (mach-o/loader.h: filetype).
 abbrev pub file_type : List ℕ → ℕ
-file_type file = four (encoding_of file) file 12
+file_type file = four (encoding_of file) file 0 HEADER_FILETYPE
 
 -- The number of load commands (mach-o/loader.h: ncmds).
 abbrev pub command_count : List ℕ → ℕ
-command_count file = four (encoding_of file) file 16
+command_count file = four (encoding_of file) file 0 HEADER_NCMDS
 
 -- The size in bytes of all load commands (mach-o/loader.h: sizeofcmds).
 abbrev pub commands_size : List ℕ → ℕ
-commands_size file = four (encoding_of file) file 20
+commands_size file = four (encoding_of file) file 0 HEADER_SIZEOFCMDS
 
 -- The file offset where the load commands end. They follow the header (mach-o/loader.h: sizeofcmds).
 abbrev pub commands_end : List ℕ → ℕ

@@ -1,15 +1,17 @@
 -- The symbols of a Mach-O file (mach-o/loader.h: symtab_command; mach-o/nlist.h: nlist, nlist_64).
-use Rattle.std.specs.Prelude.{ℕ, ◌+◌, ◌*◌, ◌==◌, ◌&&◌, List, [], length, take, drop, Option, None, Some, Result, Ok, nat_le, slice_index, if◌then◌else◌}
+use Rattle.std.specs.Prelude.{ℕ, ◌+◌, ◌*◌, ◌==◌, ◌&&◌, List, [], length, take, drop, Option, None, Some, Result, Ok, nat_le, if◌then◌else◌}
 use Rattle.std.specs.List.{find}
 use Rattle.size_core.specs.declared.fault.BadFile.{BadFile}
 use Rattle.size_core.specs.declared.fault.Fault.{Fault}
 use Rattle.size_core.specs.declared.fault.Fault.TheVariants.{TablePastEnd, NameOutside}
 use Rattle.size_core.specs.Checks.{◌>>=◌, ◌>>◌, demand, bad}
+use Rattle.byte_cursor.specs.Encoding.{byte, four, pick, word}
 use Rattle.byte_cursor.specs.Numbers.{text}
 use Rattle.macho_file.specs.declared.command.Command.{Command}
 use Rattle.macho_file.specs.declared.symbol_table.SymbolTable.{SymbolTable}
 use Rattle.macho_file.specs.declared.constants.TheConstants.{LC_SYMTAB}
-use Rattle.macho_file.specs.Layout.{encoding_of, four, word, pick}
+use Rattle.macho_file.specs.declared.layout.TheConstants.{NLIST_LEN, SYMTAB_SYMOFF, SYMTAB_NSYMS, SYMTAB_STROFF, SYMTAB_STRSIZE, NLIST_STRX, NLIST_TYPE, NLIST_SECT, NLIST_VALUE}
+use Rattle.macho_file.specs.Layout.{encoding_of}
 use Rattle.macho_file.specs.Commands.{commands}
 
 -- The first command that has a symbol table (mach-o/loader.h: LC_SYMTAB).
@@ -18,15 +20,15 @@ symbol_table file = find (λ c. c.kind == LC_SYMTAB) (commands file)
 
 -- The size of a symbol in bytes, by the class of the file (mach-o/nlist.h: nlist, nlist_64).
 abbrev pub symbol_len : List ℕ → ℕ
-symbol_len file = pick (encoding_of file) 12 16
+symbol_len file = pick (encoding_of file) NLIST_LEN
 
 -- The fields of the symtab_command at file offset place (mach-o/loader.h: symtab_command).
 unfoldable pub table_at : List ℕ → ℕ → SymbolTable
 table_at file place = let e = encoding_of file in record {
-  symoff = four e file (place + 8);
-  nsyms = four e file (place + 12);
-  stroff = four e file (place + 16);
-  strsize = four e file (place + 20);
+  symoff = four e file place SYMTAB_SYMOFF;
+  nsyms = four e file place SYMTAB_NSYMS;
+  stroff = four e file place SYMTAB_STROFF;
+  strsize = four e file place SYMTAB_STRSIZE;
 }
 
 -- The symbol table of a command, and an empty one if there is no command. TablePastEnd if the symbols
@@ -67,22 +69,22 @@ present (Some x) fault place = Ok x
 -- The name of the symbol at file offset place, or NameOutside. Empty if n_strx is 0 (mach-o/nlist.h:
 -- n_strx).
 unfoldable pub symbol_name : List ℕ → SymbolTable → ℕ → Result (List ℕ) BadFile
-symbol_name file t place = let strx = four (encoding_of file) file place in
+symbol_name file t place = let strx = four (encoding_of file) file place NLIST_STRX in
     if strx == 0 then Ok [] else present (text (strings file t) strx) NameOutside place
 
 -- The file offset of the name of the symbol at file offset place, if the name isn't empty (mach-o/loader.h: stroff;
 -- mach-o/nlist.h: n_strx).
 abbrev pub place_of_name : List ℕ → SymbolTable → ℕ → ℕ
-place_of_name file t place = t.stroff + four (encoding_of file) file place
+place_of_name file t place = t.stroff + four (encoding_of file) file place NLIST_STRX
 
 -- The symbol at file offset place, with this name (mach-o/nlist.h: nlist, nlist_64).
 abbrev pub symbol_named : List ℕ → List ℕ → ℕ → SymbolRecord
-symbol_named file name place = record {
+symbol_named file name place = let e = encoding_of file in record {
   place = place;
   name = name;
-  kind = slice_index file (place + 4);
-  sect = slice_index file (place + 5);
-  value = word (encoding_of file) file place 8 8;
+  kind = byte e file place NLIST_TYPE;
+  sect = byte e file place NLIST_SECT;
+  value = word e file place NLIST_VALUE;
 }
 
 -- Symbol k of a table, or its fault (mach-o/nlist.h: nlist, nlist_64).

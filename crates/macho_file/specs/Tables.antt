@@ -3,10 +3,12 @@ use Rattle.std.specs.Prelude.{ℕ, zero, suc, ◌+◌, ◌==◌, ◌||◌, ◌&&
 use Rattle.std.specs.List.{flat_map}
 use Rattle.std.specs.Option.{option_map}
 use Rattle.std.specs.Str.{bytes_eq}
+use Rattle.byte_cursor.specs.declared.encoding.Encoding.{Encoding}
+use Rattle.byte_cursor.specs.Encoding.{four, pick, word}
 use Rattle.macho_file.specs.declared.command.Command.{Command}
-use Rattle.macho_file.specs.declared.encoding.Encoding.{Encoding}
 use Rattle.macho_file.specs.declared.constants.TheConstants.{MH_DSYM, SECTION_TYPE, S_ZEROFILL, S_GB_ZEROFILL, S_THREAD_LOCAL_ZEROFILL}
-use Rattle.macho_file.specs.Layout.{encoding_of, file_type, name_16, four, word, pick}
+use Rattle.macho_file.specs.declared.layout.TheConstants.{SEGMENT_SEGNAME, SEGMENT_VMADDR, SEGMENT_VMSIZE, SEGMENT_FILEOFF, SEGMENT_FILESIZE, SEGMENT_MAXPROT, SECTION_SEGNAME, SECTION_OFFSET, SECTION_FLAGS, SECTION_SECTNAME, SECTION_ADDR, SECTION_SIZE}
+use Rattle.macho_file.specs.Layout.{encoding_of, file_type, name_16}
 use Rattle.macho_file.specs.Commands.{commands, is_segment, form_of, segment_len, section_len, section_count_of}
 
 -- A segment (mach-o/loader.h: segment_command, segment_command_64).
@@ -37,12 +39,12 @@ pub record SectionRecord : Type 0 where
 unfoldable pub segment_at : List ℕ → Command → ℕ → SegmentRecord
 segment_at file c first = let form = form_of (encoding_of file) c in record {
   place = c.place;
-  name = name_16 file (c.place + 8);
-  vaddr = word form file c.place 24 24;
-  memsz = word form file c.place 28 32;
-  offset = word form file c.place 32 40;
-  filesz = word form file c.place 36 48;
-  maxprot = four form file (c.place + pick form 40 56);
+  name = name_16 file (c.place + pick form SEGMENT_SEGNAME);
+  vaddr = word form file c.place SEGMENT_VMADDR;
+  memsz = word form file c.place SEGMENT_VMSIZE;
+  offset = word form file c.place SEGMENT_FILEOFF;
+  filesz = word form file c.place SEGMENT_FILESIZE;
+  maxprot = four form file c.place SEGMENT_MAXPROT;
   first = first;
   count = section_count_of file c;
 }
@@ -62,14 +64,14 @@ is_in_file file segment offset flags =
 -- The section whose header is at file offset place (mach-o/loader.h: section, section_64).
 unfoldable pub section_at : List ℕ → Encoding → ℕ → SectionRecord
 section_at file form place =
-    let segment = name_16 file (place + 16) in
-    let offset = four form file (place + pick form 40 48) in
-    let flags = four form file (place + pick form 56 64) in record {
+    let segment = name_16 file (place + pick form SECTION_SEGNAME) in
+    let offset = four form file place SECTION_OFFSET in
+    let flags = four form file place SECTION_FLAGS in record {
       place = place;
       segment = segment;
-      name = name_16 file place;
-      addr = word form file place 32 32;
-      size = word form file place 36 40;
+      name = name_16 file (place + pick form SECTION_SECTNAME);
+      addr = word form file place SECTION_ADDR;
+      size = word form file place SECTION_SIZE;
       offset = offset;
       flags = flags;
       in_file = is_in_file file segment offset flags;

@@ -10,7 +10,7 @@ use thiserror::Error;
 #[derive(Clone, Copy, Debug, PartialEq, Eq, Error)]
 pub enum SpanAnswer {
     /// The symbol table or a symbol has a fault.
-    #[error("bad file")]
+    #[error("{0}")]
     Bad(BadFile),
     /// There was not enough memory.
     #[error("out of memory")]

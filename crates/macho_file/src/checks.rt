@@ -11,11 +11,14 @@ ghost use Rattle.macho_file.specs.Shown.{section_shown};
 
 use crate::command::{Command, command_at};
 use crate::constants::{MH_MAGIC, MH_MAGIC_64};
-use crate::encoding::Encoding;
+use crate::layout::{
+    HEADER_NCMDS, HEADER_SIZEOFCMDS, LOAD_COMMAND_LEN, MACH_HEADER_LEN, SECTION_LEN,
+    SEGMENT_COMMAND_LEN,
+};
 use crate::section::{MachoSection, section_at};
 use crate::segment::segment_at;
 use crate::sizes::has_least_size;
-use byte_cursor::{Order, u32_at};
+use byte_cursor::{Encoding, Order, u32_at};
 use size_core::{BadFile, Fault};
 
 /// Returns the class and the byte order. Checks that the header is complete and that the load commands end
@@ -45,14 +48,14 @@ pub fn encoding(file: &[u8]) -> Result<Encoding, BadFile>
         order: if is_big { Order::Big } else { Order::Little },
     };
     let size = file.len() as u64;
-    let header = encoding.pick(28, 32);
+    let header = encoding.pick(MACH_HEADER_LEN);
     if size < header {
         return Err(BadFile {
             fault: Fault::Truncated,
             offset: 0,
         });
     }
-    if size - header < encoding.four(file, 20) as u64 {
+    if size - header < encoding.four(file, 0, HEADER_SIZEOFCMDS) as u64 {
         return Err(BadFile {
             fault: Fault::TablePastEnd,
             offset: header,
@@ -106,7 +109,7 @@ fn sections_fit(
     let mut at = place;
     'rows: for i in 0..count {
         section_fits(file, &section_at(file, encoding, form, at))?;
-        at += form.pick(68, 80);
+        at += form.pick(SECTION_LEN);
     }
     Ok(())
 }
@@ -126,7 +129,7 @@ fn segment_sections_fit(
     ensures { result ≡ first_of (map (section_fits file.now) (sections_of file.now command)) }
 {
     let form = command.form(encoding);
-    let first = command.place + form.pick(56, 72);
+    let first = command.place + form.pick(SEGMENT_COMMAND_LEN);
     sections_fit(file, encoding, form, first, count)
 }
 
@@ -167,7 +170,7 @@ fn checked_command(
         fault: Fault::BadCommand,
         offset: place,
     };
-    if end - place < 8 {
+    if end - place < LOAD_COMMAND_LEN {
         return Err(wrong);
     }
     let command = command_at(file, encoding, place);
@@ -203,9 +206,9 @@ pub fn commands_fit(file: &[u8], encoding: Encoding) -> Result<(), BadFile>
     requires { HasHeader file.now encoding }
     ensures { result ≡ commands_fit file.now (header_len file.now) (command_count file.now) }
 {
-    let count = encoding.four(file, 16);
-    let mut place = encoding.pick(28, 32);
-    let end = place + encoding.four(file, 20) as u64;
+    let count = encoding.four(file, 0, HEADER_NCMDS);
+    let mut place = encoding.pick(MACH_HEADER_LEN);
+    let end = place + encoding.four(file, 0, HEADER_SIZEOFCMDS) as u64;
     'rows: for i in 0..count {
         place = command_fits(file, encoding, end, place)?;
     }

@@ -5,7 +5,8 @@ ghost use Rattle.macho_file.specs.Layout.{encoding_of};
 ghost use Rattle.macho_file.specs.Commands.{command_at, is_segment, form_of};
 
 use crate::constants::{LC_SEGMENT, LC_SEGMENT_64};
-use crate::encoding::Encoding;
+use crate::layout::{COMMAND_CMD, COMMAND_CMDSIZE, LOAD_COMMAND_LEN};
+use byte_cursor::Encoding;
 
 /// A load command (`load_command`).
 #[derive(Clone, Copy, Debug, PartialEq, Eq, Hash)]
@@ -22,14 +23,14 @@ pub struct Command {
 #[tactic(auto, unfolding(crate::specs::Commands::command_at))]
 pub fn command_at(file: &[u8], encoding: Encoding, place: u64) -> Command
     requires encoding { encoding ≡ encoding_of file.now }
-    requires within { place + 8 ≤ length file.now }
+    requires within { place + LOAD_COMMAND_LEN ≤ length file.now }
     requires small { length file.now < 2 ^ 32 }
     ensures { result ≡ command_at file.now place }
 {
     Command {
         place,
-        kind: encoding.four(file, place),
-        size: encoding.four(file, place + 4),
+        kind: encoding.four(file, place, COMMAND_CMD),
+        size: encoding.four(file, place, COMMAND_CMDSIZE),
     }
 }
 

@@ -1,6 +1,6 @@
 //! An opened Mach-O file.
 
-ghost use Rattle.std.specs.Prelude.{◌≡◌, ◌<◌, ◌^◌, length, map, MatchResult, OnOk, IfOk, IsOkAnd, Some, Ok, Err, slice_get};
+ghost use Rattle.std.specs.Prelude.{◌≡◌, ◌<◌, ◌^◌, All, length, map, MatchResult, OnOk, IfOk, IsOkAnd, Some, Ok, Err, slice_get};
 ghost use Rattle.size_core.specs.Checks.{AllHold, Gives, IsFirstFault};
 ghost use Rattle.macho_file.specs.Layout.{command_count, commands_size, encoding_of, file_type, header_len};
 ghost use Rattle.macho_file.specs.Commands.{command_bytes_at, commands};
@@ -9,7 +9,7 @@ ghost use Rattle.macho_file.specs.LinkEdit.{link_edit_parts};
 ghost use Rattle.macho_file.specs.Symbols.{symbol_at, symbol_count, table};
 ghost use Rattle.macho_file.specs.Checks.{macho_checks, opened};
 ghost use Rattle.macho_file.specs.Known.{HasTable};
-ghost use Rattle.macho_file.specs.WellFormed.{IsWellFormed};
+ghost use Rattle.macho_file.specs.WellFormed.{Fits, HasAddresses, IsWellFormed};
 ghost use Rattle.macho_file.specs.Names.{AreNamedSpans, IsNamed};
 ghost use Rattle.macho_file.specs.Shown.{named_shown, section_shown, segment_shown, span_shown, symbol_shown};
 ghost use Rattle.macho_file.specs.Spans.{spans};
@@ -19,8 +19,8 @@ use crate::answer::SpanAnswer;
 use crate::checks::{commands_fit, encoding};
 use crate::command::Command;
 use crate::commands::Commands;
-use crate::encoding::Encoding;
 use crate::extent::extents_of;
+use crate::layout::{HEADER_FILETYPE, HEADER_NCMDS, HEADER_SIZEOFCMDS, MACH_HEADER_LEN};
 use crate::link_edit_parts::LinkEditParts;
 use crate::lookup::{command_of, section_of, segment_of};
 use crate::section::MachoSection;
@@ -33,7 +33,7 @@ use crate::survey::{Survey, count_tables};
 use crate::symbol::MachoSymbol;
 use crate::symbol_table::{SymbolTable, symbol_of, table_of};
 use crate::walk::Walk;
-use byte_cursor::Order;
+use byte_cursor::{Encoding, Order};
 use size_core::BadFile;
 use std::alloc::Global;
 use std::marker::Model;
@@ -128,21 +128,21 @@ impl<'a> MachoFile<'a> {
     pub fn kind(&self) -> u32
         ensures { result ≡ file_type self.now }
     {
-        self.encoding.four(self.file, 12)
+        self.encoding.four(self.file, 0, HEADER_FILETYPE)
     }
 
     /// Returns the size of the header in bytes, which depends on the class.
     pub fn header_len(&self) -> u64
         ensures { result ≡ header_len self.now }
     {
-        self.encoding.pick(28, 32)
+        self.encoding.pick(MACH_HEADER_LEN)
     }
 
     /// Returns `sizeofcmds`, the size in bytes of all load commands. They follow the header.
     pub fn commands_size(&self) -> u32
         ensures { result ≡ commands_size self.now }
     {
-        self.encoding.four(self.file, 20)
+        self.encoding.four(self.file, 0, HEADER_SIZEOFCMDS)
     }
 
     /// Returns the number of load commands.
@@ -151,7 +151,7 @@ impl<'a> MachoFile<'a> {
         ensures value { result ≡ command_count self.now }
         ensures commands { result ≡ length (commands self.now) }
     {
-        self.encoding.four(self.file, 16)
+        self.encoding.four(self.file, 0, HEADER_NCMDS)
     }
 
     /// Returns the number of segments.
@@ -169,11 +169,12 @@ impl<'a> MachoFile<'a> {
     }
 
     /// Returns a walk over all commands. Together they have fewer than 2^32 sections.
-    #[tactic(auto, using(crate::proofs::TableLemmas::sections_small))]
+    #[tactic(auto, using(crate::proofs::TableLemmas::sections_small, crate::proofs::WellFormedLemmas::is_well_formed))]
     fn walk(&self) -> Walk<'a>
         ensures file { result.file ≡ self.now }
         ensures rest { result.rest ≡ commands self.now }
         ensures few { length (sections self.now) < 2 ^ 32 }
+        ensures well_formed { IsWellFormed self.now }
     {
         Walk::new(self.file, self.encoding)
     }
@@ -185,18 +186,21 @@ impl<'a> MachoFile<'a> {
         Commands::new(self.walk())
     }
 
-    /// Returns all segments, in file order.
+    /// Returns all segments, in file order. The addresses of each end by 2^64.
     #[tactic(auto, unfolding(crate::specs::Tables::segments))]
     pub fn segments(&self) -> Segments<'a>
-        ensures { result ≡ segments self.now }
+        ensures segments { result ≡ segments self.now }
+        ensures addresses { All HasAddresses result }
     {
         Segments::new(self.walk())
     }
 
-    /// Returns the sections of all segments, in file order.
+    /// Returns the sections of all segments, in file order. The addresses of each end by 2^64, and its bytes are in
+    /// the file.
     #[tactic(auto, unfolding(crate::specs::Tables::sections))]
     pub fn sections(&self) -> Sections<'a>
-        ensures { result ≡ sections self.now }
+        ensures sections { result ≡ sections self.now }
+        ensures fit { All (Fits self.now) result }
     {
         Sections::new(self.walk())
     }
@@ -229,10 +233,12 @@ impl<'a> MachoFile<'a> {
         &self.file[place..place + command.size as usize]
     }
 
-    /// Returns segment `k`.
+    /// Returns segment `k`. Its addresses end by 2^64.
+    #[tactic(auto, using(crate::proofs::WellFormedLemmas::addresses_at))]
     pub fn segment(&self, k: u32) -> MachoSegment<'a>
         requires { k < length (segments self.now) }
-        ensures { slice_get (segments self.now) k ≡ Some (segment_shown result) }
+        ensures segment { slice_get (segments self.now) k ≡ Some (segment_shown result) }
+        ensures addresses { HasAddresses (segment_shown result) }
     {
         segment_of(self.segments(), k)
     }

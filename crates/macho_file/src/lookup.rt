@@ -8,6 +8,7 @@ ghost use Rattle.macho_file.specs.Known.{IsInside};
 ghost use Rattle.macho_file.specs.Shown.{section_shown, segment_shown};
 
 use crate::command::Command;
+use crate::layout::{SECTION_LEN, SEGMENT_COMMAND_LEN};
 use crate::section::{MachoSection, section_at};
 use crate::segment::{MachoSegment, section_count_of};
 use crate::segments::{Segments, next_segment};
@@ -61,8 +62,8 @@ pub fn section_of<'a>(mut walk: Walk<'a>, k: u32) -> MachoSection<'a>
         let count = section_count_of(file, encoding, command);
         if left < count {
             let form = command.form(encoding);
-            let first = command.place + form.pick(56, 72);
-            let place = first + left as u64 * form.pick(68, 80);
+            let first = command.place + form.pick(SEGMENT_COMMAND_LEN);
+            let place = first + left as u64 * form.pick(SECTION_LEN);
             return section_at(file, encoding, form, place);
         }
         left -= count;

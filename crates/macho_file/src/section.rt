@@ -7,8 +7,12 @@ ghost use Rattle.macho_file.specs.Tables.{is_in_file, is_zero_filled, section_at
 ghost use Rattle.macho_file.specs.Shown.{section_shown};
 
 use crate::constants::{MH_DSYM, S_GB_ZEROFILL, S_THREAD_LOCAL_ZEROFILL, S_ZEROFILL, SECTION_TYPE};
-use crate::encoding::Encoding;
+use crate::layout::{
+    HEADER_FILETYPE, SECTION_ADDR, SECTION_FLAGS, SECTION_OFFSET, SECTION_SECTNAME,
+    SECTION_SEGNAME, SECTION_SIZE,
+};
 use crate::segment::name_16;
+use byte_cursor::Encoding;
 
 /// A section (`section`, `section_64`).
 #[derive(Clone, Copy, Debug)]
@@ -49,7 +53,7 @@ fn is_in_file(file: &[u8], encoding: Encoding, segment: &[u8], offset: u32, flag
     if is_zero_filled(flags) || offset == 0 {
         return false;
     }
-    encoding.four(file, 12) != MH_DSYM || segment == b"__DWARF".as_slice()
+    encoding.four(file, 0, HEADER_FILETYPE) != MH_DSYM || segment == b"__DWARF".as_slice()
 }
 
 /// Returns the section whose header is at file offset `place`.
@@ -66,15 +70,15 @@ pub fn section_at<'a>(
     requires small { length file.now < 2 ^ 32 }
     ensures { section_shown result ≡ section_at file.now form place }
 {
-    let segment = name_16(file, place + 16);
-    let offset = form.four(file, place + form.pick(40, 48));
-    let flags = form.four(file, place + form.pick(56, 64));
+    let segment = name_16(file, place + form.pick(SECTION_SEGNAME));
+    let offset = form.four(file, place, SECTION_OFFSET);
+    let flags = form.four(file, place, SECTION_FLAGS);
     MachoSection {
         place,
         segment,
-        name: name_16(file, place),
-        addr: form.word(file, place, 32, 32),
-        size: form.word(file, place, 36, 40),
+        name: name_16(file, place + form.pick(SECTION_SECTNAME)),
+        addr: form.word(file, place, SECTION_ADDR),
+        size: form.word(file, place, SECTION_SIZE),
         offset: offset as u64,
         flags,
         in_file: is_in_file(file, encoding, segment, offset, flags),

@@ -6,11 +6,12 @@ ghost use Rattle.std.specs.List.{flat_map};
 ghost use Rattle.macho_file.specs.Tables.{sections_of};
 ghost use Rattle.macho_file.specs.Shown.{section_shown};
 
-use crate::encoding::Encoding;
+use crate::layout::{SECTION_LEN, SEGMENT_COMMAND_LEN};
 use crate::section::{MachoSection, section_at};
 use crate::segment::section_count_of;
 use crate::segments::next_segment;
 use crate::walk::Walk;
+use byte_cursor::Encoding;
 use std::marker::Model;
 
 /// The sections of all segments that `next` has not returned yet, in file order.
@@ -64,11 +65,11 @@ impl<'a> Iterator for Sections<'a> {
         'rows: while self.left == 0 {
             let command = next_segment(&mut self.walk)?;
             self.form = command.form(encoding);
-            self.place = command.place + self.form.pick(56, 72);
+            self.place = command.place + self.form.pick(SEGMENT_COMMAND_LEN);
             self.left = section_count_of(file, encoding, command);
         }
         let section = section_at(file, encoding, self.form, self.place);
-        self.place += self.form.pick(68, 80);
+        self.place += self.form.pick(SECTION_LEN);
         self.left -= 1;
         Some(section)
     }

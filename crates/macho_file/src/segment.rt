@@ -7,8 +7,11 @@ ghost use Rattle.macho_file.specs.Tables.{segment_at};
 ghost use Rattle.macho_file.specs.Shown.{segment_shown};
 
 use crate::command::Command;
-use crate::encoding::Encoding;
-use byte_cursor::text_at;
+use crate::layout::{
+    SEGMENT_FILEOFF, SEGMENT_FILESIZE, SEGMENT_MAXPROT, SEGMENT_NSECTS, SEGMENT_SEGNAME,
+    SEGMENT_VMADDR, SEGMENT_VMSIZE,
+};
+use byte_cursor::{Encoding, text_at};
 
 /// A segment (`segment_command`, `segment_command_64`).
 #[derive(Clone, Copy, Debug)]
@@ -56,7 +59,7 @@ pub fn section_count_of(file: &[u8], encoding: Encoding, command: Command) -> u3
     ensures { result ≡ section_count_of file.now command }
 {
     let form = command.form(encoding);
-    form.four(file, command.place + form.pick(48, 64))
+    form.four(file, command.place, SEGMENT_NSECTS)
 }
 
 /// Returns the segment of a command. Its sections are numbered from `first` on.
@@ -77,12 +80,12 @@ pub fn segment_at<'a>(
     let place = command.place;
     MachoSegment {
         place,
-        name: name_16(file, place + 8),
-        vaddr: form.word(file, place, 24, 24),
-        memsz: form.word(file, place, 28, 32),
-        offset: form.word(file, place, 32, 40),
-        filesz: form.word(file, place, 36, 48),
-        maxprot: form.four(file, place + form.pick(40, 56)),
+        name: name_16(file, place + form.pick(SEGMENT_SEGNAME)),
+        vaddr: form.word(file, place, SEGMENT_VMADDR),
+        memsz: form.word(file, place, SEGMENT_VMSIZE),
+        offset: form.word(file, place, SEGMENT_FILEOFF),
+        filesz: form.word(file, place, SEGMENT_FILESIZE),
+        maxprot: form.four(file, place, SEGMENT_MAXPROT),
         first,
         count: section_count_of(file, encoding, command),
     }

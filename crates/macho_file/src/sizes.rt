@@ -6,9 +6,13 @@ ghost use Rattle.macho_file.specs.Commands.{is_dyld_info, least_by_kind, least_s
 
 use crate::command::Command;
 use crate::constants::{LC_DYLD_INFO, LC_DYLD_INFO_ONLY, LC_DYSYMTAB, LC_SYMTAB, LC_UUID};
-use crate::encoding::Encoding;
+use crate::layout::{
+    DYLD_INFO_COMMAND_LEN, DYSYMTAB_COMMAND_LEN, LINKEDIT_DATA_COMMAND_LEN, LOAD_COMMAND_LEN,
+    SECTION_LEN, SEGMENT_COMMAND_LEN, SYMTAB_COMMAND_LEN, UUID_COMMAND_LEN,
+};
 use crate::link_edit::data_kind;
 use crate::segment::section_count_of;
+use byte_cursor::Encoding;
 
 /// Returns whether a command of this kind is a `dyld_info_command`.
 pub fn is_dyld_info(kind: u32) -> bool
@@ -23,17 +27,17 @@ fn least_by_kind(kind: u32) -> u64
     ensures { result ≡ least_by_kind kind }
 {
     if kind == LC_SYMTAB {
-        24
+        SYMTAB_COMMAND_LEN
     } else if kind == LC_DYSYMTAB {
-        80
+        DYSYMTAB_COMMAND_LEN
     } else if kind == LC_UUID {
-        24
+        UUID_COMMAND_LEN
     } else if is_dyld_info(kind) {
-        48
+        DYLD_INFO_COMMAND_LEN
     } else if data_kind(kind).is_some() {
-        16
+        LINKEDIT_DATA_COMMAND_LEN
     } else {
-        8
+        LOAD_COMMAND_LEN
     }
 }
 
@@ -50,10 +54,10 @@ pub fn has_least_size(file: &[u8], encoding: Encoding, command: Command) -> bool
         return least_by_kind(command.kind) <= size;
     }
     let form = command.form(encoding);
-    let len = form.pick(56, 72);
+    let len = form.pick(SEGMENT_COMMAND_LEN);
     if size < len {
         return false;
     }
     let count = section_count_of(file, encoding, command) as u64;
-    len + count * form.pick(68, 80) <= size
+    len + count * form.pick(SECTION_LEN) <= size
 }

@@ -9,11 +9,11 @@ ghost use Rattle.macho_file.specs.Taken.{ForBad, taken_from};
 
 use crate::answer::SpanAnswer;
 use crate::constants::{N_SECT, N_STAB, N_TYPE};
-use crate::encoding::Encoding;
 use crate::extent::Extent;
 use crate::names::Names;
 use crate::symbol::PlacedSymbol;
 use crate::symbol_table::{SymbolTable, next_symbol, strings_of};
+use byte_cursor::Encoding;
 use size_core::NoMemory;
 use std::alloc::Global;
 

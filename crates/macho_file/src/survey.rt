@@ -9,9 +9,9 @@ ghost use Rattle.macho_file.specs.Known.{HasCommands, HasHeader, IsInside, IsSom
 
 use crate::command::Command;
 use crate::constants::LC_SYMTAB;
-use crate::encoding::Encoding;
 use crate::segment::section_count_of;
 use crate::walk::Walk;
+use byte_cursor::Encoding;
 
 /// The numbers of segments and sections, and the first command with a symbol table.
 #[derive(Clone, Copy)]

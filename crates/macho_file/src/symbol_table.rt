@@ -11,10 +11,13 @@ ghost use Rattle.macho_file.specs.Taken.{ForBad};
 
 use crate::answer::SpanAnswer;
 use crate::command::Command;
-use crate::encoding::Encoding;
+use crate::layout::{
+    NLIST_LEN, NLIST_SECT, NLIST_STRX, NLIST_TYPE, NLIST_VALUE, SYMTAB_COMMAND_LEN, SYMTAB_NSYMS,
+    SYMTAB_STROFF, SYMTAB_STRSIZE, SYMTAB_SYMOFF,
+};
 use crate::names::Names;
 use crate::symbol::{MachoSymbol, PlacedSymbol};
-use byte_cursor::text_at;
+use byte_cursor::{Encoding, text_at};
 use size_core::{BadFile, Fault};
 
 /// The file ranges of the symbols and of their string table (`symtab_command`).
@@ -34,15 +37,15 @@ pub struct SymbolTable {
 #[tactic(auto, unfolding(crate::specs::Symbols::table_at))]
 fn table_at(file: &[u8], encoding: Encoding, place: u64) -> SymbolTable
     requires encoding { encoding ≡ encoding_of file.now }
-    requires within { place + 24 ≤ length file.now }
+    requires within { place + SYMTAB_COMMAND_LEN ≤ length file.now }
     requires small { length file.now < 2 ^ 32 }
     ensures { result ≡ table_at file.now place }
 {
     SymbolTable {
-        symoff: encoding.four(file, place + 8),
-        nsyms: encoding.four(file, place + 12),
-        stroff: encoding.four(file, place + 16),
-        strsize: encoding.four(file, place + 20),
+        symoff: encoding.four(file, place, SYMTAB_SYMOFF),
+        nsyms: encoding.four(file, place, SYMTAB_NSYMS),
+        stroff: encoding.four(file, place, SYMTAB_STROFF),
+        strsize: encoding.four(file, place, SYMTAB_STRSIZE),
     }
 }
 
@@ -69,7 +72,7 @@ pub fn table_of(
     };
     let table = table_at(file, encoding, command.place);
     let len = file.len() as u64;
-    let symbols_end = table.symoff as u64 + table.nsyms as u64 * encoding.pick(12, 16);
+    let symbols_end = table.symoff as u64 + table.nsyms as u64 * encoding.pick(NLIST_LEN);
     let names_end = table.stroff as u64 + table.strsize as u64;
     if symbols_end > len || names_end > len {
         return Err(BadFile {
@@ -102,7 +105,7 @@ fn symbol_name<'a>(
     requires within { place + 4 ≤ length file.now }
     ensures { Gives (λ name. name.now) result (symbol_name file.now table place) }
 {
-    let strx = encoding.four(file, place);
+    let strx = encoding.four(file, place, NLIST_STRX);
     if strx == 0 {
         return Ok(&[]);
     }
@@ -132,7 +135,7 @@ fn name_of<'a>(
         (λ e. ForBad e (λ bad. symbol_name file.now table place ≡ Err bad)) }
     ensures names { names.new ≡ names.old }
 {
-    let strx = encoding.four(file, place);
+    let strx = encoding.four(file, place, NLIST_STRX);
     if strx == 0 {
         return Ok(&[]);
     }
@@ -155,9 +158,9 @@ fn symbol_named<'a>(file: &[u8], encoding: Encoding, place: u64, name: &'a [u8])
     MachoSymbol {
         place,
         name,
-        kind: file[place as usize + 4],
-        sect: file[place as usize + 5],
-        value: encoding.word(file, place, 8, 8),
+        kind: encoding.byte(file, place, NLIST_TYPE),
+        sect: encoding.byte(file, place, NLIST_SECT),
+        value: encoding.word(file, place, NLIST_VALUE),
     }
 }
 
@@ -174,7 +177,7 @@ pub fn symbol_of<'a>(
     requires number { k < table.nsyms }
     ensures { Gives symbol_shown result (symbol_of file.now table k) }
 {
-    let place = table.symoff as u64 + k as u64 * encoding.pick(12, 16);
+    let place = table.symoff as u64 + k as u64 * encoding.pick(NLIST_LEN);
     let name = symbol_name(file, encoding, table, place)?;
     Ok(symbol_named(file, encoding, place, name))
 }
@@ -198,8 +201,8 @@ pub fn next_symbol<'a>(
     ensures name { IfOk result (λ s. IsNamed file.now s) }
     ensures names { names.new ≡ names.old }
 {
-    let place = table.symoff as u64 + k as u64 * encoding.pick(12, 16);
+    let place = table.symoff as u64 + k as u64 * encoding.pick(NLIST_LEN);
     let name = name_of(file, encoding, table, place, names)?;
-    let name_place = table.stroff as u64 + encoding.four(file, place) as u64;
+    let name_place = table.stroff as u64 + encoding.four(file, place, NLIST_STRX) as u64;
     Ok(symbol_named(file, encoding, place, name).placed(name_place))
 }

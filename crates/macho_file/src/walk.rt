@@ -8,7 +8,8 @@ ghost use Rattle.macho_file.specs.Checks.{command_checks};
 ghost use Rattle.macho_file.specs.Known.{HasCommands, HasHeader, IsInside};
 
 use crate::command::{Command, command_at};
-use crate::encoding::Encoding;
+use crate::layout::{HEADER_NCMDS, MACH_HEADER_LEN};
+use byte_cursor::Encoding;
 use std::marker::Model;
 
 /// A file, and its commands that `next` has not returned yet. All of them are checked.
@@ -42,8 +43,8 @@ impl<'a> Walk<'a> {
         Walk {
             file,
             encoding,
-            place: encoding.pick(28, 32),
-            left: encoding.four(file, 16),
+            place: encoding.pick(MACH_HEADER_LEN),
+            left: encoding.four(file, 0, HEADER_NCMDS),
         }
     }
 
@@ -63,7 +64,7 @@ impl<'a> Walk<'a> {
     }
 
     /// Returns the next command.
-    #[tactic(auto, using(crate::proofs::WalkLemmas::is_inside, crate::proofs::WalkLemmas::has_eight, crate::proofs::WalkLemmas::fits_here, crate::proofs::WalkLemmas::goes_on, crate::proofs::WalkLemmas::comes, crate::proofs::WalkLemmas::is_over))]
+    #[tactic(auto, using(crate::proofs::WalkLemmas::is_inside, crate::proofs::WalkLemmas::has_load_command, crate::proofs::WalkLemmas::fits_here, crate::proofs::WalkLemmas::goes_on, crate::proofs::WalkLemmas::comes, crate::proofs::WalkLemmas::is_over))]
     pub fn next(&mut self) -> Option<Command>
         ensures file { self.new.file ≡ self.old.file }
         ensures step { MatchOption result

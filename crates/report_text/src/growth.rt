@@ -7,7 +7,7 @@ ghost use Rattle.report_text.specs.Growth.{sign, growth_text, change_text, growt
 use crate::fields::push_shown;
 use crate::lines::{LineFormat, lines, push_column};
 use crate::numbers::{push_percent, push_size};
-use crate::pieces::push;
+use crate::pieces::{push, push_text};
 use crate::records::table;
 use crate::rows::{Name, ReportRow, ReportTree};
 use itoa::Buffer;
@@ -193,8 +193,7 @@ pub fn growth_text(
     ensures err { OnErr result (out.new.items ≡ out.old.items) }
 {
     let text = lines(alloc, tree, LineFormat { domain, wide })?;
-    out.extend_from_slice(text.as_slice())?;
-    Ok(())
+    push_text(out, text)
 }
 
 /// Appends the CSV records of a growth tree. A header has the names of the data sources and of the shown sizes. Each
@@ -215,8 +214,7 @@ pub fn growth_csv(
     ensures err { OnErr result (out.new.items ≡ out.old.items) }
 {
     let text = table(alloc, b',', tree, domain, sources)?;
-    out.extend_from_slice(text.as_slice())?;
-    Ok(())
+    push_text(out, text)
 }
 
 /// Appends the same records as `growth_csv`, separated by tabs instead of commas.
@@ -235,6 +233,5 @@ pub fn growth_tsv(
     ensures err { OnErr result (out.new.items ≡ out.old.items) }
 {
     let text = table(alloc, b'\t', tree, domain, sources)?;
-    out.extend_from_slice(text.as_slice())?;
-    Ok(())
+    push_text(out, text)
 }

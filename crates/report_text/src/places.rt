@@ -5,7 +5,7 @@ ghost use Rattle.report_text.specs.Places.{number_line, name_line, space_text, p
 
 use crate::labels::push_shortened;
 use crate::numbers::push_decimal;
-use crate::pieces::push;
+use crate::pieces::{push, push_text};
 use place_explain::{NamedClaim, NamedClaims, PlaceSource};
 use size_core::{NoMemory, Place, Side};
 use std::alloc::Global;
@@ -168,6 +168,5 @@ pub fn place_text(
     ensures err { OnErr result (out.new.items ≡ out.old.items) }
 {
     let text = lines(alloc, place, sources, wide)?;
-    out.extend_from_slice(text.as_slice())?;
-    Ok(())
+    push_text(out, text)
 }

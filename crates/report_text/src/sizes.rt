@@ -8,6 +8,7 @@ ghost use Rattle.report_text.specs.Records.{size_fields, csv_text, tsv_text};
 use crate::fields::push_shown;
 use crate::lines::{LineFormat, lines, push_column};
 use crate::numbers::{push_percent, push_size};
+use crate::pieces::push_text;
 use crate::records::table;
 use crate::rows::{Name, ReportRow, ReportTree};
 use itoa::Buffer;
@@ -158,8 +159,7 @@ pub fn text(
     ensures err { OnErr result (out.new.items ≡ out.old.items) }
 {
     let text = lines(alloc, tree, LineFormat { domain, wide })?;
-    out.extend_from_slice(text.as_slice())?;
-    Ok(())
+    push_text(out, text)
 }
 
 /// Appends the CSV records of a tree. A header has the names of the data sources and of the shown sizes. Each row
@@ -180,8 +180,7 @@ pub fn csv(
     ensures err { OnErr result (out.new.items ≡ out.old.items) }
 {
     let text = table(alloc, b',', tree, domain, sources)?;
-    out.extend_from_slice(text.as_slice())?;
-    Ok(())
+    push_text(out, text)
 }
 
 /// Appends the same records as `csv`, separated by tabs instead of commas.
@@ -200,6 +199,5 @@ pub fn tsv(
     ensures err { OnErr result (out.new.items ≡ out.old.items) }
 {
     let text = table(alloc, b'\t', tree, domain, sources)?;
-    out.extend_from_slice(text.as_slice())?;
-    Ok(())
+    push_text(out, text)
 }

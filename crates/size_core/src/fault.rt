@@ -2,6 +2,8 @@
 
 ghost use Rattle.std.specs.Prelude.{◌≡◌};
 
+use thiserror::Error;
+
 /// What is wrong with a file.
 #[derive(Clone, Copy, Debug, PartialEq, Eq, Hash)]
 pub enum Fault {
@@ -91,8 +93,9 @@ impl Fault {
     }
 }
 
-/// A fault and the file offset, in bytes, where it was found.
-#[derive(Clone, Copy, Debug, PartialEq, Eq, Hash)]
+/// A fault and the file offset, in bytes, where it was found. Its message is the end of the error line for the file.
+#[derive(Clone, Copy, Debug, PartialEq, Eq, Hash, Error)]
+#[error("offset {offset}: {fault:?}")]
 pub struct BadFile {
     /// What is wrong.
     pub fault: Fault,

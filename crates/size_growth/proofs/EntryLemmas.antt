@@ -4,9 +4,8 @@ use Rattle.std.specs.Prelude.{All, filter}
 use Rattle.std.specs.List.{sum_by}
 use Rattle.std.specs.Ordering.{is_lt, nat_cmp}
 use Rattle.std.proofs.lemmas.List.{length-map}
-use Rattle.std.proofs.lemmas.List.Elements.{All-map, All-weaker}
+use Rattle.std.proofs.lemmas.List.Elements.{All-weaker}
 use Rattle.std.proofs.lemmas.List.Sums.{sum_by-take-drop}
-use Rattle.std.proofs.lemmas.Simd.{map-map}
 use Rattle.report_rows.specs.declared.row.RowOptions.{RowOptions}
 use Rattle.report_rows.specs.Order.{within}
 use Rattle.report_rows.proofs.EntryLemmas.{filter-le}
@@ -16,9 +15,8 @@ use Rattle.report_rows.proofs.TableLemmas.{sum_by-map}
 use Rattle.size_growth.specs.declared.groups.Group.{Group}
 use Rattle.size_growth.specs.declared.growth.GrowthPath.{GrowthPath}
 use Rattle.size_growth.specs.declared.growth.GrowthSizes.{GrowthSizes}
-use Rattle.size_growth.specs.declared.items.Item.{Item}
 use Rattle.size_growth.specs.declared.row.GrowthKind.TheVariants.{Others}
-use Rattle.size_growth.specs.Items.{IsGroup, IsRange, group_entry, item_entry, item_of, others_item}
+use Rattle.size_growth.specs.Groups.{IsGroup, IsRange, group_entry, others_group}
 use Rattle.size_growth.specs.Keys.{growth_key}
 use Rattle.size_growth.specs.Paths.{sums}
 use Rattle.size_growth.specs.Rows.{Entry, by_key, children, entries_of, is_child, label_entry, limited, others_entry}
@@ -34,44 +32,37 @@ children-le size is o t =
     let es = map label_entry (runs t) in
     omega (arith, sum_by-in_order (by_key o) f (filter (is_child o) es), filter-le (is_child o) f es, sum-labels size is t)
 
-item-range : (o : RowOptions) (paths : List GrowthPath) (g : Group) → IsGroup o paths g → IsRange paths (item_of g)
-item-range o paths g group = record { inside = omega (arith, group.some); within = group.within; some = λ _. group.some }
+group-range : (o : RowOptions) (paths : List GrowthPath) (g : Group) → IsGroup o paths g → IsRange paths g
+group-range o paths g group = record { inside = omega (arith, group.some); within = group.within; some = λ _. group.some }
 
 same-others : (n m : ℕ) (s t : GrowthSizes) → n ≡ m → s ≡ t → ◌≡◌ {A = Entry} (record { kind = Others n; sizes = s; below = [] }) (record { kind = Others m; sizes = t; below = [] })
 same-others n m s t a b = rw (a, b) refl
 
--- Items that are left out represent one entry for their entries.
-others-are : (o : RowOptions) (level : ℕ) (paths : List GrowthPath) (left : List Item) → item_entry level paths (others_item o left) ≡ others_entry (map (item_entry level paths) left)
+-- Groups that are left out represent one entry for their entries.
+others-are : (o : RowOptions) (level : ℕ) (paths : List GrowthPath) (left : List Group) → group_entry level paths (others_group o left) ≡ others_entry (map (group_entry level paths) left)
 others-are o level paths left =
-    let f = item_entry level paths in
-    let one : (size : GrowthSizes → ℕ) → sum_by (λ (i : Item). size i.sizes) left ≡ sum_by (λ (e : Entry). size e.sizes) (map f left) = λ size. sym (sum_by-map (λ (e : Entry). size e.sizes) f left) in
-    same-others (length left) (length (map f left)) (sums_by (λ (i : Item). i.sizes) left) (sums_by (λ (e : Entry). e.sizes) (map f left)) (sym (length-map left f))
-    (same_sizes (sums_by (λ (i : Item). i.sizes) left) (sums_by (λ (e : Entry). e.sizes) (map f left)) (one (λ s. s.new_vm)) (one (λ s. s.new_file)) (one (λ s. s.base_vm)) (one (λ s. s.base_file)))
+    let f = group_entry level paths in
+    let one : (size : GrowthSizes → ℕ) → sum_by (λ (g : Group). size g.sizes) left ≡ sum_by (λ (e : Entry). size e.sizes) (map f left) = λ size. sym (sum_by-map (λ (e : Entry). size e.sizes) f left) in
+    same-others (length left) (length (map f left)) (sums_by (λ (g : Group). g.sizes) left) (sums_by (λ (e : Entry). e.sizes) (map f left)) (sym (length-map left f))
+    (same_sizes (sums_by (λ (g : Group). g.sizes) left) (sums_by (λ (e : Entry). e.sizes) (map f left)) (one (λ s. s.new_vm)) (one (λ s. s.new_file)) (one (λ s. s.base_vm)) (one (λ s. s.base_file)))
 
 module _ (o : RowOptions) (level : ℕ) (paths : List GrowthPath) (groups : List Group) (every : All (IsGroup o paths) groups) (entries : map (group_entry level paths) groups ≡ children o (table_at level paths)) where
-  abbrev items : List Item
-  items = map item_of groups
-
-  -- The items of labels represent the entries of the children.
-  items-are : map (item_entry level paths) items ≡ children o (table_at level paths)
-  items-are = map-map (item_entry level paths) item_of groups ∙ entries
-
-  sum-le : (size : GrowthSizes → ℕ) → IsSize size → sum_by (λ (i : Item). size i.sizes) items ≤ sum_by (λ (p : GrowthPath). size p.sizes) paths
+  sum-le : (size : GrowthSizes → ℕ) → IsSize size → sum_by (λ (g : Group). size g.sizes) groups ≤ sum_by (λ (p : GrowthPath). size p.sizes) paths
   sum-le size is =
       let f : Entry → ℕ = λ e. size e.sizes in
       omega (
         arith,
-        sum_by-map f (item_entry level paths) items,
-        ap (sum_by f) items-are,
+        sum_by-map f (group_entry level paths) groups,
+        ap (sum_by f) entries,
         children-le size is o (table_at level paths),
         sum_by-map (λ (p : GrowthPath). size p.sizes) (path_from level) paths,
       )
 
-  left-le : (size : GrowthSizes → ℕ) → IsSize size → (limit : ℕ) → sum_by (λ (i : Item). size i.sizes) (drop limit items) ≤ sum_by (λ (p : GrowthPath). size p.sizes) paths
-  left-le size is limit = omega (arith, sum_by-take-drop (λ (i : Item). size i.sizes) items limit, sum-le size is)
+  left-le : (size : GrowthSizes → ℕ) → IsSize size → (limit : ℕ) → sum_by (λ (g : Group). size g.sizes) (drop limit groups) ≤ sum_by (λ (p : GrowthPath). size p.sizes) paths
+  left-le size is limit = omega (arith, sum_by-take-drop (λ (g : Group). size g.sizes) groups limit, sum-le size is)
 
-  -- The items that a limit leaves out fit.
-  pub left-fits : (limit : ℕ) → Fits (sums paths) → Fits (sums_by (λ (i : Item). i.sizes) (drop limit items))
+  -- The groups that a limit leaves out fit.
+  pub left-fits : (limit : ℕ) → Fits (sums paths) → Fits (sums_by (λ (g : Group). g.sizes) (drop limit groups))
   left-fits limit fits = record {
     new_vm = omega (arith, left-le (λ s. s.new_vm) (record { all = λ t. refl; others = λ es. refl }) limit, fits.new_vm);
     new_file = omega (arith, left-le (λ s. s.new_file) (record { all = λ t. refl; others = λ es. refl }) limit, fits.new_file);
@@ -79,19 +70,19 @@ module _ (o : RowOptions) (level : ℕ) (paths : List GrowthPath) (groups : List
     base_file = omega (arith, left-le (λ s. s.base_file) (record { all = λ t. refl; others = λ es. refl }) limit, fits.base_file);
   }
 
-  abbrev kept : List Item
-  kept = within o.limit (λ (i j : Item). nat_cmp j.key i.key) (others_item o) items
+  abbrev kept : List Group
+  kept = within o.limit (λ (g h : Group). nat_cmp h.key.0 g.key.0) (others_group o) groups
 
-  -- The items within the limit represent the entries.
-  pub entries-are : map (item_entry level paths) kept ≡ entries_of o (table_at level paths)
+  -- The groups within the limit represent the entries.
+  pub entries-are : map (group_entry level paths) kept ≡ entries_of o (table_at level paths)
   entries-are =
-      let x = others_item o (drop o.limit items) in
-      map-within (λ (i j : Item). nat_cmp j.key i.key) (by_key o) (item_entry level paths) o.limit (others_item o) others_entry items (others-are o level paths (drop o.limit items))
-      (All-map (λ (i : Item). is_lt (nat_cmp x.key i.key) ≡ is_lt (nat_cmp x.key (growth_key o i.sizes))) item_of groups (λ k d lt. ap (λ n. is_lt (nat_cmp x.key n)) (every k d lt).key))
-      ∙ ap (limited o) items-are
+      let x = others_group o (drop o.limit groups) in
+      map-within (λ (g h : Group). nat_cmp h.key.0 g.key.0) (by_key o) (group_entry level paths) o.limit (others_group o) others_entry groups (others-are o level paths (drop o.limit groups))
+      (λ k d lt. ap (λ n. is_lt (nat_cmp x.key.0 n)) (every k d lt).key)
+      ∙ ap (limited o) entries
 
   pub have-ranges : All (IsRange paths) kept
   have-ranges =
-      All-within o.limit (λ (i j : Item). nat_cmp j.key i.key) (others_item o) (IsRange paths) items
-      (All-map (IsRange paths) item_of groups (All-weaker (IsGroup o paths) (λ g. IsRange paths (item_of g)) (item-range o paths) groups every))
+      All-within o.limit (λ (g h : Group). nat_cmp h.key.0 g.key.0) (others_group o) (IsRange paths) groups
+      (All-weaker (IsGroup o paths) (IsRange paths) (group-range o paths) groups every)
       (record { inside = omega arith; within = omega arith; some = λ label. cc label })

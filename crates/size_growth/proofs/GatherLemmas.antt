@@ -4,13 +4,15 @@ use Rattle.std.specs.Prelude.{All, filter}
 use Rattle.std.specs.List.{AllByRecursion}
 use Rattle.std.proofs.lemmas.List.{append-nil}
 use Rattle.std.proofs.lemmas.List.Elements.{All-head, All-tail}
+use Rattle.report_rows.specs.declared.groups.Kind.{Kind}
+use Rattle.report_rows.specs.declared.groups.Kind.TheVariants.{Label}
 use Rattle.report_rows.specs.declared.row.RowOptions.{RowOptions}
 use Rattle.report_rows.proofs.GatherLemmas.{one-more}
 use Rattle.size_growth.specs.declared.groups.Group.{Group}
 use Rattle.size_growth.specs.declared.growth.GrowthPath.{GrowthPath}
 use Rattle.size_growth.specs.declared.growth.GrowthSizes.{GrowthSizes}
-use Rattle.size_growth.specs.declared.row.GrowthKind.TheVariants.{Label}
-use Rattle.size_growth.specs.Items.{IsGroup, IsRun, Rise, group_entry, labels_at, mid}
+use Rattle.size_growth.specs.GroupKinds.{kind_of}
+use Rattle.size_growth.specs.Groups.{IsGroup, IsRun, Rise, group_entry, labels_at, mid}
 use Rattle.size_growth.specs.Keys.{has_changed}
 use Rattle.size_growth.specs.Rows.{Entry, is_child, label_entry}
 use Rattle.size_growth.specs.Runs.{Under, runs, table_at}
@@ -21,8 +23,9 @@ use Rattle.size_growth.proofs.SumLemmas.{sums_table}
 pub group-is : (o : RowOptions) (level : ℕ) (paths : List GrowthPath) (g : Group) → IsGroup o paths g
     → label_entry (record { label = get_or (labels_at level paths) g.from []; below = table_at (level + 1) (mid g.from g.to paths) }) ≡ group_entry level paths g
 group-is o level paths g group =
-    let one : GrowthSizes → Entry = λ s. record { kind = Label (get_or (labels_at level paths) g.from []); sizes = s; below = table_at (level + 1) (mid g.from g.to paths) } in
-    ap one (sums_table (level + 1) (mid g.from g.to paths) ∙ sym group.sizes)
+    let label = get_or (labels_at level paths) g.from [] in
+    let one : Kind → GrowthSizes → Entry = λ k s. record { kind = kind_of label k; sizes = s; below = table_at (level + 1) (mid g.from g.to paths) } in
+    ap (one Label) (sums_table (level + 1) (mid g.from g.to paths) ∙ sym group.sizes) ∙ ap (λ (k : Kind). one k g.sizes) (sym group.kind)
 
 -- The entries of one more group.
 pub gather : (o : RowOptions) (level : ℕ) (paths : List GrowthPath) (groups : List Group) (g : Group) → IsGroup o paths g → IsRun level paths g.from g.to

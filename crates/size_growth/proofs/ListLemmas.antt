@@ -7,7 +7,7 @@ use Rattle.size_growth.specs.declared.growth.GrowthPath.{GrowthPath}
 use Rattle.size_growth.specs.declared.growth.GrowthSizes.{GrowthSizes}
 use Rattle.size_growth.specs.declared.row.GrowthRow.{GrowthRow}
 use Rattle.size_growth.specs.declared.row.GrowthTree.{GrowthTree}
-use Rattle.size_growth.specs.Items.{IsPart}
+use Rattle.size_growth.specs.Groups.{IsPart}
 use Rattle.size_growth.specs.Paths.{IsGrowth, sums}
 use Rattle.size_growth.specs.Rows.{growth_tree, listing}
 use Rattle.size_growth.specs.Runs.{table_at}

@@ -7,7 +7,7 @@ use Rattle.std.proofs.lemmas.Bool.{cases_Bool}
 use Rattle.std.proofs.lemmas.List.{map-append, length-map, length-drop, length-take-le, take-append-drop, take-map, drop-map, take_rest, get_or-take, get_or-drop, drop-drop, drop_all}
 use Rattle.report_rows.proofs.TableLemmas.{same_bytes, bytes_eq-same}
 use Rattle.size_growth.specs.declared.growth.GrowthPath.{GrowthPath}
-use Rattle.size_growth.specs.Items.{IsRun, labels_at, mid}
+use Rattle.size_growth.specs.Groups.{IsRun, labels_at, mid}
 use Rattle.size_growth.specs.Runs.{Under, first_label, joined, path_from, runs, table_at}
 
 -- The first of the runs has another label.

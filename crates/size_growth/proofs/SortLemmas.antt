@@ -7,6 +7,9 @@ use Rattle.std.specs.Ordering.{is_lt, nat_cmp, ordering_then}
 use Rattle.std.specs.List.Sorted.{IsPermutation, IsSorted}
 use Rattle.std.proofs.lemmas.List.Elements.{All-head, All-tail, All-from_recursion}
 use Rattle.rollup.proofs.Paths.{nat_greater, same_number}
+use Rattle.report_rows.specs.contracts.groups.KindOrd.TheImpl as kind_ord
+use Rattle.report_rows.specs.declared.groups.Kind.{Kind}
+use Rattle.report_rows.specs.declared.groups.Kind.TheVariants.{Label, Others}
 use Rattle.report_rows.specs.declared.row.RowOptions.{RowOptions}
 use Rattle.report_rows.specs.Order.{placed, in_order}
 use Rattle.report_rows.proofs.AscendLemmas.{then-equal}
@@ -17,7 +20,7 @@ use Rattle.size_growth.specs.contracts.groups.GroupOrd.TheImpl.Laws.{total-law}
 use Rattle.size_growth.specs.declared.groups.Group.{Group}
 use Rattle.size_growth.specs.declared.growth.GrowthPath.{GrowthPath}
 use Rattle.size_growth.specs.declared.growth.GrowthSizes.{GrowthSizes}
-use Rattle.size_growth.specs.Items.{HasKey, IsGroup, Rise, group_entry}
+use Rattle.size_growth.specs.Groups.{HasKey, IsGroup, Rise, group_entry}
 use Rattle.size_growth.specs.Keys.{growth_key}
 use Rattle.size_growth.specs.Rows.{Entry, by_key, children, is_child, label_entry}
 use Rattle.size_growth.specs.Runs.{runs, table_at}
@@ -27,8 +30,18 @@ use Rattle.size_growth.proofs.SumLemmas.{same_sizes}
 abbrev sizes_cmp : GrowthSizes → GrowthSizes → Ordering
 sizes_cmp a b = ordering_then (nat_cmp a.new_vm b.new_vm) (ordering_then (nat_cmp a.new_file b.new_file) (ordering_then (nat_cmp a.base_vm b.base_vm) (nat_cmp a.base_file b.base_file)))
 
+abbrev kind_cmp : Kind → Kind → Ordering
+kind_cmp a b = kind_ord.ghosts.cmp a b
+
 abbrev pub group_cmp : Group → Group → Ordering
-group_cmp a b = ordering_then (nat_cmp b.key.0 a.key.0) (ordering_then (nat_cmp a.from b.from) (ordering_then (nat_cmp a.to b.to) (sizes_cmp a.sizes b.sizes)))
+group_cmp a b =
+    ordering_then (nat_cmp b.key.0 a.key.0) (ordering_then (nat_cmp a.from b.from) (ordering_then (nat_cmp a.to b.to) (ordering_then (kind_cmp a.kind b.kind) (sizes_cmp a.sizes b.sizes))))
+
+kind_is : (a b : Kind) → kind_cmp a b ≡ Equal → a ≡ b
+kind_is Label Label e = refl
+kind_is Label (Others m) e = cc e
+kind_is (Others n) Label e = cc e
+kind_is (Others n) (Others m) e = ap (λ k. Others k) (same_number n m e)
 
 sizes_is : (s t : GrowthSizes) → sizes_cmp s t ≡ Equal → s ≡ t
 sizes_is s t e =
@@ -37,16 +50,17 @@ sizes_is s t e =
     let c = then-equal (nat_cmp s.base_vm t.base_vm) _ b.1 in
     same_sizes s t (same_number _ _ a.0) (same_number _ _ b.0) (same_number _ _ c.0) (same_number _ _ c.1)
 
-same-group : (k j f g t u : ℕ) (s r : GrowthSizes) → k ≡ j → f ≡ g → t ≡ u → s ≡ r
-    → ◌≡◌ {A = Group} (record { key = record { 0 = k }; from = f; to = t; sizes = s }) (record { key = record { 0 = j }; from = g; to = u; sizes = r })
-same-group k j f g t u s r a b c d = rw (a, b, c, d) refl
+same-group : (k j f g t u : ℕ) (p q : Kind) (s r : GrowthSizes) → k ≡ j → f ≡ g → t ≡ u → p ≡ q → s ≡ r
+    → ◌≡◌ {A = Group} (record { key = record { 0 = k }; from = f; to = t; kind = p; sizes = s }) (record { key = record { 0 = j }; from = g; to = u; kind = q; sizes = r })
+same-group k j f g t u p q s r a b c d e = rw (a, b, c, d, e) refl
 
 group_is : (a b : Group) → group_cmp a b ≡ Equal → a ≡ b
 group_is a b e =
     let k = then-equal (nat_cmp b.key.0 a.key.0) _ e in
     let f = then-equal (nat_cmp a.from b.from) _ k.1 in
     let t = then-equal (nat_cmp a.to b.to) _ f.1 in
-    same-group a.key.0 b.key.0 a.from b.from a.to b.to a.sizes b.sizes (sym (same_number _ _ k.0)) (same_number _ _ f.0) (same_number _ _ t.0) (sizes_is a.sizes b.sizes t.1)
+    let l = then-equal (kind_cmp a.kind b.kind) _ t.1 in
+    same-group a.key.0 b.key.0 a.from b.from a.to b.to a.kind b.kind a.sizes b.sizes (sym (same_number _ _ k.0)) (same_number _ _ f.0) (same_number _ _ t.0) (kind_is a.kind b.kind l.0) (sizes_is a.sizes b.sizes l.1)
 
 then-greater : (r s t : Ordering) → s ≡ Greater → is_lt (ordering_then r (ordering_then s t)) ≡ is_lt r
 then-greater Less s t e = refl
@@ -60,7 +74,7 @@ module _ (o : RowOptions) (f : Group → Entry) (says : (g : Group) → (f g).si
   -- A later group comes before another if its key is larger.
   tells : (g h : Group) → HasKey o g → HasKey o h → g.from < h.from → is_lt (group_cmp h g) ≡ is_lt (by_key o (f h) (f g))
   tells g h kg kh lt =
-      then-greater (nat_cmp g.key.0 h.key.0) (nat_cmp h.from g.from) (ordering_then (nat_cmp h.to g.to) (sizes_cmp h.sizes g.sizes)) (nat_greater h.from g.from lt)
+      then-greater (nat_cmp g.key.0 h.key.0) (nat_cmp h.from g.from) (ordering_then (nat_cmp h.to g.to) (ordering_then (kind_cmp h.kind g.kind) (sizes_cmp h.sizes g.sizes))) (nat_greater h.from g.from lt)
       ∙ (ap (λ n. is_lt (nat_cmp n h.key.0)) (key-is g kg) ∙ ap (λ n. is_lt (nat_cmp (growth_key o (f g).sizes) n)) (key-is h kh))
 
   order-map : (groups : List Group) → All (HasKey o) groups → Rise groups → map f (in_order group_cmp groups) ≡ in_order (by_key o) (map f groups)

@@ -1,7 +1,7 @@
 pub mod Between
+pub mod GroupKinds
+pub mod Groups
 pub mod GrowthTrees
-pub mod ItemKinds
-pub mod Items
 pub mod Keys
 pub mod Laws
 pub mod Merged

@@ -1,26 +1,28 @@
 //! The labels of a level, grouped with their paths, in the order of a report.
 
 ghost use Rattle.std.specs.Prelude.{◌≡◌, ◌<◌, ◌++◌, ◌∷◌, [], All, IfOk, OnOk, filter, length, map, if◌then◌else◌};
-ghost use Rattle.size_growth.specs.Items.{IsGroup, IsPart, IsRun, Rise, group_entry};
+ghost use Rattle.size_growth.specs.Groups.{IsGroup, IsPart, IsRange, IsRun, Rise, group_entry, others_group};
 ghost use Rattle.size_growth.specs.Keys.{amount, file_amount, growth_key, has_changed, vm_amount};
 ghost use Rattle.size_growth.specs.Paths.{sums};
-ghost use Rattle.size_growth.specs.Rows.{children, is_child, label_entry};
+ghost use Rattle.size_growth.specs.Rows.{children, entries_of, is_child, label_entry};
 ghost use Rattle.size_growth.specs.Runs.{runs, table_at};
-ghost use Rattle.size_growth.specs.Sizes.{Fits};
+ghost use Rattle.size_growth.specs.Sizes.{Fits, sums_by};
 
 use crate::growth::{GrowthPath, GrowthSizes};
-use report_rows::{HasPath, RowOptions, is_shown, key, run_len};
+use report_rows::{Grouped, HasPath, Kind, RowOptions, is_shown, key, limit, run_len};
 use size_core::{NoMemory, Path};
 use std::alloc::Global;
 use std::cmp::Reverse;
 
-/// A group: the paths of a growth from index `from` up to `to`, which share a label. Groups are ordered as in a
-/// report: by key, the larger first, and for equal keys by label, which is the order of the paths.
+/// A group: the paths of a growth from index `from` up to `to`, which share a label; or labels that a limit
+/// leaves out, with no paths. Groups are ordered as in a report: by key, the larger first, and for equal keys by
+/// label, which is the order of the paths.
 #[derive(Clone, Copy, PartialEq, Eq, PartialOrd, Ord, Debug)]
 pub struct Group {
     pub key: Reverse<u64>,
     pub from: usize,
     pub to: usize,
+    pub kind: Kind,
     pub sizes: GrowthSizes,
 }
 
@@ -56,8 +58,8 @@ fn file_amount(sizes: &GrowthSizes) -> u64
     amount(sizes.new_file, sizes.base_file)
 }
 
-/// The sort key: the shown change that rows are sorted by.
-pub fn growth_key(options: &RowOptions, sizes: &GrowthSizes) -> u64
+// The sort key: the shown change that rows are sorted by.
+fn growth_key(options: &RowOptions, sizes: &GrowthSizes) -> u64
     ensures { result ≡ growth_key options.now sizes.now }
 {
     key(options, vm_amount(sizes), file_amount(sizes))
@@ -99,6 +101,7 @@ fn make_group(
         key: Reverse(growth_key(options, &sizes)),
         from,
         to,
+        kind: Kind::Label,
         sizes,
     }
 }
@@ -139,8 +142,8 @@ fn groups_of(
     Ok(groups)
 }
 
-/// The labels of a level with a changed shown size, in the order of a report.
-pub fn children(
+// The labels of a level with a changed shown size, in the order of a report.
+fn children(
     alloc: Global,
     options: &RowOptions,
     depth: u32,
@@ -155,5 +158,51 @@ pub fn children(
 {
     let mut groups = groups_of(alloc, options, depth, paths, level)?;
     groups.sort_unstable();
+    Ok(groups)
+}
+
+impl Grouped for Group {
+    ghost key = { λ g. g.key.0 };
+
+    ghost fits = { λ groups. Fits (sums_by (λ g. g.sizes) groups) };
+
+    ghost together = { others_group };
+
+    fn key(&self) -> u64 {
+        self.key.0
+    }
+
+    #[tactic(auto, using(crate::proofs::SumLemmas::sums_more, crate::proofs::SumLemmas::fits_more))]
+    fn together(options: &RowOptions, left: &[Group]) -> Group {
+        let mut sizes = GrowthSizes::none();
+        for group in left {
+            sizes = sizes.plus(group.sizes);
+        }
+        Group {
+            key: Reverse(growth_key(options, &sizes)),
+            from: 0,
+            to: 0,
+            kind: Kind::Others(left.len() as u64),
+            sizes,
+        }
+    }
+}
+
+/// The groups of a level of these paths, within the limit, in the order of a report.
+pub fn entries(
+    alloc: Global,
+    options: &RowOptions,
+    depth: u32,
+    paths: &[GrowthPath],
+    level: u32,
+) -> Result<Vec<Group>, NoMemory>
+    requires part { IsPart depth paths.now }
+    requires below { level < depth }
+    ensures entries { IfOk result (λ groups. map (group_entry level paths.now) groups.items
+        ≡ entries_of options.now (table_at level paths.now)) }
+    ensures ranges { IfOk result (λ groups. All (IsRange paths.now) groups.items) }
+{
+    let mut groups = children(alloc, options, depth, paths, level)?;
+    limit(options, &mut groups)?;
     Ok(groups)
 }

@@ -5,7 +5,6 @@
 mod between;
 mod groups;
 mod growth;
-mod items;
 mod laws;
 mod listing;
 mod row;

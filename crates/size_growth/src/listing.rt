@@ -2,14 +2,13 @@
 
 ghost use Rattle.std.specs.Prelude.{◌≡◌, ◌-◌, ◌<◌, ◌≤◌, ◌++◌, All, IfOk, OnOk, length, map};
 ghost use Rattle.report_rows.specs.declared.groups.Kind.TheVariants.{Label};
-ghost use Rattle.size_growth.specs.Items.{IsPart, item_entry};
+ghost use Rattle.size_growth.specs.Groups.{IsPart, group_entry};
 ghost use Rattle.size_growth.specs.Rows.{growth_tree, listing, row_of};
 ghost use Rattle.size_growth.specs.Runs.{table_at};
 ghost use Rattle.size_growth.specs.Trees.{GrowsAlike, IsGrowthTree};
 
-use crate::groups::sums;
+use crate::groups::{Group, entries, sums};
 use crate::growth::{Growth, GrowthPath};
-use crate::items::{Item, items};
 use crate::row::{GrowthKind, GrowthRow, GrowthRows, GrowthTree};
 use report_rows::{Kind, RowOptions};
 use size_core::{Domain, NoMemory, Sort};
@@ -22,20 +21,20 @@ struct Levels {
     options: RowOptions,
 }
 
-// The row of an item.
-fn make_row(paths: &[GrowthPath], level: u32, item: &Item) -> Result<GrowthRow, NoMemory>
-    requires some { item.now.kind ≡ Label → item.now.from < length paths.now }
+// The row of a group.
+fn make_row(paths: &[GrowthPath], level: u32, group: &Group) -> Result<GrowthRow, NoMemory>
+    requires some { group.now.kind ≡ Label → group.now.from < length paths.now }
     requires deep { All (λ p. level < length p.path) paths.now }
-    ensures { IfOk result (λ r. r ≡ row_of level (item_entry level paths.now item.now)) }
+    ensures { IfOk result (λ r. r ≡ row_of level (group_entry level paths.now group.now)) }
 {
-    let kind = match item.kind {
-        Kind::Label => GrowthKind::Label(paths[item.from].path.get(level as usize).copy()?),
+    let kind = match group.kind {
+        Kind::Label => GrowthKind::Label(paths[group.from].path.get(level as usize).copy()?),
         Kind::Others(count) => GrowthKind::Others(count),
     };
     Ok(GrowthRow {
         level,
         kind,
-        sizes: item.sizes,
+        sizes: group.sizes,
     })
 }
 
@@ -55,10 +54,10 @@ fn list(
     if level == levels.depth {
         return Ok(());
     }
-    let items = items(alloc, &levels.options, levels.depth, paths, level)?;
-    for item in &items {
-        let below = &paths[item.from..item.to];
-        out.push(make_row(paths, level, item)?)?;
+    let groups = entries(alloc, &levels.options, levels.depth, paths, level)?;
+    for group in &groups {
+        let below = &paths[group.from..group.to];
+        out.push(make_row(paths, level, group)?)?;
         list(alloc, levels, below, level + 1, out)?;
     }
     Ok(())

@@ -2,8 +2,8 @@
 
 ghost use Rattle.std.specs.Prelude.{◌≡◌, ◌+◌, ◌≤◌, length};
 
-use byte_cursor::Order;
-use macho_file::{Encoding, LinkEdit, MachoFile, MachoSection, MachoSegment, SpanAnswer};
+use byte_cursor::{ByClass, Encoding, Order};
+use macho_file::{LinkEdit, MachoFile, MachoSection, MachoSegment, SpanAnswer};
 use sample_files::{put, put_all};
 use size_core::{BadFile, Fault};
 use std::alloc::Global;
@@ -324,24 +324,24 @@ fn put_file(file: &mut [u8], e: Encoding, kind: u32, name: &[u8], flags: u32)
     put_number(file, 0, 0xfeed_face + e.wide as u32, order);
     put_number(file, 12, kind, order);
     put_number(file, 16, 1, order);
-    put_number(file, 20, e.pick(124, 152) as u32, order);
-    let place = e.pick(28, 32);
-    put_number(file, place, e.pick(1, 25) as u32, order);
-    put_number(file, place + 4, e.pick(124, 152) as u32, order);
+    put_number(file, 20, e.pick(ByClass(124, 152)) as u32, order);
+    let place = e.pick(ByClass(28, 32));
+    put_number(file, place, e.pick(ByClass(1, 25)) as u32, order);
+    put_number(file, place + 4, e.pick(ByClass(124, 152)) as u32, order);
     put(file, place as usize + 8, b"0123456789abcdef");
     let low = match order {
         Order::Little => 0,
         Order::Big => 4 * e.wide as u64,
     };
     put_number(file, place + 24 + low, 65536, order);
-    put_number(file, place + e.pick(28, 32) + low, 4096, order);
-    put_number(file, place + e.pick(48, 64), 1, order);
-    let section = place + e.pick(56, 72);
+    put_number(file, place + e.pick(ByClass(28, 32)) + low, 4096, order);
+    put_number(file, place + e.pick(ByClass(48, 64)), 1, order);
+    let section = place + e.pick(ByClass(56, 72));
     put(file, section as usize + 16, name);
     put_number(file, section + 32 + low, 65536, order);
-    put_number(file, section + e.pick(36, 40) + low, 16, order);
-    put_number(file, section + e.pick(40, 48), 240, order);
-    put_number(file, section + e.pick(56, 64), flags, order);
+    put_number(file, section + e.pick(ByClass(36, 40)) + low, 16, order);
+    put_number(file, section + e.pick(ByClass(40, 48)), 240, order);
+    put_number(file, section + e.pick(ByClass(56, 64)), flags, order);
 }
 
 /// The class, the order, the type, the segment that a section names, its flags, and whether its bytes are in the file.

@@ -3,7 +3,7 @@
 use bloaty_engine::Outcome;
 use sample_files::{patched, plain_file};
 use sample_runs::{COMMAND, run, sound};
-use size_core::Fault;
+use size_core::{BadFile, Fault};
 use std::test::Fail;
 
 #[test]
@@ -29,8 +29,31 @@ fn finds_the_first_fault(rt: HostRuntime) -> Result<(), Fail> {
     Ok(())
 }
 
+// The message of a fault is the end of its error line.
 #[test]
-fn minds_the_numbers_of_tables(rt: HostRuntime) -> Result<(), Fail> {
+fn prints_a_fault_as_in_the_error_line(rt: HostRuntime) -> Result<(), Fail> {
+    let alloc = rt.alloc();
+    let whole = plain_file(alloc)?;
+    for (len, fault, offset, line) in [
+        (3, Fault::UnknownFormat, 0, "offset 0: UnknownFormat"),
+        (351, Fault::TablePastEnd, 160, "offset 160: TablePastEnd"),
+    ] {
+        let message = format!(in alloc; "{}", BadFile { fault, offset })?;
+        assert_eq!(rt; message.as_str(), line);
+        let ran = run(
+            alloc,
+            &COMMAND,
+            whole.get(..len).unwrap_or(b""),
+            sound(alloc),
+        )?;
+        let end = format!(in alloc; "bloaty: a.elf: {message}\n")?;
+        assert!(rt; ran.err.as_slice() == end.as_bytes(), "{message}");
+    }
+    Ok(())
+}
+
+#[test]
+fn checks_the_numbers_of_tables(rt: HostRuntime) -> Result<(), Fail> {
     let alloc = rt.alloc();
     // Where a program header has its address and its size in memory, and the file's header the place of the
     // table of sections and the number of that of the names.

@@ -11,7 +11,7 @@ use thiserror::Error;
 #[derive(Clone, Copy, Debug, PartialEq, Eq, Error)]
 pub enum WasmAnswer {
     /// An import or a body can't be read.
-    #[error("bad file")]
+    #[error("{0}")]
     Bad(BadFile),
     /// There was not enough memory.
     #[error("out of memory")]

@@ -24,8 +24,8 @@ loop-k-init g c = record {
   taken = rw c.new-total.ensures (taken-none (g.F.Files.held c.args.files.now) (g.F.Files.taken c.args.files.now));
 }
 
-pub returns-in_err-file-clause-batch : goal.returns-in_err-file-clause-batch
-returns-in_err-file-clause-batch g c =
+pub returns-in_err-file : goal.returns-in_err-file
+returns-in_err-file g c =
     let batch = batch_of c.args.tally.now.files c.args.tally.now.bytes c.args.names.now in
     let p = err_from_is_err_and c.from_residual.result c.from_residual.ensures.1 in
     let file = rw c.as_str.ensures at c.in_err-file.ensures in
@@ -39,17 +39,21 @@ returns-in_err-file-clause-batch g c =
     let read = follows g.F.Files (front c.args.run.now.limits batch c.loop-k.k) (file_reading (batch.first + c.loop-k.k) c.get-name.result.now c.min-limit.result) (front c.args.run.now.limits batch (c.loop-k.k + 1)) tt (Err c.in_err-file.field-0.0)
     c.loop-k.total.lengths c.args.files.now c.loop-k.files c.read_file.new.files (take-next c.args.names.now c.loop-k.k c.get-name.result.now c.get-name.ensures) part
     c.loop-k.invariant.reads c.loop-k.invariant.taken file.reads in
-    rw (p.1, p.2) (record {
-      bytes = e.0;
-      are = e.1;
-      ends = e.2;
-      gives = e.3;
-      reads = stops g.F.Files (front c.args.run.now.limits batch (c.loop-k.k + 1)) (batch_reading c.args.run.now.limits batch) (drop (c.loop-k.k + 1) c.args.names.now) c.in_err-file.field-0.0 c.args.files.now c.read_file.new.files
-          (front-rest c.args.names.now (c.loop-k.k + 1)) (same-batch c.args.run.now.limits batch (c.loop-k.k + 1)) read;
-    })
+    record {
+      batch = rw (p.1, p.2) (record {
+        bytes = e.0;
+        are = e.1;
+        ends = e.2;
+        gives = e.3;
+        reads = stops g.F.Files (front c.args.run.now.limits batch (c.loop-k.k + 1)) (batch_reading c.args.run.now.limits batch) (drop (c.loop-k.k + 1) c.args.names.now) c.in_err-file.field-0.0 c.args.files.now c.read_file.new.files
+            (front-rest c.args.names.now (c.loop-k.k + 1)) (same-batch c.args.run.now.limits batch (c.loop-k.k + 1)) read;
+      });
+      tally = rw (p.1, p.2) (record { counts = tt; room = c.loop-k.invariant.within; taken = tt });
+      cost = costs-more c.args.run.now.limits c.args.plan.now.sources _ _ (g.F.Files.gave c.loop-k.files) (g.F.Files.gave c.read_file.new.files) _ c.args.tally.now.steps c.loop-k.tally.steps c.loop-k.invariant.cost c.in_err-file.ensures.gives;
+    }
 
-pub returns-in_err-count_file-clause-batch : goal.returns-in_err-count_file-clause-batch
-returns-in_err-count_file-clause-batch g c =
+pub returns-in_err-count_file : goal.returns-in_err-count_file
+returns-in_err-count_file g c =
     let batch = batch_of c.args.tally.now.files c.args.tally.now.bytes c.args.names.now in
     let p = err_from_is_err_and c.from_residual-in_err-count_file.result c.from_residual-in_err-count_file.ensures.1 in
     let file = rw c.as_str.ensures at c.in_ok-file.ensures in
@@ -66,14 +70,19 @@ returns-in_err-count_file-clause-batch g c =
     let read = follows g.F.Files (front c.args.run.now.limits batch c.loop-k.k) (file_reading (batch.first + c.loop-k.k) c.get-name.result.now c.min-limit.result) (front c.args.run.now.limits batch (c.loop-k.k + 1)) tt (Ok c.in_ok-file.file)
     c.loop-k.total.lengths c.args.files.now c.loop-k.files c.read_file.new.files (take-next c.args.names.now c.loop-k.k c.get-name.result.now c.get-name.ensures) part
     c.loop-k.invariant.reads c.loop-k.invariant.taken file.reads in
-    rw (p.1, p.2) (record {
-      bytes = e.0;
-      are = e.1;
-      ends = e.2;
-      gives = e.3;
-      reads = then-unread g.F.Files (front c.args.run.now.limits batch (c.loop-k.k + 1)) (batch_reading c.args.run.now.limits batch) (drop (c.loop-k.k + 1) c.args.names.now) c.in_ok-file.file (Err c.in_err-count_file.field-0.0) c.args.files.now c.read_file.new.files
-          (front-rest c.args.names.now (c.loop-k.k + 1)) (omega arith) tt (λ i is. rw (err-same _ _ is) at ended) (λ i is. c.in_err-count_file.ensures.short i (ap Err (err-same _ _ is))) read;
-    })
+    record {
+      batch = rw (p.1, p.2) (record {
+        bytes = e.0;
+        are = e.1;
+        ends = e.2;
+        gives = e.3;
+        reads = then-unread g.F.Files (front c.args.run.now.limits batch (c.loop-k.k + 1)) (batch_reading c.args.run.now.limits batch) (drop (c.loop-k.k + 1) c.args.names.now) c.in_ok-file.file (Err c.in_err-count_file.field-0.0) c.args.files.now c.read_file.new.files
+            (front-rest c.args.names.now (c.loop-k.k + 1)) (omega arith) tt (λ i is. rw (err-same _ _ is) at ended) (λ i is. c.in_err-count_file.ensures.short i (ap Err (err-same _ _ is))) read;
+      });
+      tally = rw (p.1, p.2) (record { counts = tt; room = c.loop-k.invariant.within; taken = tt });
+      cost = costs-then c.args.run.now.limits c.args.plan.now.sources _ (g.F.Files.gave c.loop-k.files) (g.F.Files.gave c.read_file.new.files) c.args.tally.now.steps c.loop-k.tally.steps c.count_file.new.steps c.loop-k.invariant.cost
+          (costs-one c.args.run.now.limits c.args.plan.now.sources c.get-name.result.now file.bytes _ _ c.loop-k.tally.steps c.count_file.new.steps (given-all c.in_ok-file.file _ _ _ file.gives) (rw (c.deref.ensures.value, file.finds.0) at c.count_file.ensures.cost));
+    }
 
 pub loop-k-preserved : goal.loop-k-preserved
 loop-k-preserved g c =
@@ -106,48 +115,25 @@ loop-k-preserved g c =
       taken = rw more_taken (taken-more (g.F.Files.held c.args.files.now) c.loop-k.total.lengths c.len.result _ _ _ c.loop-k.invariant.taken taken);
     }
 
-pub returns-clause-batch : goal.returns-clause-batch
-returns-clause-batch g c =
+pub returns : goal.returns
+returns g c =
     let batch = batch_of c.args.tally.now.files c.args.tally.now.bytes c.args.names.now in
     let e = all-counted (g.F.Files.held c.args.files.now) c.args.run.now.limits c.args.plan.now.sources (filter_test c.args.plan.now.filter) batch (g.F.Files.gave c.args.files.now) c.loop-k.k c.loop-k.tally.bytes c.loop-k.total
     c.loop-k.invariant.counted (omega (arith, c.loop-k-test.false, c.len-k-end.ensures)) in
-    record {
-      bytes = e.0;
-      are = e.1;
-      ends = e.2;
-      gives = e.3;
-      reads = then-ok g.F.Files (front c.args.run.now.limits batch c.loop-k.k) (batch_reading c.args.run.now.limits batch) [] tt c.loop-k.total c.args.files.now c.loop-k.files
-          (front-all c.args.names.now c.loop-k.k (omega (arith, c.loop-k-test.false, c.len-k-end.ensures))) (omega arith) refl c.loop-k.invariant.reads;
-    }
-
-pub returns-in_err-file-clause-tally : goal.returns-in_err-file-clause-tally
-returns-in_err-file-clause-tally g c =
-    let p = err_from_is_err_and c.from_residual.result c.from_residual.ensures.1 in
-    rw (p.1, p.2) (record { counts = tt; room = c.loop-k.invariant.within; taken = tt })
-
-pub returns-in_err-count_file-clause-tally : goal.returns-in_err-count_file-clause-tally
-returns-in_err-count_file-clause-tally g c =
-    let p = err_from_is_err_and c.from_residual-in_err-count_file.result c.from_residual-in_err-count_file.ensures.1 in
-    rw (p.1, p.2) (record { counts = tt; room = c.loop-k.invariant.within; taken = tt })
-
-pub returns-clause-tally : goal.returns-clause-tally
-returns-clause-tally g c =
     let all : c.loop-k.total.lengths - 0 ≡ c.loop-k.total.lengths = omega arith in
     record {
-      counts = (omega (arith, c.len-2.ensures), c.loop-k.invariant.counted.lengths_are, omega arith);
-      room = c.loop-k.invariant.within;
-      taken = rw all c.loop-k.invariant.taken;
+      batch = record {
+        bytes = e.0;
+        are = e.1;
+        ends = e.2;
+        gives = e.3;
+        reads = then-ok g.F.Files (front c.args.run.now.limits batch c.loop-k.k) (batch_reading c.args.run.now.limits batch) [] tt c.loop-k.total c.args.files.now c.loop-k.files
+            (front-all c.args.names.now c.loop-k.k (omega (arith, c.loop-k-test.false, c.len-k-end.ensures))) (omega arith) refl c.loop-k.invariant.reads;
+      };
+      tally = record {
+        counts = (omega (arith, c.len-2.ensures), c.loop-k.invariant.counted.lengths_are, omega arith);
+        room = c.loop-k.invariant.within;
+        taken = rw all c.loop-k.invariant.taken;
+      };
+      cost = c.loop-k.invariant.cost;
     }
-
-pub returns-in_err-file-clause-cost : goal.returns-in_err-file-clause-cost
-returns-in_err-file-clause-cost g c =
-    costs-more c.args.run.now.limits c.args.plan.now.sources _ _ (g.F.Files.gave c.loop-k.files) (g.F.Files.gave c.read_file.new.files) _ c.args.tally.now.steps c.loop-k.tally.steps c.loop-k.invariant.cost c.in_err-file.ensures.gives
-
-pub returns-in_err-count_file-clause-cost : goal.returns-in_err-count_file-clause-cost
-returns-in_err-count_file-clause-cost g c =
-    let file = rw c.as_str.ensures at c.in_ok-file.ensures in
-    costs-then c.args.run.now.limits c.args.plan.now.sources _ (g.F.Files.gave c.loop-k.files) (g.F.Files.gave c.read_file.new.files) c.args.tally.now.steps c.loop-k.tally.steps c.count_file.new.steps c.loop-k.invariant.cost
-    (costs-one c.args.run.now.limits c.args.plan.now.sources c.get-name.result.now file.bytes _ _ c.loop-k.tally.steps c.count_file.new.steps (given-all c.in_ok-file.file _ _ _ file.gives) (rw (c.deref.ensures.value, file.finds.0) at c.count_file.ensures.cost))
-
-pub returns-clause-cost : goal.returns-clause-cost
-returns-clause-cost g c = c.loop-k.invariant.cost

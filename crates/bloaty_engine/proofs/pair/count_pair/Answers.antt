@@ -13,8 +13,8 @@ use Rattle.bloaty_engine.proofs.StepLemmas.{batch-part, follows, front-part, sam
 use Rattle.bloaty_engine.proofs.CostLemmas.{costs-ended, costs-paired}
 use Rattle.bloaty_engine.proofs.pair.count_pair.Goals as goal
 
-pub returns-in_err-file-clause-batch : goal.returns-in_err-file-clause-batch
-returns-in_err-file-clause-batch g c =
+pub returns-in_err-file : goal.returns-in_err-file
+returns-in_err-file g c =
     let p = err_from_is_err_and c.from_residual.result c.from_residual.ensures.1 in
     let held = g.F.Files.held c.args.files.now in
     let limits = c.args.run.now.limits in
@@ -23,17 +23,20 @@ returns-in_err-file-clause-batch g c =
     let first = c.in_err-file.ensures.batch in
     let own = first.bytes 1 in
     let other = held-some held debug in
-    rw (p.1, p.2) (record {
-      bytes = both own other.0;
-      are = both-held held name debug own other.0 (first-held held name [] first.bytes first.are) other.1;
-      ends = pair-first limits c.args.plan.now.sources (filter_test c.args.plan.now.filter) name own other.0 c.in_err-file.field-0.0 first.ends;
-      gives = gives-stops _ _ _ ((name, own) ∷ []) ((debug, other.0) ∷ []) first.gives;
-      reads = stops g.F.Files (batch_reading limits (batch_of 0 0 (name ∷ []))) (batch_reading limits (batch_of 0 0 (name ∷ debug ∷ []))) (debug ∷ []) c.in_err-file.field-0.0 c.args.files.now c.read_first.new.files refl
-          (front-part limits 1 0 (name ∷ []) (debug ∷ [])) first.reads;
-    })
+    record {
+      batch = rw (p.1, p.2) (record {
+        bytes = both own other.0;
+        are = both-held held name debug own other.0 (first-held held name [] first.bytes first.are) other.1;
+        ends = pair-first limits c.args.plan.now.sources (filter_test c.args.plan.now.filter) name own other.0 c.in_err-file.field-0.0 first.ends;
+        gives = gives-stops _ _ _ ((name, own) ∷ []) ((debug, other.0) ∷ []) first.gives;
+        reads = stops g.F.Files (batch_reading limits (batch_of 0 0 (name ∷ []))) (batch_reading limits (batch_of 0 0 (name ∷ debug ∷ []))) (debug ∷ []) c.in_err-file.field-0.0 c.args.files.now c.read_first.new.files refl
+            (front-part limits 1 0 (name ∷ []) (debug ∷ [])) first.reads;
+      });
+      cost = costs-ended _ _ _ _ _ c.args.steps.now c.in_err-file.ensures.batch.gives;
+    }
 
-pub returns-in_err-other-clause-batch : goal.returns-in_err-other-clause-batch
-returns-in_err-other-clause-batch g c =
+pub returns-in_err-other : goal.returns-in_err-other
+returns-in_err-other g c =
     let p = err_from_is_err_and c.from_residual-in_err-other.result c.from_residual-in_err-other.ensures.1 in
     let held = g.F.Files.held c.args.files.now in
     let limits = c.args.run.now.limits in
@@ -52,17 +55,20 @@ returns-in_err-other-clause-batch g c =
     let batch = batch_of 0 0 (name ∷ debug ∷ []) in
     let one = file_reading 2 debug c.min-limit.result in
     let part = batch-part limits batch 1 1 size c.min-limit.result size debug batch.names refl refl (omega arith) fits limit in
-    rw (p.1, p.2) (record {
-      bytes = both own other;
-      are = both-held held name debug own other (first-held held name [] first.bytes first.are) is;
-      ends = second-read limits c.args.plan.now.sources (filter_test c.args.plan.now.filter) name own first.ends.1 other c.min-limit.result left c.in_err-other.field-0.0 second.finds;
-      gives = gives-behind _ _ _ _ ((name, own) ∷ []) ((debug, other) ∷ []) (given-all c.in_ok-file.file _ _ _ first.gives) (gives-ended _ _ _ _ second.gives);
-      reads = follows g.F.Files (batch_reading limits (batch_of 0 0 (name ∷ []))) one (batch_reading limits batch) c.in_ok-file.file (Err c.in_err-other.field-0.0) size c.args.files.now c.read_first.new.files c.read_file.new.files refl part first.reads c.in_ok-file.ensures.taken
-          (stops g.F.Files one one [] c.in_err-other.field-0.0 c.read_first.new.files c.read_file.new.files refl (same-all one) second.reads);
-    })
+    record {
+      batch = rw (p.1, p.2) (record {
+        bytes = both own other;
+        are = both-held held name debug own other (first-held held name [] first.bytes first.are) is;
+        ends = second-read limits c.args.plan.now.sources (filter_test c.args.plan.now.filter) name own first.ends.1 other c.min-limit.result left c.in_err-other.field-0.0 second.finds;
+        gives = gives-behind _ _ _ _ ((name, own) ∷ []) ((debug, other) ∷ []) (given-all c.in_ok-file.file _ _ _ first.gives) (gives-ended _ _ _ _ second.gives);
+        reads = follows g.F.Files (batch_reading limits (batch_of 0 0 (name ∷ []))) one (batch_reading limits batch) c.in_ok-file.file (Err c.in_err-other.field-0.0) size c.args.files.now c.read_first.new.files c.read_file.new.files refl part first.reads c.in_ok-file.ensures.taken
+            (stops g.F.Files one one [] c.in_err-other.field-0.0 c.read_first.new.files c.read_file.new.files refl (same-all one) second.reads);
+      });
+      cost = costs-ended _ _ _ _ _ c.args.steps.now (gives-behind _ _ _ _ ((name, own) ∷ []) _ (given-all c.in_ok-file.file _ _ _ first.gives) second.gives);
+    }
 
-pub returns-clause-batch : goal.returns-clause-batch
-returns-clause-batch g c =
+pub returns : goal.returns
+returns g c =
     let held = g.F.Files.held c.args.files.now in
     let limits = c.args.run.now.limits in
     let test = filter_test c.args.plan.now.filter in
@@ -83,15 +89,20 @@ returns-clause-batch g c =
     let one = file_reading 2 debug c.min-limit.result in
     let part = batch-part limits batch 1 1 size c.min-limit.result size debug batch.names refl refl (omega arith) fits limit in
     let paired = rw (c.deref.ensures.value, c.deref-2.ensures.value) at c.count_opened.ensures.ends in
+    let gave = gives-behind _ _ _ _ ((name, own) ∷ []) ((c.args.debug.now, other) ∷ []) (given-all c.in_ok-file.file _ _ _ first.gives) second.gives in
     record {
-      bytes = both own other;
-      are = both-held held name debug own other (first-held held name [] first.bytes first.are) is;
-      ends = pair-counted limits c.args.plan.now.sources test name own first.ends.1 other c.min-limit.result left second.finds.1 room c.count_opened.result (rw (c.deref.ensures.value, c.deref-2.ensures.value, first.ends.0, second.finds.0) at c.count_opened.ensures.ends);
-      gives = gives-behind _ _ _ _ ((name, own) ∷ []) ((debug, other) ∷ []) (given-all c.in_ok-file.file _ _ _ first.gives) (gives-as c.in_ok-other.other _ _ _ _ second.gives);
-      reads = follows g.F.Files (batch_reading limits (batch_of 0 0 (name ∷ []))) one (batch_reading limits batch) c.in_ok-file.file c.count_opened.result size c.args.files.now c.read_first.new.files c.read_file.new.files refl part first.reads c.in_ok-file.ensures.taken
-          (then-unread g.F.Files one one [] c.in_ok-other.other c.count_opened.result c.read_first.new.files c.read_file.new.files refl (omega arith) (OnOk-any c.count_opened.result _ refl)
-          (paired-unread limits c.args.plan.now.sources test name c.in_ok-file.file.items c.in_ok-other.other.items c.count_opened.result paired)
-          (paired-not-long limits c.args.plan.now.sources test name c.in_ok-file.file.items c.in_ok-other.other.items c.count_opened.result paired) second.reads);
+      batch = record {
+        bytes = both own other;
+        are = both-held held name debug own other (first-held held name [] first.bytes first.are) is;
+        ends = pair-counted limits c.args.plan.now.sources test name own first.ends.1 other c.min-limit.result left second.finds.1 room c.count_opened.result (rw (c.deref.ensures.value, c.deref-2.ensures.value, first.ends.0, second.finds.0) at c.count_opened.ensures.ends);
+        gives = gives-behind _ _ _ _ ((name, own) ∷ []) ((debug, other) ∷ []) (given-all c.in_ok-file.file _ _ _ first.gives) (gives-as c.in_ok-other.other _ _ _ _ second.gives);
+        reads = follows g.F.Files (batch_reading limits (batch_of 0 0 (name ∷ []))) one (batch_reading limits batch) c.in_ok-file.file c.count_opened.result size c.args.files.now c.read_first.new.files c.read_file.new.files refl part first.reads c.in_ok-file.ensures.taken
+            (then-unread g.F.Files one one [] c.in_ok-other.other c.count_opened.result c.read_first.new.files c.read_file.new.files refl (omega arith) (OnOk-any c.count_opened.result _ refl)
+            (paired-unread limits c.args.plan.now.sources test name c.in_ok-file.file.items c.in_ok-other.other.items c.count_opened.result paired)
+            (paired-not-long limits c.args.plan.now.sources test name c.in_ok-file.file.items c.in_ok-other.other.items c.count_opened.result paired) second.reads);
+      };
+      cost = costs-paired c.args.run.now.limits c.args.plan.now.sources name own c.args.debug.now other _ _ c.args.steps.now c.count_opened.new.steps (given-all c.in_ok-other.other _ _ _ gave)
+          (rw (c.deref.ensures.value, c.deref-2.ensures.value, first.ends.0, second.finds.0) at c.count_opened.ensures.cost);
     }
 
 pub overflow_sub-total_limit : goal.overflow_sub-total_limit
@@ -112,23 +123,3 @@ count_opened-requires-clause-fit g c =
       debug_fits = omega (arith, second.finds.1, ap length second.finds.0, ap length c.deref-2.ensures.value, limit);
       lengths = omega (arith, fits, ap length first.ends.0, ap length c.deref.ensures.value);
     }
-
-pub returns-in_err-file-clause-cost : goal.returns-in_err-file-clause-cost
-returns-in_err-file-clause-cost g c = costs-ended _ _ _ _ _ c.args.steps.now c.in_err-file.ensures.batch.gives
-
-pub returns-in_err-other-clause-cost : goal.returns-in_err-other-clause-cost
-returns-in_err-other-clause-cost g c =
-    let first = c.in_ok-file.ensures.batch in
-    let second = c.in_err-other.ensures in
-    costs-ended _ _ _ _ _ c.args.steps.now (gives-behind _ _ _ _ ((first_name c.args.run.now.options, first.bytes 1) ∷ []) _ (given-all c.in_ok-file.file _ _ _ first.gives) second.gives)
-
-pub returns-clause-cost : goal.returns-clause-cost
-returns-clause-cost g c =
-    let first = c.in_ok-file.ensures.batch in
-    let own = first.bytes 1 in
-    let second = rw c.as_str.ensures at c.in_ok-other.ensures in
-    let other = second.bytes in
-    let name = first_name c.args.run.now.options in
-    let gave = gives-behind _ _ _ _ ((name, own) ∷ []) ((c.args.debug.now, other) ∷ []) (given-all c.in_ok-file.file _ _ _ first.gives) second.gives in
-    costs-paired c.args.run.now.limits c.args.plan.now.sources name own c.args.debug.now other _ _ c.args.steps.now c.count_opened.new.steps (given-all c.in_ok-other.other _ _ _ gave)
-    (rw (c.deref.ensures.value, c.deref-2.ensures.value, first.ends.0, second.finds.0) at c.count_opened.ensures.cost)

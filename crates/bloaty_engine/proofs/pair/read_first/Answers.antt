@@ -1,5 +1,6 @@
 -- The file is within the limits and its format has no fault. Otherwise the run ends with that outcome.
-use Rattle.std.proofs.Common.{◌≡◌, ◌∷◌, [], min, Err, refl, arith}
+use Rattle.std.proofs.Common.{◌≡◌, ◌∷◌, [], min, Err, refl, arith, rules}
+use Rattle.std.proofs.lemmas.Grind.{common_steps}
 use Rattle.std.proofs.lemmas.Result.{err_from_is_err_and}
 use Rattle.file_profile.proofs.MapLemmas.{err-same}
 use Rattle.bloaty_engine.specs.Verdict.{file_limit, first_name, total_limit}
@@ -10,46 +11,55 @@ use Rattle.bloaty_engine.specs.Steps.{batch_of, batch_reading}
 use Rattle.bloaty_engine.proofs.StepLemmas.{first-part, stops, then-ok, then-unread}
 use Rattle.bloaty_engine.proofs.pair.read_first.Goals as goal
 
-pub returns-in_err-file-clause-batch : goal.returns-in_err-file-clause-batch
-returns-in_err-file-clause-batch g c =
+pub returns-in_err-file : goal.returns-in_err-file
+returns-in_err-file g c =
     let p = err_from_is_err_and c.from_residual.result c.from_residual.ensures.1 in
     let file = rw c.first_name.ensures at c.in_err-file.ensures in
     let limit : c.min-limit.result ≡ min (file_limit c.args.run.now.limits) (total_limit c.args.run.now.limits) = rw (c.file_limit.ensures, c.total_limit.ensures) at c.min-limit.ensures in
     let name = first_name c.args.run.now.options in
-    rw (p.1, p.2) (record {
-      bytes = λ i. file.bytes;
-      are = one-held (g.F.Files.held c.args.files.now) 1 name file.bytes (λ i. file.bytes) refl file.is;
-      ends = first-read c.args.run.now.limits file.bytes c.min-limit.result limit c.in_err-file.field-0.0 file.finds;
-      gives = file.gives;
-      reads = stops g.F.Files (file_reading 1 name c.min-limit.result) (batch_reading c.args.run.now.limits (batch_of 0 0 (name ∷ []))) [] c.in_err-file.field-0.0 c.args.files.now c.read_file.new.files refl
-          (first-part c.args.run.now.limits name (name ∷ []) [] c.min-limit.result limit) file.reads;
-    })
+    record {
+      batch = rw (p.1, p.2) (record {
+        bytes = λ i. file.bytes;
+        are = one-held (g.F.Files.held c.args.files.now) 1 name file.bytes (λ i. file.bytes) refl file.is;
+        ends = first-read c.args.run.now.limits file.bytes c.min-limit.result limit c.in_err-file.field-0.0 file.finds;
+        gives = file.gives;
+        reads = stops g.F.Files (file_reading 1 name c.min-limit.result) (batch_reading c.args.run.now.limits (batch_of 0 0 (name ∷ []))) [] c.in_err-file.field-0.0 c.args.files.now c.read_file.new.files refl
+            (first-part c.args.run.now.limits name (name ∷ []) [] c.min-limit.result limit) file.reads;
+      });
+      taken = first_of (search rules, grind (arith, common_steps));
+    }
 
-pub returns-in_err-check_format-clause-batch : goal.returns-in_err-check_format-clause-batch
-returns-in_err-check_format-clause-batch g c =
+pub returns-in_err-check_format : goal.returns-in_err-check_format
+returns-in_err-check_format g c =
     let p = err_from_is_err_and c.from_residual-in_err-check_format.result c.from_residual-in_err-check_format.ensures.1 in
     let file = rw c.first_name.ensures at c.in_ok-file.ensures in
     let limit : c.min-limit.result ≡ min (file_limit c.args.run.now.limits) (total_limit c.args.run.now.limits) = rw (c.file_limit.ensures, c.total_limit.ensures) at c.min-limit.ensures in
     let name = first_name c.args.run.now.options in
-    rw (p.1, p.2) (record {
-      bytes = λ i. file.bytes;
-      are = one-held (g.F.Files.held c.args.files.now) 1 name file.bytes (λ i. file.bytes) refl file.is;
-      ends = first-fault c.args.run.now.limits file.bytes c.min-limit.result limit file.finds.1 c.in_err-check_format.field-0.0 (rw (c.deref.ensures.value, file.finds.0) at c.in_err-check_format.ensures);
-      gives = gives-as c.in_ok-file.file _ _ _ _ file.gives;
-      reads = then-unread g.F.Files (file_reading 1 name c.min-limit.result) (batch_reading c.args.run.now.limits (batch_of 0 0 (name ∷ []))) [] c.in_ok-file.file (Err c.in_err-check_format.field-0.0) c.args.files.now c.read_file.new.files refl (omega (arith, limit)) tt
-          (λ i e. rw (err-same _ _ e) at c.in_err-check_format.ensures) (λ i e. sound-short _ i (rw (err-same _ _ e) at c.in_err-check_format.ensures)) file.reads;
-    })
+    record {
+      batch = rw (p.1, p.2) (record {
+        bytes = λ i. file.bytes;
+        are = one-held (g.F.Files.held c.args.files.now) 1 name file.bytes (λ i. file.bytes) refl file.is;
+        ends = first-fault c.args.run.now.limits file.bytes c.min-limit.result limit file.finds.1 c.in_err-check_format.field-0.0 (rw (c.deref.ensures.value, file.finds.0) at c.in_err-check_format.ensures);
+        gives = gives-as c.in_ok-file.file _ _ _ _ file.gives;
+        reads = then-unread g.F.Files (file_reading 1 name c.min-limit.result) (batch_reading c.args.run.now.limits (batch_of 0 0 (name ∷ []))) [] c.in_ok-file.file (Err c.in_err-check_format.field-0.0) c.args.files.now c.read_file.new.files refl (omega (arith, limit)) tt
+            (λ i e. rw (err-same _ _ e) at c.in_err-check_format.ensures) (λ i e. sound-short _ i (rw (err-same _ _ e) at c.in_err-check_format.ensures)) file.reads;
+      });
+      taken = first_of (search rules, grind (arith, common_steps));
+    }
 
-pub returns-clause-batch : goal.returns-clause-batch
-returns-clause-batch g c =
+pub returns : goal.returns
+returns g c =
     let file = rw c.first_name.ensures at c.in_ok-file.ensures in
     let limit : c.min-limit.result ≡ min (file_limit c.args.run.now.limits) (total_limit c.args.run.now.limits) = rw (c.file_limit.ensures, c.total_limit.ensures) at c.min-limit.ensures in
     let name = first_name c.args.run.now.options in
     record {
-      bytes = λ i. file.bytes;
-      are = one-held (g.F.Files.held c.args.files.now) 1 name file.bytes (λ i. file.bytes) refl file.is;
-      ends = (file.finds.0, first-sound c.args.run.now.limits file.bytes c.min-limit.result limit file.finds.1 (rw (c.deref.ensures.value, file.finds.0) at c.in_ok-check_format.ensures));
-      gives = file.gives;
-      reads = then-ok g.F.Files (file_reading 1 name c.min-limit.result) (batch_reading c.args.run.now.limits (batch_of 0 0 (name ∷ []))) [] c.in_ok-file.file c.in_ok-file.file c.args.files.now c.read_file.new.files refl (omega (arith, limit)) refl
-          file.reads;
+      batch = record {
+        bytes = λ i. file.bytes;
+        are = one-held (g.F.Files.held c.args.files.now) 1 name file.bytes (λ i. file.bytes) refl file.is;
+        ends = (file.finds.0, first-sound c.args.run.now.limits file.bytes c.min-limit.result limit file.finds.1 (rw (c.deref.ensures.value, file.finds.0) at c.in_ok-check_format.ensures));
+        gives = file.gives;
+        reads = then-ok g.F.Files (file_reading 1 name c.min-limit.result) (batch_reading c.args.run.now.limits (batch_of 0 0 (name ∷ []))) [] c.in_ok-file.file c.in_ok-file.file c.args.files.now c.read_file.new.files refl (omega (arith, limit)) refl
+            file.reads;
+      };
+      taken = first_of (search rules, grind (arith, common_steps));
     }

@@ -16,54 +16,66 @@ use Rattle.bloaty_engine.proofs.report.report_of_files.Goals as goal
 
 pub total_of-requires-clause-batch : goal.total_of-requires-clause-batch
 total_of-requires-clause-batch g c = record {
-  few = omega (arith, c.requires.ready.limits.few_sources, c.requires.ready.planned.depth);
+  few = omega (arith, c.requires.begins.ready.limits.few_sources, c.requires.begins.ready.planned.depth);
   numbers = first_of (search rules, grind (arith, common_steps));
   room = omega arith;
 }
+
+pub total_of-requires-clause-input : goal.total_of-requires-clause-input
+total_of-requires-clause-input g c = c.requires.begins.ready.limits.input
+
+pub total_of-requires-clause-none : goal.total_of-requires-clause-none
+total_of-requires-clause-none g c = c.requires.begins.none
 
 pub growth_report-requires-clause-batch : goal.growth_report-requires-clause-batch
 growth_report-requires-clause-batch g c =
     let tally = c.in_ok-total.ensures.tally in
     let files : c.total_of.new.tally.files ≡ length (file_names c.args.run.now.options) = omega (arith, tally.counts.0) in
     record {
-      few = omega (arith, c.requires.ready.limits.few_sources, c.requires.ready.planned.depth);
+      few = omega (arith, c.requires.begins.ready.limits.few_sources, c.requires.begins.ready.planned.depth);
       numbers = first_of (search rules, grind (arith, common_steps));
       room = tally.room;
     }
 
-pub returns-then-is_none-clause-inputs : goal.returns-then-is_none-clause-inputs
-returns-then-is_none-clause-inputs g c =
+pub returns-then-is_none : goal.returns-then-is_none
+returns-then-is_none g c =
     let o = c.args.run.now.options in
     let some = some-bytes (g.F.Files.held c.args.files.now) o o.bases in
     record {
-      bytes = some.0;
-      are = (some.1, some.2);
-      ends = tt;
-      gives = gives-none _ _ _ tt;
-      reads = unread-no-memory g.F.Files (reading_for c.args.run.now.limits o (unmade_names o.synth o.files ++ o.bases)) c.args.files.now;
+      inputs = record {
+        bytes = some.0;
+        are = (some.1, some.2);
+        ends = tt;
+        gives = gives-none _ _ _ tt;
+        reads = unread-no-memory g.F.Files (reading_for c.args.run.now.limits o (unmade_names o.synth o.files ++ o.bases)) c.args.files.now;
+      };
+      cost = costs-none _ (g.F.Files.gave c.args.files.now) c.args.tally.now.steps;
     }
 
-pub returns-in_err-total-clause-inputs : goal.returns-in_err-total-clause-inputs
-returns-in_err-total-clause-inputs g c =
+pub returns-in_err-total : goal.returns-in_err-total
+returns-in_err-total g c =
     let p = err_from_is_err_and c.from_residual.result c.from_residual.ensures.1 in
     let o = c.args.run.now.options in
     let limits = c.args.run.now.limits in
-    let planned = c.requires.ready.planned in
+    let planned = c.requires.begins.ready.planned in
     let held = g.F.Files.held c.args.files.now in
     let count = length (file_names o) in
     let e = c.in_err-total.ensures.files in
     let behind = some-held held (count + 1) o.bases in
-    rw (p.1, p.2) (record {
-      bytes = beyond count e.bytes behind.0;
-      are = (front-files held o.synth o.files e.bytes behind.0 e.are, behind-held held count o.bases e.bytes behind.0 behind.1);
-      ends = front-ends limits c.args.plan.now.sources o c.args.plan.now.filter planned.filter planned.depth e.bytes behind.0 c.in_err-total.field-0.0 (λ k is. e.unmade k (ap Err is)) e.ends;
-      gives = rw (front-pairs o.synth o.files e.bytes behind.0) (gives-stops _ _ _ _ _ e.gives);
-      reads = stops g.F.Files (reading_for limits o (unmade_names o.synth o.files)) (reading_for limits o (unmade_names o.synth o.files ++ o.bases)) o.bases c.in_err-total.field-0.0 c.args.files.now c.total_of.new.files refl
-          (same-run limits o (unmade_names o.synth o.files) (unmade_names o.synth o.files ++ o.bases)) e.reads;
-    })
+    record {
+      inputs = rw (p.1, p.2) (record {
+        bytes = beyond count e.bytes behind.0;
+        are = (front-files held o.synth o.files e.bytes behind.0 e.are, behind-held held count o.bases e.bytes behind.0 behind.1);
+        ends = front-ends limits c.args.plan.now.sources o c.args.plan.now.filter planned.filter planned.depth e.bytes behind.0 c.in_err-total.field-0.0 (λ k is. e.unmade k (ap Err is)) e.ends;
+        gives = rw (front-pairs o.synth o.files e.bytes behind.0) (gives-stops _ _ _ _ _ e.gives);
+        reads = stops g.F.Files (reading_for limits o (unmade_names o.synth o.files)) (reading_for limits o (unmade_names o.synth o.files ++ o.bases)) o.bases c.in_err-total.field-0.0 c.args.files.now c.total_of.new.files refl
+            (same-run limits o (unmade_names o.synth o.files) (unmade_names o.synth o.files ++ o.bases)) e.reads;
+      });
+      cost = c.total_of.ensures.cost;
+    }
 
-pub returns-in_err-report_of-clause-inputs : goal.returns-in_err-report_of-clause-inputs
-returns-in_err-report_of-clause-inputs g c =
+pub returns-in_err-report_of : goal.returns-in_err-report_of
+returns-in_err-report_of g c =
     let p = err_from_is_err_and c.from_residual-in_err-report_of.result c.from_residual-in_err-report_of.ensures.1 in
     let o = c.args.run.now.options in
     let limits = c.args.run.now.limits in
@@ -71,37 +83,43 @@ returns-in_err-report_of-clause-inputs g c =
     let count = length (file_names o) in
     let e = c.in_ok-total.ensures.files in
     let behind = some-held held (count + 1) o.bases in
-    rw (p.1, p.2) (record {
-      bytes = beyond count e.bytes behind.0;
-      are = (front-files held o.synth o.files e.bytes behind.0 e.are, behind-held held count o.bases e.bytes behind.0 behind.1);
-      ends = tt;
-      gives = rw (front-pairs o.synth o.files e.bytes behind.0) (gives-then c.in_ok-total.total _ _ _ _ _ tt e.gives);
-      reads = then-no-memory g.F.Files (reading_for limits o (unmade_names o.synth o.files)) (reading_for limits o (unmade_names o.synth o.files ++ o.bases)) o.bases c.in_ok-total.total c.args.files.now c.total_of.new.files refl (omega arith) e.reads;
-    })
+    record {
+      inputs = rw (p.1, p.2) (record {
+        bytes = beyond count e.bytes behind.0;
+        are = (front-files held o.synth o.files e.bytes behind.0 e.are, behind-held held count o.bases e.bytes behind.0 behind.1);
+        ends = tt;
+        gives = rw (front-pairs o.synth o.files e.bytes behind.0) (gives-then c.in_ok-total.total _ _ _ _ _ tt e.gives);
+        reads = then-no-memory g.F.Files (reading_for limits o (unmade_names o.synth o.files)) (reading_for limits o (unmade_names o.synth o.files ++ o.bases)) o.bases c.in_ok-total.total c.args.files.now c.total_of.new.files refl (omega arith) e.reads;
+      });
+      cost = c.total_of.ensures.cost;
+    }
 
-pub returns-then-len-eq0-clause-inputs : goal.returns-then-len-eq0-clause-inputs
-returns-then-len-eq0-clause-inputs g c =
+pub returns-then-len-eq0 : goal.returns-then-len-eq0
+returns-then-len-eq0 g c =
     let o = c.args.run.now.options in
     let limits = c.args.run.now.limits in
-    let planned = c.requires.ready.planned in
+    let planned = c.requires.begins.ready.planned in
     let held = g.F.Files.held c.args.files.now in
     let count = length (file_names o) in
     let e = c.in_ok-total.ensures.files in
     let behind = some-held held (count + 1) o.bases in
     let none : o.bases ≡ [] = no-names o.bases (sym c.len.ensures ∙ c.if-len-eq0.true) in
     record {
-      bytes = beyond count e.bytes behind.0;
-      are = (front-files held o.synth o.files e.bytes behind.0 e.are, behind-held held count o.bases e.bytes behind.0 behind.1);
-      ends = sizes-end limits c.args.plan.now.sources o c.args.plan.now.filter planned.filter planned.depth e.bytes behind.0 c.in_ok-total.total c.in_ok-report_of.field-0 none e.ends (rw (← c.total.view_is) c.total.invariant) c.in_ok-report_of.ensures;
-      gives = rw (front-pairs o.synth o.files e.bytes behind.0) (gives-then c.in_ok-total.total _ _ _ _ _ (ap (λ ns. pairs_from (count + 1) ns (beyond count e.bytes behind.0)) none) e.gives);
-      reads = then-ok g.F.Files (reading_for limits o (unmade_names o.synth o.files)) (reading_for limits o (unmade_names o.synth o.files ++ o.bases)) o.bases c.in_ok-total.total c.in_ok-report_of.field-0 c.args.files.now c.total_of.new.files refl (omega arith) none e.reads;
+      inputs = record {
+        bytes = beyond count e.bytes behind.0;
+        are = (front-files held o.synth o.files e.bytes behind.0 e.are, behind-held held count o.bases e.bytes behind.0 behind.1);
+        ends = sizes-end limits c.args.plan.now.sources o c.args.plan.now.filter planned.filter planned.depth e.bytes behind.0 c.in_ok-total.total c.in_ok-report_of.field-0 none e.ends (rw (← c.total.view_is) c.total.invariant) c.in_ok-report_of.ensures;
+        gives = rw (front-pairs o.synth o.files e.bytes behind.0) (gives-then c.in_ok-total.total _ _ _ _ _ (ap (λ ns. pairs_from (count + 1) ns (beyond count e.bytes behind.0)) none) e.gives);
+        reads = then-ok g.F.Files (reading_for limits o (unmade_names o.synth o.files)) (reading_for limits o (unmade_names o.synth o.files ++ o.bases)) o.bases c.in_ok-total.total c.in_ok-report_of.field-0 c.args.files.now c.total_of.new.files refl (omega arith) none e.reads;
+      };
+      cost = c.total_of.ensures.cost;
     }
 
-pub returns-clause-inputs : goal.returns-clause-inputs
-returns-clause-inputs g c =
+pub returns : goal.returns
+returns g c =
     let o = c.args.run.now.options in
     let limits = c.args.run.now.limits in
-    let planned = c.requires.ready.planned in
+    let planned = c.requires.begins.ready.planned in
     let held = g.F.Files.held c.args.files.now in
     let count = length (file_names o) in
     let e = c.in_ok-total.ensures.files in
@@ -113,28 +131,15 @@ returns-clause-inputs g c =
     let some : 0 < length o.bases = omega (arith, c.len.ensures, c.if-len-eq0.false) in
     let behind = rw files at c.growth_report.ensures.batch.reads in
     record {
-      bytes = beyond count e.bytes b.bytes;
-      are = (front-files held o.synth o.files e.bytes b.bytes e.are, behind-held held count o.bases e.bytes b.bytes are);
-      ends = growth-ends limits c.args.plan.now.sources o c.args.plan.now.filter planned.filter planned.depth e.bytes b.bytes c.in_ok-total.total some e.ends c.growth_report.result b.ends;
-      gives = rw (front-pairs o.synth o.files e.bytes b.bytes, behind-pairs count o.bases e.bytes b.bytes) (gives-behind _ _ _ _ _ _ (given-all c.in_ok-total.total _ _ _ e.gives) b.gives);
-      reads = follows g.F.Files (reading_for limits o (unmade_names o.synth o.files)) (batch_reading limits (batch_of count c.total_of.new.tally.bytes o.bases)) (reading_for limits o (unmade_names o.synth o.files ++ o.bases))
-          c.in_ok-total.total c.growth_report.result (c.total_of.new.tally.bytes - made_len o.synth) c.args.files.now c.total_of.new.files c.growth_report.new.files refl
-          (base-part limits o c.total_of.new.tally.bytes (unmade_names o.synth o.files ++ o.bases) c.requires.no_debug (omega (arith, tally.counts.1, tally.counts.2)) tally.room) e.reads (rw lengths tally.taken) behind;
+      inputs = record {
+        bytes = beyond count e.bytes b.bytes;
+        are = (front-files held o.synth o.files e.bytes b.bytes e.are, behind-held held count o.bases e.bytes b.bytes are);
+        ends = growth-ends limits c.args.plan.now.sources o c.args.plan.now.filter planned.filter planned.depth e.bytes b.bytes c.in_ok-total.total some e.ends c.growth_report.result b.ends;
+        gives = rw (front-pairs o.synth o.files e.bytes b.bytes, behind-pairs count o.bases e.bytes b.bytes) (gives-behind _ _ _ _ _ _ (given-all c.in_ok-total.total _ _ _ e.gives) b.gives);
+        reads = follows g.F.Files (reading_for limits o (unmade_names o.synth o.files)) (batch_reading limits (batch_of count c.total_of.new.tally.bytes o.bases)) (reading_for limits o (unmade_names o.synth o.files ++ o.bases))
+            c.in_ok-total.total c.growth_report.result (c.total_of.new.tally.bytes - made_len o.synth) c.args.files.now c.total_of.new.files c.growth_report.new.files refl
+            (base-part limits o c.total_of.new.tally.bytes (unmade_names o.synth o.files ++ o.bases) c.requires.no_debug (omega (arith, tally.counts.1, tally.counts.2)) tally.room) e.reads (rw lengths tally.taken) behind;
+      };
+      cost = costs-bases c.args.run.now.limits c.args.plan.now.sources c.args.run.now.options (g.F.Files.gave c.args.files.now) (g.F.Files.gave c.total_of.new.files) (g.F.Files.gave c.growth_report.new.files) c.args.tally.now.steps c.total_of.new.tally.steps c.growth_report.new.tally.steps
+          c.total_of.ensures.cost c.growth_report.ensures.cost;
     }
-
-pub returns-then-is_none-clause-cost : goal.returns-then-is_none-clause-cost
-returns-then-is_none-clause-cost g c = costs-none _ (g.F.Files.gave c.args.files.now) c.args.tally.now.steps
-
-pub returns-in_err-total-clause-cost : goal.returns-in_err-total-clause-cost
-returns-in_err-total-clause-cost g c = c.total_of.ensures.cost
-
-pub returns-in_err-report_of-clause-cost : goal.returns-in_err-report_of-clause-cost
-returns-in_err-report_of-clause-cost g c = c.total_of.ensures.cost
-
-pub returns-then-len-eq0-clause-cost : goal.returns-then-len-eq0-clause-cost
-returns-then-len-eq0-clause-cost g c = c.total_of.ensures.cost
-
-pub returns-clause-cost : goal.returns-clause-cost
-returns-clause-cost g c =
-    costs-bases c.args.run.now.limits c.args.plan.now.sources c.args.run.now.options (g.F.Files.gave c.args.files.now) (g.F.Files.gave c.total_of.new.files) (g.F.Files.gave c.growth_report.new.files) c.args.tally.now.steps c.total_of.new.tally.steps c.growth_report.new.tally.steps
-    c.total_of.ensures.cost c.growth_report.ensures.cost

@@ -28,46 +28,40 @@ count_files-requires g c =
       room = omega (arith, c.requires.none.1);
     }
 
-pub returns-in-Some-clause-files : goal.returns-in-Some-clause-files
-returns-in-Some-clause-files g c = record {
-  bytes = λ i. made c.in-Some.n;
-  are = rw c.in-Some.is refl;
-  ends = rw c.in-Some.is c.count_made.ensures.made.ends;
-  gives = rw c.in-Some.is (gives-none _ _ [] (OnOk-any _ _ refl));
-  unmade = λ k e. absurd (c.count_made.ensures.made.unread _ e);
-  reads = made-unread g.F.Files c.args.run.now.limits c.args.run.now.options c.in-Some.n c.in-Some.is c.count_made.result c.args.files.now c.count_made.ensures.made.unread c.count_made.ensures.made.long;
-}
+pub returns-in-Some : goal.returns-in-Some
+returns-in-Some g c =
+    let all = c.count_made.ensures.tally in
+    record {
+      files = record {
+        bytes = λ i. made c.in-Some.n;
+        are = rw c.in-Some.is refl;
+        ends = rw c.in-Some.is c.count_made.ensures.uses.ends;
+        gives = rw c.in-Some.is (gives-none _ _ [] (OnOk-any _ _ refl));
+        unmade = λ k e. absurd (c.count_made.ensures.uses.unread _ e);
+        reads = made-unread g.F.Files c.args.run.now.limits c.args.run.now.options c.in-Some.n c.in-Some.is c.count_made.result c.args.files.now c.count_made.ensures.uses.unread c.count_made.ensures.uses.long;
+      };
+      tally = rw c.in-Some.is (record {
+        counts = IfOk-then c.count_made.result _ _ all (λ t h. (omega (arith, h.0), omega (arith, h.1), omega (arith, h.2)));
+        room = c.count_made.ensures.room;
+        taken = IfOk-then c.count_made.result _ _ all (λ t h. unread t.lengths (length (made c.in-Some.n)) (g.F.Files.held c.args.files.now) (g.F.Files.taken c.args.files.now) h.2);
+      });
+      cost = costs-made c.args.run.now.limits c.args.plan.now.sources c.args.run.now.options c.in-Some.n (g.F.Files.gave c.args.files.now) c.args.tally.now.steps c.count_made.new.tally.steps c.in-Some.is c.count_made.ensures.cost;
+    }
 
-pub returns-in-None-clause-files : goal.returns-in-None-clause-files
-returns-in-None-clause-files g c =
+pub returns-in-None : goal.returns-in-None
+returns-in-None g c =
     let o = c.args.run.now.options in
     let batch = rw (c.requires.none.0, c.requires.none.1) at c.count_files.ensures.batch in
     record {
-      bytes = batch.bytes;
-      are = rw c.in-None.is batch.are;
-      ends = rw c.in-None.is batch.ends;
-      gives = rw c.in-None.is batch.gives;
-      unmade = rw c.in-None.is (λ k e. tt);
-      reads = reads-as g.F.Files (batch_reading c.args.run.now.limits (batch_of 0 0 o.files)) (reading_for c.args.run.now.limits o (unmade_names o.synth o.files)) c.count_files.result c.args.files.now c.count_files.new.files
-          (ap (λ s. unmade_names s o.files) c.in-None.is) (files-part c.args.run.now.limits o o.files (unmade_names o.synth o.files) c.in-None.is (λ k n at. none-name o k n c.in-None.is at)) batch.reads;
+      files = record {
+        bytes = batch.bytes;
+        are = rw c.in-None.is batch.are;
+        ends = rw c.in-None.is batch.ends;
+        gives = rw c.in-None.is batch.gives;
+        unmade = rw c.in-None.is (λ k e. tt);
+        reads = reads-as g.F.Files (batch_reading c.args.run.now.limits (batch_of 0 0 o.files)) (reading_for c.args.run.now.limits o (unmade_names o.synth o.files)) c.count_files.result c.args.files.now c.count_files.new.files
+            (ap (λ s. unmade_names s o.files) c.in-None.is) (files-part c.args.run.now.limits o o.files (unmade_names o.synth o.files) c.in-None.is (λ k n at. none-name o k n c.in-None.is at)) batch.reads;
+      };
+      tally = rw c.in-None.is (rw (c.requires.none.0, c.requires.none.1) at c.count_files.ensures.tally);
+      cost = costs-counted c.args.run.now.limits c.args.plan.now.sources c.args.run.now.options (g.F.Files.gave c.args.files.now) (g.F.Files.gave c.count_files.new.files) c.args.tally.now.steps c.count_files.new.tally.steps c.count_files.ensures.cost;
     }
-
-pub returns-in-Some-clause-tally : goal.returns-in-Some-clause-tally
-returns-in-Some-clause-tally g c =
-    let all = c.count_made.ensures.tally in
-    rw c.in-Some.is (record {
-      counts = IfOk-then c.count_made.result _ _ all (λ t h. (omega (arith, h.0), omega (arith, h.1), omega (arith, h.2)));
-      room = c.count_made.ensures.room;
-      taken = IfOk-then c.count_made.result _ _ all (λ t h. unread t.lengths (length (made c.in-Some.n)) (g.F.Files.held c.args.files.now) (g.F.Files.taken c.args.files.now) h.2);
-    })
-
-pub returns-in-None-clause-tally : goal.returns-in-None-clause-tally
-returns-in-None-clause-tally g c = rw c.in-None.is (rw (c.requires.none.0, c.requires.none.1) at c.count_files.ensures.tally)
-
-pub returns-in-Some-clause-cost : goal.returns-in-Some-clause-cost
-returns-in-Some-clause-cost g c =
-    costs-made c.args.run.now.limits c.args.plan.now.sources c.args.run.now.options c.in-Some.n (g.F.Files.gave c.args.files.now) c.args.tally.now.steps c.count_made.new.tally.steps c.in-Some.is c.count_made.ensures.cost
-
-pub returns-in-None-clause-cost : goal.returns-in-None-clause-cost
-returns-in-None-clause-cost g c =
-    costs-counted c.args.run.now.limits c.args.plan.now.sources c.args.run.now.options (g.F.Files.gave c.args.files.now) (g.F.Files.gave c.count_files.new.files) c.args.tally.now.steps c.count_files.new.tally.steps c.count_files.ensures.cost

@@ -4,13 +4,13 @@ use Rattle.std.proofs.lemmas.Result.{on_ok_weaker}
 use Rattle.claim_sheet.specs.Sheets.{adding}
 use Rattle.dwarf_units.specs.Roots.{shown_root}
 use Rattle.dwarf_claims.specs.Tables.{IsProgramOf}
-use Rattle.dwarf_claims.specs.UnitClaims.{program_of}
+use Rattle.dwarf_line_header.specs.UnitPrograms.{unit_program}
 use Rattle.dwarf_claims.proofs.ProgramLemmas.{program_again, program_known, program_read}
 use Rattle.dwarf_claims.proofs.last_program.add_program.Goals as goal
 
 pub returns-clause-adds : goal.returns-clause-adds
 returns-clause-adds c =
-    let given : program_of (shown_root c.args.root.now) ≡ Some c.in-Some.named = search rules in
+    let given : unit_program (shown_root c.args.root.now) ≡ Some c.in-Some.named = search rules in
     let known : IsProgramOf c.args.sections.now c.args.sheet.now (Some c.in-Some-last.known) = search rules in
     let shape : c.in-Some-last.known.shape ≡ (shown_root c.args.root.now).shape = search rules in
     rw (program_known c.args.sections.now c.args.sheet.now (shown_root c.args.root.now) c.in-Some-last.known _ c.in-Some.named known given c.if-known-named.true shape) (c.add_again.ensures known.claims known.added)

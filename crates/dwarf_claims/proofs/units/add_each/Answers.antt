@@ -18,7 +18,7 @@ loop-unit-preserved c =
       rest = read_list_goes f c.loop-unit.sheet c.add_item.new.sheet c.in-Some.unit c.next.new.self c.in_ok-add_item.ensures.adds.made
           ∙ ap (λ (units : List (Result DwarfUnit BadFile)). adding_read c.loop-unit.sheet (read_list f units)) (sym c.in-Some.ensures.steps)
           ∙ c.loop-unit.invariant.rest;
-      labels = kept_goes (labelled c.args.sections.now) (shown_units c.loop-unit.units.items) (shown_units c.add_item.new.units.items) c.in-Some.unit c.next.new.self c.loop-unit.unit-iterator c.in-Some.ensures.steps c.in_ok-add_item.ensures.labels
+      labels = kept_goes (labelled c.args.sections.now) (shown_units c.loop-unit.units.known.items) (shown_units c.add_item.new.units.known.items) c.in-Some.unit c.next.new.self c.loop-unit.unit-iterator c.in-Some.ensures.steps c.in_ok-add_item.ensures.labels
           ∙ c.loop-unit.invariant.labels;
       last = c.in_ok-add_item.ensures.last;
       known = c.in_ok-add_item.ensures.known;

@@ -1,5 +1,5 @@
 use Rattle.std.proofs.lemmas.List.Sorted.{All-permutation}
-use Rattle.size_growth.specs.Items.{IsGroup}
+use Rattle.size_growth.specs.Groups.{IsGroup}
 use Rattle.size_growth.proofs.SortLemmas.{sorted-children}
 use Rattle.size_growth.proofs.groups.children.Goals as goal
 

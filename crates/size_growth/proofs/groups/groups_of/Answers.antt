@@ -2,7 +2,7 @@ use Rattle.std.proofs.Common.{◌∙◌, ◌≤◌, subst, sym, arith, map}
 use Rattle.std.specs.Prelude.{All}
 use Rattle.report_rows.proofs.GatherLemmas.{All-kept}
 use Rattle.size_growth.specs.declared.groups.Group.{Group}
-use Rattle.size_growth.specs.Items.{IsGroup, group_entry}
+use Rattle.size_growth.specs.Groups.{IsGroup, group_entry}
 use Rattle.size_growth.specs.Keys.{has_changed}
 use Rattle.size_growth.proofs.GatherLemmas.{begin-before, end-before, gather, none-left, rise-kept}
 use Rattle.size_growth.proofs.groups.groups_of.Goals as goal

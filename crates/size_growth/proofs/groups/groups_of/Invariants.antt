@@ -1,7 +1,7 @@
 use Rattle.std.proofs.Common.{◌≡◌, ◌≤◌, ◌-◌, ◌++◌, length, map, filter, drop}
 use Rattle.std.specs.Prelude.{All}
 use Rattle.size_growth.specs.declared.groups.Group.{Group}
-use Rattle.size_growth.specs.Items.{IsGroup, Rise, group_entry}
+use Rattle.size_growth.specs.Groups.{IsGroup, Rise, group_entry}
 use Rattle.size_growth.specs.Rows.{is_child, label_entry}
 use Rattle.size_growth.specs.Runs.{runs, table_at}
 use Rattle.size_growth.proofs.groups.groups_of.Given as goal

@@ -1,4 +1,4 @@
-use Rattle.std.proofs.Common.{◌≡◌, ◌<◌, ◌+◌, ◌-◌, ◌∙◌, List, ap, sym, subst, length, take, drop, arith}
+use Rattle.std.proofs.Common.{◌≡◌, ◌<◌, ◌+◌, ◌-◌, ◌∙◌, List, refl, ap, sym, subst, length, take, drop, arith}
 use Rattle.std.specs.Prelude.{All}
 use Rattle.std.proofs.lemmas.List.{take_rest, length-drop}
 use Rattle.std.proofs.lemmas.List.Elements.{All-drop}
@@ -25,6 +25,7 @@ returns-clause-group c =
       some = omega (arith, ran.some);
       within = omega (arith, ran.within, long, c.requires.inside);
       key = c.growth_key.ensures;
+      kind = refl;
       sizes = c.sums-sizes.ensures;
     }
 

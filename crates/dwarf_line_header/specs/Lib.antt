@@ -1,0 +1,10 @@
+pub mod FormattedTables
+pub mod Gathered
+pub mod Header
+pub mod Laws
+pub mod Listed
+pub mod Names
+pub mod PlainTables
+pub mod Programs
+pub mod Tables
+pub mod UnitPrograms

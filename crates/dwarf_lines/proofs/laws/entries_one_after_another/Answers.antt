@@ -1,5 +1,0 @@
-use Rattle.dwarf_lines.proofs.PlainLaws.{table_goes_on, table_stops}
-use Rattle.dwarf_lines.proofs.laws.entries_one_after_another.Goals as goal
-
-pub returns : goal.returns
-returns c = record { more = table_goes_on; fault = table_stops }
