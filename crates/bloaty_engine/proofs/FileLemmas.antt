@@ -14,7 +14,7 @@ use Rattle.data_sources.specs.declared.binary.Binary.{Binary}
 use Rattle.data_sources.specs.Opened.{opened}
 use Rattle.data_sources.proofs.OpenedLemmas.{opened-bytes}
 use Rattle.outside.specs.Held.{Pairs, held_bytes, IsHeld}
-use Rattle.rollup.specs.Adding.{file_where, vm_where}
+use Rattle.path_rows.specs.Sums.{file_where, vm_where}
 use Rattle.rollup.specs.Totals.{Totals}
 use Rattle.file_profile.specs.declared.answer.ProfileAnswer.{ProfileAnswer}
 use Rattle.file_profile.specs.declared.answer.ProfileAnswer.TheVariants as profile

@@ -6,7 +6,7 @@ use Rattle.std.specs.Str.{bytes_eq}
 use Rattle.size_model.specs.declared.view.FileView.{FileView}
 use Rattle.size_model.specs.Sizes.{file_size, vm_size}
 use Rattle.size_model.proofs.Labelling.{CountsAll-files}
-use Rattle.rollup.specs.declared.table.RollupRow.{RollupRow}
+use Rattle.path_rows.specs.declared.row.RollupRow.{RollupRow}
 use Rattle.report_rows.specs.Paths.{ShowsPaths}
 use Rattle.report_rows.specs.SizeTrees.{IsTreeOfSizes}
 use Rattle.report_rows.proofs.PathLemmas.{shows-paths}

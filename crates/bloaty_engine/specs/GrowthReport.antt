@@ -8,7 +8,7 @@ use Rattle.size_core.specs.declared.choices.Format.TheVariants.{Text, Csv, Tsv}
 use Rattle.size_core.specs.declared.limits.Limits.{Limits}
 use Rattle.size_model.specs.declared.view.FileView.{FileView}
 use Rattle.size_model.specs.Sizes.{file_size, vm_size}
-use Rattle.rollup.specs.declared.table.RollupRow.{RollupRow}
+use Rattle.path_rows.specs.declared.row.RollupRow.{RollupRow}
 use Rattle.rollup.specs.Totals.{Totals}
 use Rattle.size_growth.specs.declared.growth.GrowthPath.{GrowthPath}
 use Rattle.size_growth.specs.declared.growth.GrowthSizes.{GrowthSizes}

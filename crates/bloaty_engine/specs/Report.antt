@@ -7,9 +7,9 @@ use Rattle.size_core.specs.declared.choices.Format.TheVariants.{Text, Csv, Tsv}
 use Rattle.size_model.specs.declared.view.FileView.{FileView}
 use Rattle.size_model.specs.Loads.{mapped_count}
 use Rattle.size_model.specs.Sizes.{counts_for, file_size, vm_size}
-use Rattle.rollup.specs.declared.table.RollupRow.{RollupRow}
-use Rattle.rollup.specs.Adding.{file_where, vm_where}
-use Rattle.rollup.specs.Totals.{row_cmp}
+use Rattle.path_rows.specs.declared.row.RollupRow.{RollupRow}
+use Rattle.path_rows.specs.Sums.{file_where, vm_where}
+use Rattle.path_rows.specs.Paths.{row_cmp}
 use Rattle.report_rows.specs.declared.row.RowOptions.{RowOptions}
 use Rattle.report_rows.specs.declared.row.RowTree.{RowTree}
 use Rattle.report_rows.specs.Paths.{ShowsPaths}

@@ -6,7 +6,7 @@ use Rattle.size_core.specs.declared.limits.Limits.{Limits}
 use Rattle.size_model.specs.declared.view.FileView.{FileView}
 use Rattle.size_model.specs.Loads.{mapped_count}
 use Rattle.config_text.specs.declared.config.CustomSource.{CustomSource}
-use Rattle.rollup.specs.Adding.{file_where, vm_where}
+use Rattle.path_rows.specs.Sums.{file_where, vm_where}
 use Rattle.rollup.specs.Totals.{Totals}
 use Rattle.run_outcome.specs.declared.outcome.Outcome.{Outcome}
 use Rattle.run_outcome.specs.declared.outcome.Outcome.TheVariants.{ReadFailed, TooLong, UnknownSource, PatternSyntax, PatternTooBig, NoMemory}

@@ -3,7 +3,7 @@
 ghost use Rattle.std.specs.Prelude.{◌≡◌, ◌+◌, ◌≤◌, ◌<◌, ◌^◌, ℕ, Bool, List, length, Ok, Err, OnOk, OnErr};
 ghost use Rattle.size_model.specs.declared.view.FileView.{FileView as FileViewSpec};
 ghost use Rattle.size_model.specs.Loads.{mapped_count};
-ghost use Rattle.rollup.specs.Adding.{file_where, vm_where};
+ghost use Rattle.path_rows.specs.Sums.{file_where, vm_where};
 ghost use Rattle.file_profile.specs.Counts.{file_size_where, filter_test, step_bound, vm_size_where};
 ghost use Rattle.file_profile.specs.Views.{Answers, file_view, viewed};
 

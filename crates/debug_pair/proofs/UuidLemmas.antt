@@ -3,7 +3,7 @@ use Rattle.std.proofs.Common.{◌≡◌, ℕ, suc, ◌+◌, ◌≤◌, ◌==◌,
 use Rattle.std.specs.Prelude.{All, if◌then◌else◌}
 use Rattle.std.specs.List.{find}
 use Rattle.macho_file.specs.declared.command.Command.{Command}
-use Rattle.macho_file.specs.declared.constants.TheConstants.{LC_UUID}
+use Rattle.macho_records.specs.declared.constants.TheConstants.{LC_UUID}
 use Rattle.macho_file.specs.Commands.{commands}
 use Rattle.macho_file.specs.WellFormed.{IsWellFormed, IsAmongCommands}
 use Rattle.debug_pair.specs.Identities.{first_uuid}

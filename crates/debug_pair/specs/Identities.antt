@@ -9,7 +9,7 @@ use Rattle.elf_file.specs.declared.constants.TheConstants.{SHT_NOTE, PT_NOTE}
 use Rattle.elf_file.specs.Layout.{encoding_of}
 use Rattle.elf_file.specs.Tables.{section_at, section_bytes, section_count, segment_at, segment_bytes, segment_count}
 use Rattle.macho_file.specs.declared.command.Command.{Command}
-use Rattle.macho_file.specs.declared.constants.TheConstants.{LC_UUID}
+use Rattle.macho_records.specs.declared.constants.TheConstants.{LC_UUID}
 use Rattle.macho_file.specs.Commands.{commands}
 use Rattle.debug_pair.specs.declared.constants.TheConstants.{NT_GNU_BUILD_ID}
 use Rattle.debug_pair.specs.Notes.{NoteRecord, notes}

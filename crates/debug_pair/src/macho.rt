@@ -5,7 +5,8 @@ ghost use Rattle.std.specs.Option.{option_copied};
 ghost use Rattle.macho_file.specs.Commands.{commands};
 ghost use Rattle.debug_pair.specs.Identities.{first_uuid, macho_identity};
 
-use macho_file::{Command, LC_UUID, MachoFile};
+use macho_file::{Command, MachoFile};
+use macho_records::LC_UUID;
 
 /// Returns the first LC_UUID command.
 #[tactic(auto, using(crate::proofs::UuidLemmas::uuid_here, crate::proofs::UuidLemmas::uuid_later, crate::proofs::UuidLemmas::uuid_none))]

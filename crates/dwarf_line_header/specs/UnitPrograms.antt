@@ -14,7 +14,7 @@ use Rattle.dwarf_abbrev.specs.Values.{Meaning, ValueRecord, AConstant, ASecOffse
 use Rattle.dwarf_units.specs.declared.sections.Sections.{Sections}
 use Rattle.dwarf_units.specs.Roots.{RootRecord}
 
--- The offset in `.debug_line` that a value of `DW_AT_stmt_list` says. Before DWARF 4 no form was for offsets alone, and
+-- The offset in `.debug_line` that a value of `DW_AT_stmt_list` gives. Before DWARF 4 no form was for offsets alone, and
 -- constants are offsets too (DWARF 5, section 3.1.1; DWARF 3, section 7.5.4).
 abbrev pub program_offset : ℕ → Meaning → Option ℕ
 program_offset version (ASecOffset n) = Some n

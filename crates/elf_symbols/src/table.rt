@@ -187,8 +187,9 @@ impl<'a> SymbolTable<'a> {
         self.base + self.encoding.four(self.file, self.offset_of(k), ST_NAME) as u64
     }
 
-    /// Returns whether symbol `k` has a name that ends in the table's names if it has the size of this one. If this one
-    /// is at the same file offset, it is then the name of the symbol.
+    /// Returns whether `name` can be the name of symbol `k`: the symbol has a name, and a name of this length ends among
+    /// the table's names. So a text at `name_place(k)` is the symbol's name if this returns true. It returns true for each
+    /// symbol that has this name, unless the name is empty.
     #[tactic(auto, using(crate::proofs::PlaceLemmas::is_name, crate::proofs::PlaceLemmas::name_fits))]
     pub fn is_name(&self, k: u32, name: &[u8]) -> bool
         requires { k < symbol_count self.now.file self.now.index }

@@ -4,7 +4,8 @@ use Rattle.size_model.specs.Loads.{mapped_count}
 use Rattle.dual_map.specs.Layout.{Layout}
 use Rattle.rollup.specs.declared.answer.RollupAnswer.{RollupAnswer}
 use Rattle.rollup.specs.declared.answer.RollupAnswer.TheVariants.{TooManyBytes, MappedTooLarge, NoMemory}
-use Rattle.rollup.specs.Adding.{file_count, file_where, vm_count, vm_where}
+use Rattle.path_rows.specs.Sums.{file_where, vm_where}
+use Rattle.rollup.specs.Adding.{file_count, vm_count}
 use Rattle.rollup.specs.Totals.{Totals}
 use Rattle.file_profile.specs.declared.maps.FileMaps.{FileMaps}
 use Rattle.file_profile.specs.Counts.{marks_by}

@@ -3,7 +3,8 @@
 ghost use Rattle.std.specs.Prelude.{◌≡◌, ◌+◌, ◌-◌, ◌≤◌, ◌<◌, ◌^◌, ℕ, Bool, List, length, map, Ok, Err, IfOk, OnOk, OnErr};
 ghost use Rattle.size_model.specs.declared.view.FileView.{FileView as FileViewSpec};
 ghost use Rattle.size_model.specs.Loads.{mapped_count};
-ghost use Rattle.rollup.specs.Adding.{file_where, piece_count, vm_where};
+ghost use Rattle.path_rows.specs.Sums.{file_where, vm_where};
+ghost use Rattle.rollup.specs.Adding.{piece_count};
 ghost use Rattle.custom_rewrites.specs.Pattern.{is_found};
 ghost use Rattle.data_sources.specs.Groups.{bytes_of};
 ghost use Rattle.data_sources.specs.Loads.{loads_of};

@@ -3,10 +3,10 @@ use Rattle.std.specs.Prelude.{ℕ, ◌-◌, min, List, ◌++◌, length, codes, 
 use Rattle.std.specs.List.{flat_map}
 use Rattle.std.specs.Option.{option_map}
 use Rattle.size_model.specs.declared.view.LabelledClaim.{LabelledClaim}
-use Rattle.macho_file.specs.declared.link_edit.LinkEdit.{LinkEdit}
-use Rattle.macho_file.specs.declared.link_edit.LinkEdit.TheVariants.{SymbolTable, StringTable, IndirectSymbols, RebaseInfo, BindingInfo, WeakBindingInfo, LazyBindingInfo, ExportInfo, CodeSignature, SegmentSplitInfo, FunctionStarts, DataInCode, CodeSignDrs, OptimizationHints, ExportTrie, ChainedFixups}
-use Rattle.macho_file.specs.declared.link_edit.LinkEditPart.{LinkEditPart}
-use Rattle.macho_file.specs.Layout.{header_len, commands_size}
+use Rattle.macho_records.specs.declared.link_edit.LinkEdit.{LinkEdit}
+use Rattle.macho_records.specs.declared.link_edit.LinkEdit.TheVariants.{SymbolTable, StringTable, IndirectSymbols, RebaseInfo, BindingInfo, WeakBindingInfo, LazyBindingInfo, ExportInfo, CodeSignature, SegmentSplitInfo, FunctionStarts, DataInCode, CodeSignDrs, OptimizationHints, ExportTrie, ChainedFixups}
+use Rattle.macho_records.specs.declared.link_edit.LinkEditPart.{LinkEditPart}
+use Rattle.macho_records.specs.Layout.{header_len, commands_size}
 use Rattle.macho_file.specs.LinkEdit.{link_edit_parts}
 use Rattle.macho_file.specs.Tables.{SectionRecord, SegmentRecord, sections, segments}
 use Rattle.claim_sheet.specs.declared.reach.Reach.{Reach}

@@ -5,8 +5,8 @@ use Rattle.size_core.specs.declared.fault.BadFile.{BadFile}
 use Rattle.size_core.specs.declared.fault.Fault.TheVariants.{SourceNotForFile}
 use Rattle.size_core.specs.Checks.{◌>>◌, demand}
 use Rattle.byte_cursor.specs.Window.{Window}
-use Rattle.macho_file.specs.declared.constants.TheConstants.{MH_OBJECT}
-use Rattle.macho_file.specs.Layout.{encoding_of, file_type}
+use Rattle.macho_records.specs.declared.constants.TheConstants.{MH_OBJECT}
+use Rattle.macho_records.specs.Layout.{encoding_of, file_type}
 use Rattle.macho_file.specs.Tables.{SectionRecord, section_bytes, sections}
 use Rattle.dwarf_units.specs.declared.sections.Sections.{Sections}
 

@@ -4,7 +4,8 @@ use Rattle.std.specs.List.{flat_map}
 use Rattle.size_core.specs.declared.fault.BadFile.{BadFile}
 use Rattle.size_core.specs.Checks.{◌>>=◌}
 use Rattle.size_model.specs.declared.view.LabelledClaim.{LabelledClaim}
-use Rattle.macho_file.specs.Spans.{SpanRecord, spans}
+use Rattle.macho_symbols.specs.Spans.{SpanRecord}
+use Rattle.macho_file.specs.Spans.{spans}
 use Rattle.claim_sheet.specs.Reaches.{claim_on, in_memory, span}
 
 -- The claim of the span of a symbol: its addresses, under the name of the symbol (mach-o/nlist.h).

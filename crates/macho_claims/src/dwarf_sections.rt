@@ -7,7 +7,8 @@ ghost use Rattle.macho_claims.specs.DebugSections.{debug_sections, is_debug, sec
 
 use byte_cursor::Cursor;
 use dwarf_units::Sections;
-use macho_file::{MH_OBJECT, MachoFile, MachoSection};
+use macho_file::{MachoFile, MachoSection};
+use macho_records::MH_OBJECT;
 use size_core::{BadFile, Fault};
 
 fn is_debug(section: &MachoSection<'_>, name: &[u8]) -> bool

@@ -1,16 +1,10 @@
 pub mod CheckLemmas
-pub mod FirstLemmas
-pub mod IndexLemmas
-pub mod LeastLemmas
+pub mod LookupLemmas
 pub mod OpenedLemmas
 pub mod PartLemmas
-pub mod LookupLemmas
-pub mod NameLemmas
 pub mod SectionLemmas
 pub mod SegmentLemmas
 pub mod SpanLemmas
-pub mod SymbolLemmas
 pub mod TableLemmas
-pub mod TakenLemmas
 pub mod WalkLemmas
 pub mod WellFormedLemmas

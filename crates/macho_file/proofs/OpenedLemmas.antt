@@ -4,8 +4,9 @@ use Rattle.std.specs.Prelude.{Result, MatchResult}
 use Rattle.size_core.specs.declared.fault.BadFile.{BadFile}
 use Rattle.size_core.specs.Checks.{◌>>◌, Check, first_of, AllHold, IsFirstFault}
 use Rattle.size_core.proofs.FirstFault.{first_of_append, means}
-use Rattle.macho_file.specs.Layout.{header_len, command_count}
-use Rattle.macho_file.specs.Checks.{opened, macho_checks, header_checks}
+use Rattle.macho_records.specs.Layout.{header_len, command_count}
+use Rattle.macho_records.specs.Header.{header_checks}
+use Rattle.macho_file.specs.Checks.{opened, macho_checks}
 use Rattle.macho_file.specs.Known.{commands_fit}
 
 -- The file or its first fault, as the steps of opening it find them.

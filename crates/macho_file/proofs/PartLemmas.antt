@@ -1,13 +1,17 @@
--- The remaining ranges of the link-edit data.
-use Rattle.std.proofs.Common.{◌≡◌, ℕ, zero, suc, ◌+◌, ◌<◌, ◌≤◌, Option, Some, None, List, [], ◌∷◌, ◌++◌, length, drop, slice_get, refl, arith}
+-- The remaining ranges of the link-edit data, and the commands that have them.
+use Rattle.std.proofs.Common.{◌≡◌, ℕ, zero, suc, ◌+◌, ◌<◌, ◌≤◌, Bool, true, false, Option, Some, None, List, [], ◌∷◌, ◌++◌, length, drop, slice_get, refl, arith}
 use Rattle.std.proofs.lemmas.Grind.{common_steps}
 use Rattle.std.proofs.lemmas.Option.{slice_get_within}
 use Rattle.std.specs.List.{flat_map}
+use Rattle.macho_records.specs.declared.layout.TheConstants.{LOAD_COMMAND_LEN}
+use Rattle.macho_records.specs.declared.link_edit.LinkEdit.{LinkEdit}
+use Rattle.macho_records.specs.declared.link_edit.LinkEditPart.{LinkEditPart}
+use Rattle.macho_records.specs.Kinds.{data_kind, least_by_kind}
+use Rattle.macho_records.specs.LinkEdit.{data_parts, parts_at}
 use Rattle.macho_file.specs.declared.command.Command.{Command}
-use Rattle.macho_file.specs.declared.link_edit.LinkEdit.{LinkEdit}
-use Rattle.macho_file.specs.declared.link_edit.LinkEditPart.{LinkEditPart}
-use Rattle.macho_file.specs.Commands.{data_kind}
-use Rattle.macho_file.specs.LinkEdit.{data_parts, parts_of, parts_of_some}
+use Rattle.macho_file.specs.Commands.{is_segment, least_size}
+use Rattle.macho_file.specs.Known.{IsInside}
+use Rattle.macho_file.specs.LinkEdit.{parts_of, parts_of_some}
 
 -- The ranges of the current command from number next on, and then those of the remaining commands.
 abbrev pub to_come : List ℕ → Option Command → ℕ → List Command → List LinkEditPart
@@ -36,13 +40,13 @@ pub parts_over : (file : List ℕ) (command : Option Command) (next : ℕ) (cs :
     → slice_get (parts_of_some file command) next ≡ None → cs ≡ [] → to_come file command next cs ≡ []
 parts_over file command next cs h is = rw (none_left (parts_of_some file command) next h, is) refl
 
-data_few : (file : List ℕ) (c : Command) (kind : Option LinkEdit) → length (data_parts file c kind) ≤ 5
-data_few file c None = omega arith
-data_few file c (Some kind) = omega arith
+data_few : (file : List ℕ) (place : ℕ) (kind : Option LinkEdit) → length (data_parts file place kind) ≤ 5
+data_few file place None = omega arith
+data_few file place (Some kind) = omega arith
 
 parts_few : (file : List ℕ) (c : Command) → length (parts_of file c) ≤ 5
-unfolding parts_of
-parts_few file c = grind (arith, common_steps, data_few file c (data_kind c.kind))
+unfolding parts_of parts_at
+parts_few file c = grind (arith, common_steps, data_few file c.place (data_kind c.kind))
 
 some_few : (file : List ℕ) (command : Option Command) → length (parts_of_some file command) ≤ 5
 some_few file None = omega arith
@@ -52,3 +56,18 @@ some_few file (Some c) = parts_few file c
 pub few_parts : (file : List ℕ) (command : Option Command) (next : ℕ) (part : LinkEditPart)
     → slice_get (parts_of_some file command) next ≡ Some part → next < 5
 few_parts file command next part h = omega (arith, some_few file command, slice_get_within (parts_of_some file command) next part h)
+
+-- A command has the minimum size of its kind, also if it is a segment.
+least_of_segment : (c : Command) → is_segment c ≡ true → least_by_kind c.kind ≡ LOAD_COMMAND_LEN
+unfolding least_by_kind data_kind
+least_of_segment c is = grind (arith, common_steps)
+
+kind_by : (file : List ℕ) (c : Command) (b : Bool) → is_segment c ≡ b → IsInside file c → c.place + least_by_kind c.kind ≤ length file
+unfolding least_size
+kind_by file c true is known =
+    let least = least_of_segment c is in
+    grind (arith, common_steps, known.least, known.within, least)
+kind_by file c false is known = grind (arith, common_steps, known.least, known.within)
+
+pub kind_within : (file : List ℕ) (c : Command) → IsInside file c → c.place + least_by_kind c.kind ≤ length file
+kind_within file c known = kind_by file c (is_segment c) refl known

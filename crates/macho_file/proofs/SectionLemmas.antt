@@ -3,7 +3,7 @@ use Rattle.std.proofs.Common.{◌≡◌, ℕ, zero, suc, ◌+◌, ◌-◌, ◌<�
 use Rattle.std.specs.List.{flat_map}
 use Rattle.byte_cursor.specs.declared.encoding.Encoding.{Encoding}
 use Rattle.macho_file.specs.declared.command.Command.{Command}
-use Rattle.macho_file.specs.Layout.{encoding_of}
+use Rattle.macho_records.specs.Layout.{encoding_of}
 use Rattle.macho_file.specs.Commands.{is_segment, form_of, segment_len, section_len, section_count_of}
 use Rattle.macho_file.specs.Tables.{SectionRecord, section_at, sections_from, sections_of}
 use Rattle.macho_file.specs.Known.{SameSegments}

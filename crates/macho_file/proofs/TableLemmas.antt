@@ -3,11 +3,12 @@ use Rattle.std.proofs.Common.{◌≡◌, ℕ, zero, suc, ◌+◌, ◌-◌, ◌*�
 use Rattle.std.proofs.lemmas.Grind.{common_steps}
 use Rattle.std.specs.List.{flat_map, find}
 use Rattle.byte_cursor.specs.declared.encoding.Encoding.{Encoding}
-use Rattle.macho_file.specs.declared.constants.TheConstants.{LC_SYMTAB}
+use Rattle.macho_records.specs.declared.constants.TheConstants.{LC_SYMTAB}
 use Rattle.macho_file.specs.declared.command.Command.{Command}
-use Rattle.macho_file.specs.declared.layout.TheConstants.{SYMTAB_COMMAND_LEN}
-use Rattle.macho_file.specs.Layout.{encoding_of, header_len, command_count, commands_end}
-use Rattle.macho_file.specs.Commands.{command_at, commands, commands_from, is_segment, form_of, least_size, least_by_kind, section_count_of, section_len, segment_len}
+use Rattle.macho_records.specs.declared.layout.TheConstants.{SYMTAB_COMMAND_LEN}
+use Rattle.macho_records.specs.Layout.{encoding_of, header_len, command_count, commands_end}
+use Rattle.macho_records.specs.Kinds.{least_by_kind}
+use Rattle.macho_file.specs.Commands.{command_at, commands, commands_from, is_segment, form_of, least_size, section_count_of, section_len, segment_len}
 use Rattle.macho_file.specs.Tables.{sections, sections_from, sections_of, segments, segments_from}
 use Rattle.macho_file.specs.Symbols.{symbol_table}
 use Rattle.macho_file.specs.Known.{HasCommands, IsInside, or_else}

@@ -5,10 +5,11 @@ use Rattle.size_core.specs.Checks.{◌>>◌, Check, first_of}
 use Rattle.size_core.proofs.FirstFault.{first_of_append}
 use Rattle.byte_cursor.specs.declared.encoding.Encoding.{Encoding}
 use Rattle.macho_file.specs.declared.command.Command.{Command}
-use Rattle.macho_file.specs.declared.layout.TheConstants.{LOAD_COMMAND_LEN}
+use Rattle.macho_records.specs.declared.layout.TheConstants.{LOAD_COMMAND_LEN}
 use Rattle.macho_file.specs.Commands.{command_at, commands_from, is_whole}
 use Rattle.macho_file.specs.Checks.{command_checks}
-use Rattle.macho_file.specs.Known.{HasCommands, HasHeader, IsInside, commands_fit}
+use Rattle.macho_records.specs.Header.{HasHeader}
+use Rattle.macho_file.specs.Known.{HasCommands, IsInside, commands_fit}
 
 pub both : (r s : Check) → (r >> s) ≡ Ok tt → (r ≡ Ok tt) × (s ≡ Ok tt)
 both (Ok x) s h = (refl, h)

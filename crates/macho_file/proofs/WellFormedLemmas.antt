@@ -8,7 +8,7 @@ use Rattle.std.proofs.lemmas.Option.{get_or_from_slice_get, slice_get_within}
 use Rattle.size_core.specs.Checks.{first_of}
 use Rattle.byte_cursor.specs.declared.encoding.Encoding.{Encoding}
 use Rattle.macho_file.specs.declared.command.Command.{Command}
-use Rattle.macho_file.specs.Layout.{header_len, command_count}
+use Rattle.macho_records.specs.Layout.{header_len, command_count}
 use Rattle.macho_file.specs.Commands.{command_at, commands_from, is_segment, section_count_of}
 use Rattle.macho_file.specs.Tables.{SectionRecord, SegmentRecord, segment_at, segments, segments_from, sections, sections_of}
 use Rattle.macho_file.specs.Checks.{command_checks, segment_checks, section_fits}

@@ -1,22 +1,13 @@
 -- The checks of a Mach-O file, in order.
-use Rattle.std.specs.Prelude.{ℕ, ◌+◌, ◌^◌, ◌==◌, ◌||◌, not, List, [], ◌∷◌, ◌++◌, length, map, Result, Ok, nat_le, if◌then◌else◌}
+use Rattle.std.specs.Prelude.{ℕ, ◌+◌, ◌^◌, ◌==◌, ◌||◌, not, List, [], ◌∷◌, ◌++◌, length, map, Result, nat_le, if◌then◌else◌}
 use Rattle.std.specs.List.{flat_map}
 use Rattle.size_core.specs.declared.fault.BadFile.{BadFile}
-use Rattle.size_core.specs.declared.fault.Fault.TheVariants.{UnknownFormat, Truncated, TablePastEnd, SectionPastEnd, RangeOverflow, BadCommand}
-use Rattle.size_core.specs.Checks.{◌>>◌, Check, demand, first_of}
+use Rattle.size_core.specs.declared.fault.Fault.TheVariants.{SectionPastEnd, RangeOverflow, BadCommand}
+use Rattle.size_core.specs.Checks.{◌>>◌, Check, demand}
+use Rattle.macho_records.specs.Header.{checked, header_checks}
 use Rattle.macho_file.specs.declared.command.Command.{Command}
-use Rattle.macho_file.specs.Layout.{has_magic, header_len, commands_end}
 use Rattle.macho_file.specs.Commands.{commands, is_segment, is_whole}
 use Rattle.macho_file.specs.Tables.{SectionRecord, segment_at, sections_of}
-
--- The checks of the header: the file begins with a magic number, the header is complete, and the load
--- commands end in the file (mach-o/loader.h: mach_header, mach_header_64).
-unfoldable pub header_checks : List ℕ → List Check
-header_checks file =
-    demand (has_magic file) UnknownFormat 0
-    ∷ demand (nat_le (header_len file) (length file)) Truncated 0
-    ∷ demand (nat_le (commands_end file) (length file)) TablePastEnd (header_len file)
-    ∷ []
 
 -- The check that the addresses of a section end by 2^64, and that its bytes lie in the file
 -- (mach-o/loader.h: section, section_64).
@@ -40,10 +31,6 @@ command_checks file c =
 -- All checks of a Mach-O file: those of the header and of each command.
 unfoldable pub macho_checks : List ℕ → List Check
 macho_checks file = header_checks file ++ flat_map (command_checks file) (commands file)
-
--- The value if the checks hold, or the first fault.
-abbrev pub checked : {X : Type 0} → List Check → X → Result X BadFile
-checked checks x = first_of checks >> Ok x
 
 -- The file, or its first fault.
 abbrev pub opened : List ℕ → Result (List ℕ) BadFile

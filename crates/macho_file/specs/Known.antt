@@ -1,25 +1,18 @@
 -- What a reader knows of a Mach-O file, step by step.
-use Rattle.std.specs.Prelude.{◌≡◌, ℕ, ◌+◌, ◌*◌, ◌^◌, ◌≤◌, ◌<◌, Option, None, Some, List, length, map, Result, Ok}
+use Rattle.std.specs.Prelude.{◌≡◌, ℕ, ◌+◌, ◌≤◌, Option, None, Some, List, length, map, Result, Ok}
 use Rattle.std.specs.List.{flat_map}
 use Rattle.size_core.specs.declared.fault.BadFile.{BadFile}
 use Rattle.size_core.specs.declared.fault.Fault.TheVariants.{BadCommand}
 use Rattle.size_core.specs.Checks.{◌>>◌, Check, demand, first_of}
 use Rattle.byte_cursor.specs.declared.encoding.Encoding.{Encoding}
+use Rattle.macho_records.specs.declared.layout.TheConstants.{SYMTAB_COMMAND_LEN}
+use Rattle.macho_records.specs.Header.{HasHeader}
+use Rattle.macho_records.specs.Layout.{header_len, command_count, commands_end}
 use Rattle.macho_file.specs.declared.command.Command.{Command}
-use Rattle.macho_file.specs.declared.symbol_table.SymbolTable.{SymbolTable}
-use Rattle.macho_file.specs.declared.layout.TheConstants.{SYMTAB_COMMAND_LEN}
-use Rattle.macho_file.specs.Layout.{encoding_of, header_len, command_count, commands_end}
 use Rattle.macho_file.specs.Commands.{commands_from, least_size, is_whole}
 use Rattle.macho_file.specs.Tables.{segments, segments_from, sections, sections_from, sections_of}
 use Rattle.macho_file.specs.Checks.{command_checks, section_fits}
-use Rattle.macho_file.specs.Symbols.{symbol_len, symbol_table}
-
--- The class and the byte order are known, the header is complete, and the load commands end in the file.
-pub record HasHeader (file : List ℕ) (e : Encoding) : Type 0 where
-  pub encoding_is : e ≡ encoding_of file
-  pub whole : header_len file ≤ length file
-  pub ends : commands_end file ≤ length file
-  pub small : length file < 2 ^ 32
+use Rattle.macho_file.specs.Symbols.{symbol_table}
 
 -- The check that a loop makes of this many sections, whose headers follow one another from file offset
 -- place on.
@@ -54,11 +47,6 @@ IsSomeInside file (Some c) = IsInside file c
 abbrev pub IsSomeTable : List ℕ → Option Command → Type 0
 IsSomeTable file None = Unit {0}
 IsSomeTable file (Some c) = c.place + SYMTAB_COMMAND_LEN ≤ length file
-
--- The symbols and the string table of a symbol table lie in the file.
-pub record HasTable (file : List ℕ) (t : SymbolTable) : Type 0 where
-  pub symbols : t.symoff + t.nsyms * symbol_len file ≤ length file
-  pub names : t.stroff + t.strsize ≤ length file
 
 -- The first of two values that exists.
 abbrev pub or_else : {X : Type 0} → Option X → Option X → Option X

@@ -1,13 +1,9 @@
 pub mod Checks
 pub mod Commands
-pub mod Index
 pub mod Known
-pub mod Layout
 pub mod LinkEdit
-pub mod Names
 pub mod Shown
 pub mod Spans
 pub mod Symbols
 pub mod Tables
-pub mod Taken
 pub mod WellFormed

@@ -1,13 +1,11 @@
 -- Segments, sections, symbols and spans as contracts see them.
+use Rattle.macho_symbols.specs.Spans.{SpanRecord}
+use Rattle.macho_symbols.specs.Symbols.{SymbolRecord}
 use Rattle.macho_file.specs.declared.segment.MachoSegment.{MachoSegment}
 use Rattle.macho_file.specs.declared.section.MachoSection.{MachoSection}
 use Rattle.macho_file.specs.declared.symbol.MachoSymbol.{MachoSymbol}
-use Rattle.macho_file.specs.declared.symbol.PlacedSymbol.{PlacedSymbol}
-use Rattle.macho_file.specs.declared.spans.NamedSpan.{NamedSpan}
 use Rattle.macho_file.specs.declared.spans.SymbolSpan.{SymbolSpan}
-use Rattle.macho_file.specs.Spans.{SpanRecord}
 use Rattle.macho_file.specs.Tables.{SegmentRecord, SectionRecord}
-use Rattle.macho_file.specs.Symbols.{SymbolRecord}
 
 -- A segment as contracts see it.
 abbrev pub segment_shown : MachoSegment → SegmentRecord
@@ -21,14 +19,6 @@ section_shown s = record { place = s.place; segment = s.segment.now; name = s.na
 abbrev pub symbol_shown : MachoSymbol → SymbolRecord
 symbol_shown s = record { place = s.place; name = s.name.now; kind = s.kind; sect = s.sect; value = s.value }
 
--- The same of a symbol with the file offset of its name.
-abbrev pub placed_shown : PlacedSymbol → SymbolRecord
-placed_shown s = record { place = s.place; name = s.name.now; kind = s.kind; sect = s.sect; value = s.value }
-
 -- The span of a symbol as contracts see it.
 abbrev pub span_shown : SymbolSpan → SpanRecord
 span_shown s = record { name = s.name.now; start = s.start; len = s.len }
-
--- The same of a span with the file offset of its name.
-abbrev pub named_shown : NamedSpan → SpanRecord
-named_shown s = record { name = s.name.now; start = s.start; len = s.len }

@@ -1,14 +1,15 @@
 -- The segments and sections of a Mach-O file (mach-o/loader.h: segment_command, section).
-use Rattle.std.specs.Prelude.{ℕ, zero, suc, ◌+◌, ◌==◌, ◌||◌, ◌&&◌, not, bit_and, Bool, List, [], ◌∷◌, take, drop, codes, slice_get, unwrap_or, if◌then◌else◌}
+use Rattle.std.specs.Prelude.{ℕ, zero, suc, ◌+◌, ◌==◌, ◌||◌, ◌&&◌, not, Bool, List, [], ◌∷◌, take, drop, codes, slice_get, unwrap_or, if◌then◌else◌}
 use Rattle.std.specs.List.{flat_map}
 use Rattle.std.specs.Option.{option_map}
 use Rattle.std.specs.Str.{bytes_eq}
 use Rattle.byte_cursor.specs.declared.encoding.Encoding.{Encoding}
 use Rattle.byte_cursor.specs.Encoding.{four, pick, word}
+use Rattle.macho_records.specs.declared.constants.TheConstants.{MH_DSYM}
+use Rattle.macho_records.specs.declared.layout.TheConstants.{SEGMENT_SEGNAME, SEGMENT_VMADDR, SEGMENT_VMSIZE, SEGMENT_FILEOFF, SEGMENT_FILESIZE, SEGMENT_MAXPROT, SECTION_SEGNAME, SECTION_OFFSET, SECTION_FLAGS, SECTION_SECTNAME, SECTION_ADDR, SECTION_SIZE}
+use Rattle.macho_records.specs.Kinds.{is_zero_filled}
+use Rattle.macho_records.specs.Layout.{encoding_of, file_type, name_16}
 use Rattle.macho_file.specs.declared.command.Command.{Command}
-use Rattle.macho_file.specs.declared.constants.TheConstants.{MH_DSYM, SECTION_TYPE, S_ZEROFILL, S_GB_ZEROFILL, S_THREAD_LOCAL_ZEROFILL}
-use Rattle.macho_file.specs.declared.layout.TheConstants.{SEGMENT_SEGNAME, SEGMENT_VMADDR, SEGMENT_VMSIZE, SEGMENT_FILEOFF, SEGMENT_FILESIZE, SEGMENT_MAXPROT, SECTION_SEGNAME, SECTION_OFFSET, SECTION_FLAGS, SECTION_SECTNAME, SECTION_ADDR, SECTION_SIZE}
-use Rattle.macho_file.specs.Layout.{encoding_of, file_type, name_16}
 use Rattle.macho_file.specs.Commands.{commands, is_segment, form_of, segment_len, section_len, section_count_of}
 
 -- A segment (mach-o/loader.h: segment_command, segment_command_64).
@@ -48,12 +49,6 @@ segment_at file c first = let form = form_of (encoding_of file) c in record {
   first = first;
   count = section_count_of file c;
 }
-
--- The section type in flags is one of the zero-filled types (mach-o/loader.h: S_ZEROFILL, S_GB_ZEROFILL,
--- S_THREAD_LOCAL_ZEROFILL).
-abbrev pub is_zero_filled : ℕ → Bool
-is_zero_filled flags = let type = bit_and flags SECTION_TYPE in
-    type == S_ZEROFILL || type == S_GB_ZEROFILL || type == S_THREAD_LOCAL_ZEROFILL
 
 -- The bytes of a section are in the file: it isn't zero-filled, its offset isn't 0, and in a companion file
 -- of debug information (MH_DSYM) its segment is __DWARF (mach-o/loader.h: section, section_64).

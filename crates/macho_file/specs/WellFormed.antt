@@ -1,7 +1,7 @@
 -- What is known of a Mach-O file whose checks hold.
 use Rattle.std.specs.Prelude.{◌≡◌, ◌≢◌, ℕ, ◌+◌, ◌^◌, ◌≤◌, All, List, length, true}
+use Rattle.macho_records.specs.Layout.{header_len, commands_end}
 use Rattle.macho_file.specs.declared.command.Command.{Command}
-use Rattle.macho_file.specs.Layout.{header_len, commands_end}
 use Rattle.macho_file.specs.Commands.{commands}
 use Rattle.macho_file.specs.Tables.{SegmentRecord, SectionRecord, segments, sections}
 

@@ -1,68 +1,25 @@
-//! The checks of a file, step by step.
+//! The checks of load commands, segments and sections.
 
-ghost use Rattle.std.specs.Prelude.{◌≡◌, ◌+◌, ◌*◌, ◌≤◌, ◌<◌, ◌^◌, length, map, true, IfOk, nat_lt};
+ghost use Rattle.std.specs.Prelude.{◌≡◌, ◌+◌, ◌*◌, ◌≤◌, ◌^◌, length, map, true, IfOk, nat_lt};
 ghost use Rattle.size_core.specs.Checks.{first_of};
-ghost use Rattle.macho_file.specs.Layout.{encoding_of, header_len, command_count, commands_end};
+ghost use Rattle.macho_records.specs.Header.{HasHeader, checked};
+ghost use Rattle.macho_records.specs.Layout.{header_len, command_count, commands_end};
 ghost use Rattle.macho_file.specs.Commands.{command_at, is_segment, section_count_of, section_len};
 ghost use Rattle.macho_file.specs.Tables.{sections_of};
-ghost use Rattle.macho_file.specs.Checks.{checked, command_checks, header_checks, section_fits, segment_checks};
-ghost use Rattle.macho_file.specs.Known.{HasHeader, IsInside, checked_command, commands_fit, sections_fit};
+ghost use Rattle.macho_file.specs.Checks.{command_checks, section_fits, segment_checks};
+ghost use Rattle.macho_file.specs.Known.{IsInside, checked_command, commands_fit, sections_fit};
 ghost use Rattle.macho_file.specs.Shown.{section_shown};
 
 use crate::command::{Command, command_at};
-use crate::constants::{MH_MAGIC, MH_MAGIC_64};
-use crate::layout::{
-    HEADER_NCMDS, HEADER_SIZEOFCMDS, LOAD_COMMAND_LEN, MACH_HEADER_LEN, SECTION_LEN,
-    SEGMENT_COMMAND_LEN,
-};
 use crate::section::{MachoSection, section_at};
 use crate::segment::segment_at;
 use crate::sizes::has_least_size;
-use byte_cursor::{Encoding, Order, u32_at};
+use byte_cursor::Encoding;
+use macho_records::{
+    HEADER_NCMDS, HEADER_SIZEOFCMDS, LOAD_COMMAND_LEN, MACH_HEADER_LEN, SECTION_LEN,
+    SEGMENT_COMMAND_LEN,
+};
 use size_core::{BadFile, Fault};
-
-/// Returns the class and the byte order. Checks that the header is complete and that the load commands end
-/// in the file.
-#[tactic(auto, unfolding(crate::specs::Checks::header_checks, crate::specs::Layout::encoding_of, crate::specs::Layout::has_magic))]
-pub fn encoding(file: &[u8]) -> Result<Encoding, BadFile>
-    requires { length file.now < 2 ^ 32 }
-    ensures value { result ≡ checked (header_checks file.now) (encoding_of file.now) }
-    ensures known { IfOk result (λ e. HasHeader file.now e) }
-{
-    let unknown = BadFile {
-        fault: Fault::UnknownFormat,
-        offset: 0,
-    };
-    if file.len() < 4 {
-        return Err(unknown);
-    }
-    let little = u32_at(file, 0, Order::Little);
-    let big = u32_at(file, 0, Order::Big);
-    let is_little = little == MH_MAGIC || little == MH_MAGIC_64;
-    let is_big = big == MH_MAGIC || big == MH_MAGIC_64;
-    if !is_little && !is_big {
-        return Err(unknown);
-    }
-    let encoding = Encoding {
-        wide: little == MH_MAGIC_64 || big == MH_MAGIC_64,
-        order: if is_big { Order::Big } else { Order::Little },
-    };
-    let size = file.len() as u64;
-    let header = encoding.pick(MACH_HEADER_LEN);
-    if size < header {
-        return Err(BadFile {
-            fault: Fault::Truncated,
-            offset: 0,
-        });
-    }
-    if size - header < encoding.four(file, 0, HEADER_SIZEOFCMDS) as u64 {
-        return Err(BadFile {
-            fault: Fault::TablePastEnd,
-            offset: header,
-        });
-    }
-    Ok(encoding)
-}
 
 /// Returns whether `size` bytes from a virtual address on end after 2^64.
 fn passes_end(addr: u64, size: u64) -> bool

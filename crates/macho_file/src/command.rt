@@ -1,12 +1,11 @@
 //! Load commands.
 
 ghost use Rattle.std.specs.Prelude.{◌≡◌, ◌+◌, ◌≤◌, ◌<◌, ◌^◌, length};
-ghost use Rattle.macho_file.specs.Layout.{encoding_of};
+ghost use Rattle.macho_records.specs.Layout.{encoding_of};
 ghost use Rattle.macho_file.specs.Commands.{command_at, is_segment, form_of};
 
-use crate::constants::{LC_SEGMENT, LC_SEGMENT_64};
-use crate::layout::{COMMAND_CMD, COMMAND_CMDSIZE, LOAD_COMMAND_LEN};
 use byte_cursor::Encoding;
+use macho_records::{COMMAND_CMD, COMMAND_CMDSIZE, LC_SEGMENT, LC_SEGMENT_64, LOAD_COMMAND_LEN};
 
 /// A load command (`load_command`).
 #[derive(Clone, Copy, Debug, PartialEq, Eq, Hash)]

@@ -2,38 +2,37 @@
 
 ghost use Rattle.std.specs.Prelude.{◌≡◌, ◌<◌, ◌^◌, All, length, map, MatchResult, OnOk, IfOk, IsOkAnd, Some, Ok, Err, slice_get};
 ghost use Rattle.size_core.specs.Checks.{AllHold, Gives, IsFirstFault};
-ghost use Rattle.macho_file.specs.Layout.{command_count, commands_size, encoding_of, file_type, header_len};
+ghost use Rattle.macho_records.specs.Layout.{command_count, commands_size, encoding_of, file_type, header_len};
 ghost use Rattle.macho_file.specs.Commands.{command_bytes_at, commands};
 ghost use Rattle.macho_file.specs.Tables.{section_bytes_at, sections, segments};
 ghost use Rattle.macho_file.specs.LinkEdit.{link_edit_parts};
 ghost use Rattle.macho_file.specs.Symbols.{symbol_at, symbol_count, table};
 ghost use Rattle.macho_file.specs.Checks.{macho_checks, opened};
-ghost use Rattle.macho_file.specs.Known.{HasTable};
 ghost use Rattle.macho_file.specs.WellFormed.{Fits, HasAddresses, IsWellFormed};
-ghost use Rattle.macho_file.specs.Names.{AreNamedSpans, IsNamed};
-ghost use Rattle.macho_file.specs.Shown.{named_shown, section_shown, segment_shown, span_shown, symbol_shown};
+ghost use Rattle.macho_file.specs.Shown.{section_shown, segment_shown, span_shown, symbol_shown};
 ghost use Rattle.macho_file.specs.Spans.{spans};
-ghost use Rattle.macho_file.specs.Taken.{ForBad};
+ghost use Rattle.macho_symbols.specs.Names.{AreNamedSpans};
+ghost use Rattle.macho_symbols.specs.Shown.{named_shown};
+ghost use Rattle.macho_symbols.specs.Symbols.{HasTable};
+ghost use Rattle.macho_symbols.specs.Taken.{ForBad};
 
-use crate::answer::SpanAnswer;
-use crate::checks::{commands_fit, encoding};
+use crate::checks::commands_fit;
 use crate::command::Command;
 use crate::commands::Commands;
-use crate::extent::extents_of;
-use crate::layout::{HEADER_FILETYPE, HEADER_NCMDS, HEADER_SIZEOFCMDS, MACH_HEADER_LEN};
+use crate::extents::extents_of;
 use crate::link_edit_parts::LinkEditParts;
 use crate::lookup::{command_of, section_of, segment_of};
 use crate::section::MachoSection;
 use crate::sections::Sections;
 use crate::segment::MachoSegment;
 use crate::segments::Segments;
-use crate::span_symbols::symbols_taking_part;
-use crate::spans::{NamedSpan, SymbolSpan, spans_of, without_offsets};
+use crate::spans::{SymbolSpan, without_offsets};
 use crate::survey::{Survey, count_tables};
-use crate::symbol::MachoSymbol;
-use crate::symbol_table::{SymbolTable, symbol_of, table_of};
+use crate::symbol::{MachoSymbol, table_of};
 use crate::walk::Walk;
 use byte_cursor::{Encoding, Order};
+use macho_records::{HEADER_FILETYPE, HEADER_NCMDS, HEADER_SIZEOFCMDS, MACH_HEADER_LEN, encoding};
+use macho_symbols::{NamedSpan, SpanAnswer, SymbolTable, spans_of_table, symbol_of};
 use size_core::BadFile;
 use std::alloc::Global;
 use std::marker::Model;
@@ -292,7 +291,8 @@ impl<'a> MachoFile<'a> {
         ensures { Gives symbol_shown result (symbol_at self.now k) }
     {
         let table = self.table()?;
-        symbol_of(self.file, self.encoding, table, k)
+        let symbol = symbol_of(self.file, self.encoding, table, k)?;
+        Ok(MachoSymbol::of(symbol))
     }
 
     /// Returns the spans of symbols, in symbol table order. A symbol takes part if it isn't for a debugger,
@@ -311,7 +311,7 @@ impl<'a> MachoFile<'a> {
     }
 
     /// Returns the same spans, each with the file offset of its name.
-    #[tactic(auto, using(crate::proofs::SpanLemmas::spans_is, crate::proofs::SpanLemmas::taken_part))]
+    #[tactic(auto, unfolding(crate::specs::Spans::spans))]
     pub fn named_spans(&self, alloc: Global) -> Result<Vec<NamedSpan<'a>>, SpanAnswer>
         ensures spans { MatchResult result
             (λ v. spans self.now ≡ Ok (map named_shown v.items))
@@ -320,8 +320,7 @@ impl<'a> MachoFile<'a> {
     {
         let table = self.table()?;
         let extents = extents_of(alloc, self.sections())?;
-        let taking = symbols_taking_part(alloc, self.file, self.encoding, table, &extents)?;
-        let spans = spans_of(alloc, &extents, &taking)?;
+        let spans = spans_of_table(alloc, self.file, self.encoding, table, &extents)?;
         Ok(spans)
     }
 }

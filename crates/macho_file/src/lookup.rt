@@ -8,11 +8,11 @@ ghost use Rattle.macho_file.specs.Known.{IsInside};
 ghost use Rattle.macho_file.specs.Shown.{section_shown, segment_shown};
 
 use crate::command::Command;
-use crate::layout::{SECTION_LEN, SEGMENT_COMMAND_LEN};
 use crate::section::{MachoSection, section_at};
 use crate::segment::{MachoSegment, section_count_of};
 use crate::segments::{Segments, next_segment};
 use crate::walk::Walk;
+use macho_records::{SECTION_LEN, SEGMENT_COMMAND_LEN};
 
 /// Returns command `k` of the remaining ones.
 #[tactic(auto, using(crate::proofs::LookupLemmas::first_is, crate::proofs::LookupLemmas::next_is))]

@@ -1,18 +1,16 @@
 //! Sections.
 
 ghost use Rattle.std.specs.Prelude.{◌≡◌, ◌+◌, ◌≤◌, ◌<◌, ◌^◌, length};
-ghost use Rattle.macho_file.specs.Layout.{encoding_of, header_len};
+ghost use Rattle.macho_records.specs.Layout.{encoding_of, header_len};
 ghost use Rattle.macho_file.specs.Commands.{section_len};
-ghost use Rattle.macho_file.specs.Tables.{is_in_file, is_zero_filled, section_at};
+ghost use Rattle.macho_file.specs.Tables.{is_in_file, section_at};
 ghost use Rattle.macho_file.specs.Shown.{section_shown};
 
-use crate::constants::{MH_DSYM, S_GB_ZEROFILL, S_THREAD_LOCAL_ZEROFILL, S_ZEROFILL, SECTION_TYPE};
-use crate::layout::{
-    HEADER_FILETYPE, SECTION_ADDR, SECTION_FLAGS, SECTION_OFFSET, SECTION_SECTNAME,
-    SECTION_SEGNAME, SECTION_SIZE,
-};
-use crate::segment::name_16;
 use byte_cursor::Encoding;
+use macho_records::{
+    HEADER_FILETYPE, MH_DSYM, SECTION_ADDR, SECTION_FLAGS, SECTION_OFFSET, SECTION_SECTNAME,
+    SECTION_SEGNAME, SECTION_SIZE, is_zero_filled, name_16,
+};
 
 /// A section (`section`, `section_64`).
 #[derive(Clone, Copy, Debug)]
@@ -33,14 +31,6 @@ pub struct MachoSection<'a> {
     pub flags: u32,
     /// Whether its bytes are in this file.
     pub in_file: bool,
-}
-
-/// Returns whether the section type in `flags` is one of the zero-filled types.
-fn is_zero_filled(flags: u32) -> bool
-    ensures { result ≡ is_zero_filled flags }
-{
-    let kind = flags & SECTION_TYPE;
-    kind == S_ZEROFILL || kind == S_GB_ZEROFILL || kind == S_THREAD_LOCAL_ZEROFILL
 }
 
 /// Returns whether the bytes of a section are in the file.

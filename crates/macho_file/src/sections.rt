@@ -6,12 +6,12 @@ ghost use Rattle.std.specs.List.{flat_map};
 ghost use Rattle.macho_file.specs.Tables.{sections_of};
 ghost use Rattle.macho_file.specs.Shown.{section_shown};
 
-use crate::layout::{SECTION_LEN, SEGMENT_COMMAND_LEN};
 use crate::section::{MachoSection, section_at};
 use crate::segment::section_count_of;
 use crate::segments::next_segment;
 use crate::walk::Walk;
 use byte_cursor::Encoding;
+use macho_records::{SECTION_LEN, SEGMENT_COMMAND_LEN};
 use std::marker::Model;
 
 /// The sections of all segments that `next` has not returned yet, in file order.

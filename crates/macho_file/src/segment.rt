@@ -1,17 +1,17 @@
 //! Segments.
 
 ghost use Rattle.std.specs.Prelude.{◌≡◌, ◌+◌, ◌≤◌, ◌<◌, ◌^◌, length};
-ghost use Rattle.macho_file.specs.Layout.{encoding_of, name_16};
+ghost use Rattle.macho_records.specs.Layout.{encoding_of};
 ghost use Rattle.macho_file.specs.Commands.{form_of, section_count_of, segment_len};
 ghost use Rattle.macho_file.specs.Tables.{segment_at};
 ghost use Rattle.macho_file.specs.Shown.{segment_shown};
 
 use crate::command::Command;
-use crate::layout::{
+use byte_cursor::Encoding;
+use macho_records::{
     SEGMENT_FILEOFF, SEGMENT_FILESIZE, SEGMENT_MAXPROT, SEGMENT_NSECTS, SEGMENT_SEGNAME,
-    SEGMENT_VMADDR, SEGMENT_VMSIZE,
+    SEGMENT_VMADDR, SEGMENT_VMSIZE, name_16,
 };
-use byte_cursor::{Encoding, text_at};
 
 /// A segment (`segment_command`, `segment_command_64`).
 #[derive(Clone, Copy, Debug)]
@@ -34,20 +34,6 @@ pub struct MachoSegment<'a> {
     pub first: u32,
     /// `nsects`, the number of its sections.
     pub count: u32,
-}
-
-/// Returns the name in the 16 bytes at file offset `at`. A name of 16 bytes has no terminating zero byte.
-#[tactic(auto, unfolding(crate::specs::Layout::name_16))]
-pub fn name_16(file: &[u8], at: u64) -> &[u8]
-    requires within { at + 16 ≤ length file.now }
-    requires small { length file.now < 2 ^ 32 }
-    ensures { result.now ≡ name_16 file.now at }
-{
-    let bytes = &file[at as usize..at as usize + 16];
-    match text_at(bytes, 0) {
-        Some(name) => name,
-        None => bytes,
-    }
 }
 
 /// Returns the number of sections of a segment command.

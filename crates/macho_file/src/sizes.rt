@@ -1,45 +1,13 @@
 //! The minimum sizes of load commands.
 
 ghost use Rattle.std.specs.Prelude.{◌≡◌, ◌+◌, ◌≤◌, ◌<◌, ◌^◌, length, nat_le};
-ghost use Rattle.macho_file.specs.Layout.{encoding_of};
-ghost use Rattle.macho_file.specs.Commands.{is_dyld_info, least_by_kind, least_size};
+ghost use Rattle.macho_records.specs.Layout.{encoding_of};
+ghost use Rattle.macho_file.specs.Commands.{least_size};
 
 use crate::command::Command;
-use crate::constants::{LC_DYLD_INFO, LC_DYLD_INFO_ONLY, LC_DYSYMTAB, LC_SYMTAB, LC_UUID};
-use crate::layout::{
-    DYLD_INFO_COMMAND_LEN, DYSYMTAB_COMMAND_LEN, LINKEDIT_DATA_COMMAND_LEN, LOAD_COMMAND_LEN,
-    SECTION_LEN, SEGMENT_COMMAND_LEN, SYMTAB_COMMAND_LEN, UUID_COMMAND_LEN,
-};
-use crate::link_edit::data_kind;
 use crate::segment::section_count_of;
 use byte_cursor::Encoding;
-
-/// Returns whether a command of this kind is a `dyld_info_command`.
-pub fn is_dyld_info(kind: u32) -> bool
-    ensures { result ≡ is_dyld_info kind }
-{
-    kind == LC_DYLD_INFO || kind == LC_DYLD_INFO_ONLY
-}
-
-/// Returns the minimum size in bytes of a command that isn't a segment, by its kind.
-#[tactic(auto, unfolding(crate::specs::Commands::least_by_kind))]
-fn least_by_kind(kind: u32) -> u64
-    ensures { result ≡ least_by_kind kind }
-{
-    if kind == LC_SYMTAB {
-        SYMTAB_COMMAND_LEN
-    } else if kind == LC_DYSYMTAB {
-        DYSYMTAB_COMMAND_LEN
-    } else if kind == LC_UUID {
-        UUID_COMMAND_LEN
-    } else if is_dyld_info(kind) {
-        DYLD_INFO_COMMAND_LEN
-    } else if data_kind(kind).is_some() {
-        LINKEDIT_DATA_COMMAND_LEN
-    } else {
-        LOAD_COMMAND_LEN
-    }
-}
+use macho_records::{SECTION_LEN, SEGMENT_COMMAND_LEN, least_by_kind};
 
 /// Returns whether a command that lies in the file has at least the minimum size of its kind.
 #[tactic(auto, unfolding(crate::specs::Commands::least_size))]

@@ -1,17 +1,18 @@
 //! Counts the tables of a file once.
 
 ghost use Rattle.std.specs.Prelude.{◌≡◌, ◌+◌, ◌<◌, ◌^◌, ◌==◌, None, Some, length, true, if◌then◌else◌};
-ghost use Rattle.macho_file.specs.Layout.{encoding_of, header_len, command_count};
+ghost use Rattle.macho_records.specs.Header.{HasHeader};
+ghost use Rattle.macho_records.specs.Layout.{encoding_of, header_len, command_count};
 ghost use Rattle.macho_file.specs.Commands.{is_segment};
 ghost use Rattle.macho_file.specs.Tables.{sections, sections_of, segments};
 ghost use Rattle.macho_file.specs.Symbols.{symbol_table};
-ghost use Rattle.macho_file.specs.Known.{HasCommands, HasHeader, IsInside, IsSomeTable, or_else};
+ghost use Rattle.macho_file.specs.Known.{HasCommands, IsInside, IsSomeTable, or_else};
 
 use crate::command::Command;
-use crate::constants::LC_SYMTAB;
 use crate::segment::section_count_of;
 use crate::walk::Walk;
 use byte_cursor::Encoding;
+use macho_records::LC_SYMTAB;
 
 /// The numbers of segments and sections, and the first command with a symbol table.
 #[derive(Clone, Copy)]

@@ -2,14 +2,15 @@
 
 ghost use Rattle.std.specs.Prelude.{◌≡◌, [], ◌∷◌, MatchOption, IfSome, Ok};
 ghost use Rattle.size_core.specs.Checks.{first_of};
-ghost use Rattle.macho_file.specs.Layout.{encoding_of, header_len, command_count};
+ghost use Rattle.macho_records.specs.Header.{HasHeader};
+ghost use Rattle.macho_records.specs.Layout.{encoding_of, header_len, command_count};
 ghost use Rattle.macho_file.specs.Commands.{commands};
 ghost use Rattle.macho_file.specs.Checks.{command_checks};
-ghost use Rattle.macho_file.specs.Known.{HasCommands, HasHeader, IsInside};
+ghost use Rattle.macho_file.specs.Known.{HasCommands, IsInside};
 
 use crate::command::{Command, command_at};
-use crate::layout::{HEADER_NCMDS, MACH_HEADER_LEN};
 use byte_cursor::Encoding;
+use macho_records::{HEADER_NCMDS, MACH_HEADER_LEN};
 use std::marker::Model;
 
 /// A file, and its commands that `next` has not returned yet. All of them are checked.

@@ -9,9 +9,9 @@ use Rattle.std.specs.List.Sorted.{IsStrictlySortedBy}
 use Rattle.std.proofs.lemmas.Cmp.{tied_itself}
 use Rattle.std.proofs.lemmas.List.{get_or-map, length-map, drop_more}
 use Rattle.std.proofs.lemmas.List.Elements.{All-from_recursion, All-head, All-tail}
-use Rattle.rollup.proofs.Paths.{same_list, same_number}
-use Rattle.rollup.specs.Totals.{row_cmp}
-use Rattle.rollup.specs.declared.table.RollupRow.{RollupRow}
+use Rattle.path_rows.proofs.Paths.{same_list, same_number}
+use Rattle.path_rows.specs.Paths.{row_cmp}
+use Rattle.path_rows.specs.declared.row.RollupRow.{RollupRow}
 use Rattle.report_rows.specs.Groups.{row_from, table_at, labels_at}
 
 -- Each path has a label at the level.

@@ -15,8 +15,8 @@ use Rattle.std.proofs.lemmas.List.Sums.{sum_by-append}
 use Rattle.std.proofs.lemmas.Simd.{map-map}
 use Rattle.report_rows.specs.declared.row.RowKind.TheVariants.{Others}
 use Rattle.report_rows.proofs.LimitLemmas.{within-all}
-use Rattle.rollup.specs.Totals.{row_cmp, path_cmp}
-use Rattle.rollup.specs.declared.table.RollupRow.{RollupRow}
+use Rattle.path_rows.specs.Paths.{row_cmp, path_cmp}
+use Rattle.path_rows.specs.declared.row.RollupRow.{RollupRow}
 use Rattle.report_rows.specs.declared.groups.Group.{Group}
 use Rattle.report_rows.specs.declared.row.RowOptions.{RowOptions}
 use Rattle.report_rows.specs.Groups.{row_from, table_at, group_label, group_entry, others_group, Fits, IsPart, IsGroup, IsRange}

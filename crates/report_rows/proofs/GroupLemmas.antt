@@ -5,7 +5,7 @@ use Rattle.std.specs.List.{sum_by}
 use Rattle.std.proofs.lemmas.Bool.{cases_lt}
 use Rattle.std.proofs.lemmas.List.{get_or-map, get_or-drop, length-map, length-drop, drop-map, take-map, take_rest}
 use Rattle.std.proofs.lemmas.List.Sums.{sum_by-cons, sum_by-take-le, sum_by-take-drop}
-use Rattle.rollup.specs.declared.table.RollupRow.{RollupRow}
+use Rattle.path_rows.specs.declared.row.RollupRow.{RollupRow}
 use Rattle.report_rows.specs.declared.row.RowKind.{RowKind}
 use Rattle.report_rows.specs.declared.row.RowKind.TheVariants.{Label}
 use Rattle.report_rows.specs.declared.groups.Kind.TheVariants as kinds

@@ -5,7 +5,7 @@ use Rattle.std.specs.Str.{bytes_eq}
 use Rattle.std.proofs.lemmas.Bool.{cases_Bool}
 use Rattle.std.proofs.lemmas.List.{get_or-map, get_or-take, get_or-drop, length-take-le, length-drop, take-append-drop, drop-drop, map-append, append-nil, append_assoc}
 use Rattle.std.proofs.lemmas.List.Elements.{All-head, All-tail}
-use Rattle.rollup.specs.declared.table.RollupRow.{RollupRow}
+use Rattle.path_rows.specs.declared.row.RollupRow.{RollupRow}
 use Rattle.report_rows.specs.Groups.{row_from, table_at, labels_at}
 use Rattle.report_rows.specs.Tables.{Table, without, under, with_first, first_labels}
 use Rattle.report_rows.proofs.TableLemmas.{has, same_bytes, bytes_eq-same}

@@ -4,7 +4,7 @@ use Rattle.size_core.specs.declared.choices.Domain.{Domain}
 use Rattle.size_core.specs.declared.choices.Domain.TheVariants as domains
 use Rattle.size_core.specs.declared.choices.Sort.{Sort}
 use Rattle.size_core.specs.declared.choices.Sort.TheVariants as sorts
-use Rattle.rollup.specs.declared.table.RollupRow.{RollupRow}
+use Rattle.path_rows.specs.declared.row.RollupRow.{RollupRow}
 use Rattle.report_rows.specs.declared.row.RowOptions.{RowOptions}
 use Rattle.report_rows.specs.declared.row.RowKind.TheVariants.{Label, Others}
 use Rattle.report_rows.specs.declared.row.Row.{Row}

@@ -7,7 +7,7 @@ use Rattle.std.specs.declared.cmp.Ordering.{Ordering}
 use Rattle.std.specs.declared.cmp.Ordering.TheVariants.{Less, Equal, Greater}
 use Rattle.std.proofs.Math.Nat.{mul-le-mul_right}
 use Rattle.rollup.specs.Order.{digits_after}
-use Rattle.rollup.proofs.Paths.{nat_greater, nat_less, nat_same}
+use Rattle.path_rows.proofs.Paths.{nat_greater, nat_less, nat_same}
 
 pub digits_push : (base n : ℕ) (xs : List ℕ) (x : ℕ) → digits_after base n (xs ++ x ∷ []) ≡ digits_after base n xs * base + x
 digits_push base n [] x = refl

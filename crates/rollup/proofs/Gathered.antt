@@ -1,22 +1,18 @@
 -- Sizes by numbers of labels: growth, and what the entries weigh.
-use Rattle.std.proofs.Common.{◌^◌, ◌≡◌, ◌+◌, ◌<◌, ◌≤◌, ℕ, zero, suc, Bool, true, false, cond, ◌&&◌, List, [], ◌∷◌, ◌++◌, length, get_or, set, slice_get, position, Some, option_map, refl, sym, ap, subst, ◌∙◌, inl, inr, ◌⊎◌, map, arith}
+use Rattle.std.proofs.Common.{◌^◌, ◌≡◌, ◌+◌, ◌<◌, ◌≤◌, ℕ, zero, suc, Bool, true, false, cond, ◌&&◌, List, [], ◌∷◌, length, get_or, set, Some, refl, sym, ap, subst, ◌∙◌, inl, inr, ◌⊎◌, map, arith}
 use Rattle.std.specs.List.{sum_by}
 use Rattle.std.specs.Prelude.{All}
-use Rattle.std.specs.Str.{bytes_eq}
 use Rattle.std.proofs.lemmas.List.Sums.{sum_by-cons, sum_by_push, sum_by-set}
 use Rattle.std.proofs.lemmas.List.Elements.{All-push}
-use Rattle.std.proofs.lemmas.List.Quantifiers.{position-Some}
-use Rattle.std.proofs.lemmas.List.{get_or-set_other, get_or-set_same, length-set, length-map, map-append}
-use Rattle.std.proofs.lemmas.Option.{slice_get_within, slice_get-map, get_or_from_slice_get}
-use Rattle.std.proofs.lemmas.Slice.Eq.{bytes_eq-Decides}
+use Rattle.std.proofs.lemmas.List.{get_or-set_other, get_or-set_same, length-set}
 use Rattle.std.proofs.lemmas.Bool.{cases_eq}
 use Rattle.rollup.specs.declared.cursor.Part.{Part}
 use Rattle.rollup.specs.declared.cursor.Part.TheVariants.{File, Vm}
 use Rattle.rollup.specs.declared.sizes.Sizes.{Sizes}
 use Rattle.size_model.specs.Numbered.{text_of}
-use Rattle.rollup.specs.declared.table.RollupRow.{RollupRow}
-use Rattle.rollup.specs.Rows.{FitTogether}
-use Rattle.rollup.specs.Sizes.{row_of, Entry, no_entry, entry_of, size_in, part_of, other, sizes_of, grown_sizes, grown, weight, IsGrown, IsGrownIf, IsEntry}
+use Rattle.path_rows.specs.declared.row.RollupRow.{RollupRow}
+use Rattle.path_rows.specs.Rows.{FitTogether}
+use Rattle.rollup.specs.Sizes.{row_of, Entry, no_entry, entry_of, size_in, other, sizes_of, grown_sizes, grown, weight, IsGrown, IsGrownIf, IsEntry}
 
 same : {A : Type 0} {x y : A} → Some x ≡ Some y → x ≡ y
 same e = cc

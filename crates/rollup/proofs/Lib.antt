@@ -4,13 +4,9 @@ pub mod Empty
 pub mod Gathered
 pub mod Labels
 pub mod Lists
-pub mod Merging
 pub mod OneFile
-pub mod Paths
 pub mod Ranks
 pub mod Refilled
 pub mod Totalling
-pub mod Trees
-pub mod Unions
 pub mod Walking
-pub mod Words
+pub mod Worded

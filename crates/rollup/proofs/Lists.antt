@@ -1,12 +1,12 @@
 -- Sizes of lists of numbers, each a part of the numbers of all lists.
-use Rattle.std.proofs.Common.{◌≡◌, ◌+◌, ◌<◌, ◌≤◌, ℕ, suc, List, [], ◌∷◌, ◌++◌, length, get_or, set, map, take, drop, refl, sym, ap, subst, ◌∙◌, arith, length-append}
+use Rattle.std.proofs.Common.{◌≡◌, ◌+◌, ◌<◌, ◌≤◌, ℕ, suc, List, [], ◌∷◌, ◌++◌, length, get_or, set, map, take, drop, refl, sym, ap, ◌∙◌, arith, length-append}
 use Rattle.std.specs.Prelude.{All}
 use Rattle.std.proofs.lemmas.List.{drop-append-le, drop_all, get_or-map, length-drop, map-append, map-set, take-append-le, take_all}
 use Rattle.std.proofs.lemmas.List.Elements.{All-push}
 use Rattle.rollup.specs.declared.cursor.Part.{Part}
 use Rattle.rollup.specs.declared.sizes.ListSize.{ListSize}
 use Rattle.rollup.specs.declared.sizes.Sizes.{Sizes}
-use Rattle.rollup.specs.Sizes.{Entry, entry_of, entry_of_list, grown, grown_sizes, no_entry}
+use Rattle.rollup.specs.Sizes.{entry_of, entry_of_list, grown, grown_sizes, no_entry}
 use Rattle.rollup.proofs.Gathered.{grown-entry}
 
 -- each list is within so many numbers

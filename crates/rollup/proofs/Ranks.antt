@@ -21,13 +21,13 @@ use Rattle.std.proofs.lemmas.Option.{get_or_from_slice_get, slice_get-get_or}
 use Rattle.size_model.specs.Numbered.{text_of}
 use Rattle.rollup.specs.declared.fresh.Ranked.{Ranked}
 use Rattle.rollup.specs.declared.fresh.Keyed.{Keyed}
-use Rattle.rollup.specs.declared.table.RollupRow.{RollupRow}
+use Rattle.path_rows.specs.declared.row.RollupRow.{RollupRow}
 use Rattle.rollup.specs.Order.{AreIndices, IsKeyed, IsRanked, RankLabels, digits_after, falling_keys, falling_ranks, keyed_row, label_cmp, rank_in, ranked_row}
-use Rattle.rollup.specs.Rows.{falling}
+use Rattle.path_rows.specs.Rows.{falling}
 use Rattle.rollup.specs.Sizes.{Entry, no_entry, row_of}
-use Rattle.rollup.specs.Totals.{path_cmp}
+use Rattle.path_rows.specs.Paths.{path_cmp}
 use Rattle.rollup.proofs.Digits.{digits_cmp}
-use Rattle.rollup.proofs.Paths.{same_number}
+use Rattle.path_rows.proofs.Paths.{same_number}
 
 -- one number more
 suc_more : (a n : ℕ) → range_with_len a (suc n) ≡ range_with_len a n ++ (a + n) ∷ []

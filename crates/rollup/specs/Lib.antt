@@ -1,11 +1,6 @@
 pub mod Adding
 pub mod Counted
 pub mod Order
-pub mod Parts
-pub mod Rows
 pub mod Sizes
 pub mod Totals
-pub mod Tree
-pub mod TreeFalls
 pub mod Walk
-pub mod Words

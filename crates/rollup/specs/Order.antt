@@ -7,8 +7,8 @@ use Rattle.size_model.specs.Numbered.{text_of}
 use Rattle.rollup.specs.declared.fresh.Ranked.{Ranked}
 use Rattle.rollup.specs.declared.fresh.Keyed.{Keyed}
 use Rattle.rollup.specs.declared.order.WordedLabel.{WordedLabel}
-use Rattle.rollup.specs.declared.table.RollupRow.{RollupRow}
-use Rattle.rollup.specs.Words.{word_after}
+use Rattle.path_rows.specs.declared.row.RollupRow.{RollupRow}
+use Rattle.path_rows.specs.Words.{IsLessByWord, word_after}
 use Rattle.rollup.specs.Sizes.{Entry, no_entry, row_of}
 
 -- the labels of two numbers, byte by byte
@@ -23,9 +23,10 @@ worded_key pool w = w.word ∷ text_of pool w.number
 abbrev pub worded_cmp : List (List ℕ) → WordedLabel → WordedLabel → Ordering
 worded_cmp pool a b = slice_cmp nat_cmp (worded_key pool a) (worded_key pool b)
 
--- the word has the first eight bytes of the label
+-- The word is that of the label, which is less than each label of a greater word.
 pub record IsWorded (pool : List (List ℕ)) (w : WordedLabel) : Type 0 where
   pub word : w.word ≡ word_after 0 8 (text_of pool w.number)
+  pub less : IsLessByWord w.word (text_of pool w.number)
 
 -- The rank of a label, by its number.
 abbrev pub rank_in : List ℕ → ℕ → ℕ

@@ -8,7 +8,7 @@ use Rattle.rollup.specs.declared.cursor.Part.TheVariants.{File, Vm}
 use Rattle.rollup.specs.declared.sizes.LabelSize.{LabelSize}
 use Rattle.rollup.specs.declared.sizes.ListSize.{ListSize}
 use Rattle.rollup.specs.declared.sizes.Sizes.{Sizes}
-use Rattle.rollup.specs.declared.table.RollupRow.{RollupRow}
+use Rattle.path_rows.specs.declared.row.RollupRow.{RollupRow}
 use Rattle.rollup.specs.Adding.{passes}
 
 -- numbers of labels, and how many positions of each kind have them

@@ -5,13 +5,13 @@ ghost use Rattle.std.specs.List.{range_with_len};
 ghost use Rattle.std.specs.Option.{ForSome};
 ghost use Rattle.std.specs.List.Sorted.{IsPermutation, IsSorted};
 ghost use Rattle.size_model.specs.Numbered.{text_of};
+ghost use Rattle.path_rows.specs.Rows.{FitTogether, falling};
 ghost use Rattle.rollup.specs.Order.{IsKeyed, IsRanked, RankLabels, digits_after, falling_keys, falling_ranks, keyed_row, rank_in, ranked_row};
-ghost use Rattle.rollup.specs.Rows.{FitTogether, falling};
 ghost use Rattle.rollup.specs.Sizes.{Entry, no_entry, row_of};
 
 use crate::order::{rank_at, ranks_of};
 use crate::sizes::PathSizes;
-use crate::table::RollupRow;
+use path_rows::RollupRow;
 use size_core::{Bytes, LabelPool, NoMemory, Path};
 use std::alloc::{AllocError, Global};
 

@@ -6,15 +6,11 @@ mod cursor;
 mod file;
 mod fresh;
 mod hints;
-mod merge;
 mod order;
-mod ordered;
-mod prefix;
 mod sizes;
 mod table;
-mod tree;
 mod walk;
 
 pub use answer::RollupAnswer;
-pub use order::compare_paths;
-pub use table::{Rollup, RollupRow};
+pub use path_rows::{RollupRow, compare_paths};
+pub use table::Rollup;

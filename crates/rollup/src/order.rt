@@ -1,39 +1,16 @@
-//! Labels and paths in order.
+//! The ranks of labels, by their bytes.
 
 ghost use Rattle.std.specs.Prelude.{◌≡◌, ◌<◌, IfOk, OnOk, All, length, map};
-ghost use Rattle.std.specs.Cmp.Lexicographic.{slice_cmp};
 ghost use Rattle.std.specs.List.{IsDistinct, range_with_len};
 ghost use Rattle.std.specs.Str.{bytes_eq};
 ghost use Rattle.std.specs.List.Sorted.{IsPermutation, IsSorted, IsStrictlySortedBy};
-ghost use Rattle.std.specs.Ordering.{nat_cmp};
 ghost use Rattle.size_model.specs.Numbered.{text_of};
-ghost use Rattle.rollup.specs.Totals.{path_cmp};
 ghost use Rattle.rollup.specs.Order.{AreIndices, IsWorded, RankLabels, label_cmp, rank_in, worded_cmp};
 
-use crate::prefix::word_of_label;
-use size_core::{Bytes, LabelPool, NoMemory, Path};
+use path_rows::word_of_label;
+use size_core::{LabelPool, NoMemory};
 use std::alloc::Global;
 use std::cmp::Ordering;
-
-fn compare_labels(a: &Bytes, b: &Bytes) -> Ordering
-    ensures { result ≡ slice_cmp nat_cmp a.now b.now }
-{
-    a.as_slice().cmp(&b.as_slice())
-}
-
-/// Compares two paths label by label, and labels byte by byte.
-pub fn compare_paths(a: &Path, b: &Path) -> Ordering
-    ensures { result ≡ path_cmp a.now b.now }
-{
-    let count = a.len().min(b.len());
-    for i in 0..count {
-        match compare_labels(a.get(i), b.get(i)) {
-            Ordering::Equal => {}
-            order => return order,
-        }
-    }
-    a.len().cmp(&b.len())
-}
 
 // The label of a number, and no bytes if there is none.
 fn label_of(pool: &LabelPool, number: usize) -> &[u8]

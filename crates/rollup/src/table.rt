@@ -1,30 +1,23 @@
-//! Paths with their sizes.
+//! The sizes of the paths of all files.
 
 ghost use Rattle.std.specs.Prelude.{◌≡◌, ◌+◌, ◌-◌, ◌^◌, ◌<◌, ◌≤◌, ◌↔◌, ℕ, Bool, List, [], All, OnOk, OnErr, length, slice_get};
 ghost use Rattle.std.specs.Option.{option_copied, ForSome};
 ghost use Rattle.std.specs.Result.{IsErrOf};
 ghost use Rattle.size_model.specs.Loads.{mapped_count};
 ghost use Rattle.dual_map.specs.Layout.{IsOver, LabelsBelow};
+ghost use Rattle.path_rows.specs.Sums.{file_where, vm_where};
 ghost use Rattle.rollup.specs.Totals.{IsTotals};
-ghost use Rattle.rollup.specs.Adding.{file_count, vm_count, file_where, vm_where, piece_count};
+ghost use Rattle.rollup.specs.Adding.{file_count, vm_count, piece_count};
 
 use crate::answer::RollupAnswer;
 use crate::file::sizes_of_file;
 use crate::fresh::new_rows;
-use crate::ordered::OrderedRows;
 use dual_map::{Base, DualMap};
-use size_core::{LabelPool, Path, Steps};
+use path_rows::{OrderedRows, RollupRow};
+use size_core::{LabelPool, Steps};
 use std::alloc::Global;
 use std::marker::Model;
 use std::sync::ledger::Ledger;
-
-/// A path of labels, one for each data source asked, and how many mapped addresses and file bytes have it.
-#[derive(Debug, Drop)]
-pub struct RollupRow {
-    pub path: Path,
-    pub vm: u64,
-    pub file: u64,
-}
 
 /// The sizes of the paths of all files added so far. Contracts see the rows, ascending by path, each path once, and
 /// the total length and mapped size of the files, whether a filter passed them or not.

@@ -5,8 +5,9 @@ use Rattle.std.specs.List.{sum_by}
 use Rattle.std.specs.declared.cmp.Ordering.TheVariants.{Equal}
 use Rattle.std.proofs.lemmas.List.{drop_all}
 use Rattle.std.proofs.lemmas.List.Elements.{All-from_recursion, recursion_from_All}
-use Rattle.rollup.specs.declared.table.RollupRow.{RollupRow}
-use Rattle.rollup.specs.Totals.{IsTotals, row_cmp}
+use Rattle.path_rows.specs.declared.row.RollupRow.{RollupRow}
+use Rattle.path_rows.specs.Paths.{row_cmp}
+use Rattle.rollup.specs.Totals.{IsTotals}
 use Rattle.report_rows.proofs.TableLemmas.{sum-zero}
 use Rattle.size_growth.specs.Between.{IsBetween}
 use Rattle.size_growth.specs.declared.growth.GrowthPath.{GrowthPath}

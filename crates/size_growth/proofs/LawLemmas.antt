@@ -10,7 +10,7 @@ use Rattle.std.specs.declared.cmp.Ordering.{Ordering}
 use Rattle.std.specs.declared.cmp.Ordering.TheVariants.{Less, Equal, Greater}
 use Rattle.std.proofs.lemmas.List.Elements.{All-from_recursion, recursion_from_All}
 use Rattle.std.proofs.lemmas.List.Sums.{sum_by-cons}
-use Rattle.rollup.specs.Totals.{path_cmp}
+use Rattle.path_rows.specs.Paths.{path_cmp}
 use Rattle.report_rows.proofs.AscendLemmas.{bytes-equal}
 use Rattle.report_rows.proofs.EntryLemmas.{past}
 use Rattle.report_rows.proofs.TableLemmas.{same_bytes, bytes_eq-same}

@@ -8,9 +8,9 @@ use Rattle.std.specs.Ordering.{ordering_reverse, is_eq}
 use Rattle.std.proofs.lemmas.List.{drop_more, drop_all}
 use Rattle.std.proofs.lemmas.List.Sums.{sum_by-cons}
 use Rattle.std.proofs.lemmas.Option.{get_or_from_slice_get}
-use Rattle.rollup.specs.declared.table.RollupRow.{RollupRow}
-use Rattle.rollup.specs.Totals.{path_cmp, row_cmp}
-use Rattle.rollup.proofs.Paths.{path_total, same_path}
+use Rattle.path_rows.specs.declared.row.RollupRow.{RollupRow}
+use Rattle.path_rows.specs.Paths.{path_cmp, row_cmp}
+use Rattle.path_rows.proofs.Paths.{path_total, same_path}
 use Rattle.size_growth.specs.declared.growth.GrowthPath.{GrowthPath}
 use Rattle.size_growth.specs.Merged.{new_path, base_path, both_path, by_order, beside, merged}
 use Rattle.size_growth.specs.Paths.{growth_cmp}

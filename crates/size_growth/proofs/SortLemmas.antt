@@ -6,7 +6,7 @@ use Rattle.std.specs.declared.cmp.Ordering.TheVariants.{Less, Equal, Greater}
 use Rattle.std.specs.Ordering.{is_lt, nat_cmp, ordering_then}
 use Rattle.std.specs.List.Sorted.{IsPermutation, IsSorted}
 use Rattle.std.proofs.lemmas.List.Elements.{All-head, All-tail, All-from_recursion}
-use Rattle.rollup.proofs.Paths.{nat_greater, same_number}
+use Rattle.path_rows.proofs.Paths.{nat_greater, same_number}
 use Rattle.report_rows.specs.contracts.groups.KindOrd.TheImpl as kind_ord
 use Rattle.report_rows.specs.declared.groups.Kind.{Kind}
 use Rattle.report_rows.specs.declared.groups.Kind.TheVariants.{Label, Others}

@@ -10,7 +10,7 @@ use Rattle.std.specs.Str.{bytes_eq}
 use Rattle.std.proofs.lemmas.Cmp.{tied_itself}
 use Rattle.std.proofs.lemmas.List.Elements.{All-cons}
 use Rattle.std.proofs.lemmas.List.Sums.{sum_by-cons, sum_by-append}
-use Rattle.rollup.specs.Totals.{path_cmp}
+use Rattle.path_rows.specs.Paths.{path_cmp}
 use Rattle.report_rows.specs.Paths.{Path, times}
 use Rattle.report_rows.proofs.CutLemmas.{hit, times-cons}
 use Rattle.report_rows.proofs.EntryLemmas.{past}

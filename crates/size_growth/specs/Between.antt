@@ -1,8 +1,8 @@
 -- The paths of two rollups together.
 use Rattle.std.specs.Prelude.{◌≡◌, ◌≤◌, ℕ, Bool, List, length, if◌then◌else◌}
 use Rattle.std.specs.List.{sum_by}
-use Rattle.rollup.specs.Adding.{file_where, vm_where}
-use Rattle.rollup.specs.declared.table.RollupRow.{RollupRow}
+use Rattle.path_rows.specs.Sums.{file_where, vm_where}
+use Rattle.path_rows.specs.declared.row.RollupRow.{RollupRow}
 use Rattle.size_growth.specs.declared.between.Processed.{Processed}
 use Rattle.size_growth.specs.declared.growth.GrowthPath.{GrowthPath}
 use Rattle.size_growth.specs.declared.growth.GrowthSizes.{GrowthSizes}

@@ -2,8 +2,8 @@
 use Rattle.std.specs.Prelude.{List, [], ◌∷◌, map, drop}
 use Rattle.std.specs.declared.cmp.Ordering.{Ordering}
 use Rattle.std.specs.declared.cmp.Ordering.TheVariants.{Less, Equal, Greater}
-use Rattle.rollup.specs.Totals.{row_cmp}
-use Rattle.rollup.specs.declared.table.RollupRow.{RollupRow}
+use Rattle.path_rows.specs.Paths.{row_cmp}
+use Rattle.path_rows.specs.declared.row.RollupRow.{RollupRow}
 use Rattle.size_growth.specs.declared.between.Processed.{Processed}
 use Rattle.size_growth.specs.declared.growth.GrowthPath.{GrowthPath}
 

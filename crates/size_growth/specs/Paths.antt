@@ -2,7 +2,7 @@
 use Rattle.std.specs.Prelude.{◌≡◌, ℕ, List, length, All}
 use Rattle.std.specs.declared.cmp.Ordering.{Ordering}
 use Rattle.std.specs.List.Sorted.{IsStrictlySortedBy}
-use Rattle.rollup.specs.Totals.{path_cmp}
+use Rattle.path_rows.specs.Paths.{path_cmp}
 use Rattle.size_growth.specs.declared.growth.GrowthPath.{GrowthPath}
 use Rattle.size_growth.specs.declared.growth.GrowthSizes.{GrowthSizes}
 use Rattle.size_growth.specs.Sizes.{Fits, HasSize, sums_by}

@@ -2,7 +2,7 @@
 use Rattle.std.proofs.Common.{◌≡◌, ◌+◌, ap, ◌∙◌, arith}
 use Rattle.std.proofs.lemmas.Result.{err_from_is_err_and}
 use Rattle.data_sources.specs.Views.{view_of}
-use Rattle.rollup.specs.Adding.{file_where, vm_where}
+use Rattle.path_rows.specs.Sums.{file_where, vm_where}
 use Rattle.file_profile.specs.Claims.{layout_of}
 use Rattle.file_profile.proofs.CountLemmas.{file_count-is, vm_count-is}
 use Rattle.file_profile.proofs.ProfileLemmas.{answers-added, answers-full, answers-refused, view-is, view-said, viewed-is}

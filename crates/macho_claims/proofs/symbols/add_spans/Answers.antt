@@ -1,6 +1,6 @@
 -- The claim of the next span is added.
 use Rattle.std.proofs.Common.{◌∙◌}
-use Rattle.macho_file.specs.Shown.{named_shown}
+use Rattle.macho_symbols.specs.Shown.{named_shown}
 use Rattle.macho_claims.specs.SymbolClaims.{span_claim}
 use Rattle.claim_sheet.proofs.ListLemmas.{shown_goes}
 use Rattle.macho_claims.proofs.symbols.add_spans.Goals as goal

@@ -1,6 +1,6 @@
 use Rattle.std.proofs.Common.{◌≡◌, drop, map}
 use Rattle.std.specs.List.{flat_map}
-use Rattle.macho_file.specs.Shown.{named_shown}
+use Rattle.macho_symbols.specs.Shown.{named_shown}
 use Rattle.claim_sheet.specs.Sheets.{adding}
 use Rattle.long_names.specs.Names.{AreKnownNames, AreNames}
 use Rattle.macho_claims.specs.SymbolClaims.{span_claim}

@@ -1,5 +1,5 @@
 use Rattle.std.proofs.Common.{◌≡◌, ◌-◌, ◌≤◌}
-use Rattle.macho_file.specs.Layout.{header_len, command_count}
+use Rattle.macho_records.specs.Layout.{header_len, command_count}
 use Rattle.macho_file.specs.Known.{commands_fit}
 use Rattle.macho_file.proofs.checks.commands_fit.Given as goal
 

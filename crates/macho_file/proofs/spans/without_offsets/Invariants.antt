@@ -1,5 +1,6 @@
 use Rattle.std.proofs.Common.{◌≡◌, map, take}
-use Rattle.macho_file.specs.Shown.{named_shown, span_shown}
+use Rattle.macho_symbols.specs.Shown.{named_shown}
+use Rattle.macho_file.specs.Shown.{span_shown}
 use Rattle.macho_file.proofs.spans.without_offsets.Given as goal
 
 -- The spans so far.

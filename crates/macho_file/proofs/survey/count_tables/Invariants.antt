@@ -1,6 +1,6 @@
 use Rattle.std.proofs.Common.{◌≡◌, ◌+◌, ◌<◌, ◌^◌, ◌==◌, length}
 use Rattle.std.specs.List.{flat_map, find}
-use Rattle.macho_file.specs.declared.constants.TheConstants.{LC_SYMTAB}
+use Rattle.macho_records.specs.declared.constants.TheConstants.{LC_SYMTAB}
 use Rattle.macho_file.specs.Symbols.{symbol_table}
 use Rattle.macho_file.specs.Tables.{sections, sections_of, segments, segments_from}
 use Rattle.macho_file.specs.Known.{IsSomeTable, or_else}

@@ -1,6 +1,6 @@
 use Rattle.std.proofs.Common.{◌≡◌, ◌∙◌, sym, arith, length, map, Bor}
 use Rattle.std.proofs.lemmas.List.{length-map}
-use Rattle.rollup.specs.declared.table.RollupRow.{RollupRow}
+use Rattle.path_rows.specs.declared.row.RollupRow.{RollupRow}
 use Rattle.report_rows.specs.Groups.{table_at, labels_at, group_label, IsGroup, IsBorder}
 use Rattle.report_rows.specs.Keys.{is_shown}
 use Rattle.report_rows.proofs.GroupLemmas.{seen}

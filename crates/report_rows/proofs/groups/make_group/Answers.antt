@@ -2,7 +2,7 @@ use Rattle.std.proofs.Common.{◌<◌, ◌+◌, ◌-◌, ◌∙◌, ap, sym, sub
 use Rattle.std.specs.Prelude.{All}
 use Rattle.std.proofs.lemmas.List.{take_rest}
 use Rattle.std.proofs.lemmas.List.Elements.{All-drop}
-use Rattle.rollup.specs.declared.table.RollupRow.{RollupRow}
+use Rattle.path_rows.specs.declared.row.RollupRow.{RollupRow}
 use Rattle.report_rows.specs.Tables.{vm_sum, file_sum}
 use Rattle.report_rows.proofs.GroupLemmas.{seen, seen-mid, part-le, found, run-group, deep_rows}
 use Rattle.report_rows.proofs.groups.make_group.Goals as goal

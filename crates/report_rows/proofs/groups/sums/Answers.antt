@@ -1,5 +1,5 @@
 use Rattle.std.proofs.Common.{arith}
-use Rattle.rollup.specs.declared.table.RollupRow.{RollupRow}
+use Rattle.path_rows.specs.declared.row.RollupRow.{RollupRow}
 use Rattle.report_rows.proofs.RowLemmas.{mapped_more}
 use Rattle.report_rows.proofs.groups.sums.Goals as goal
 

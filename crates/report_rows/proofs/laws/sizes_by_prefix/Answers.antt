@@ -1,5 +1,5 @@
 use Rattle.std.proofs.Common.{refl}
-use Rattle.rollup.specs.declared.table.RollupRow.{RollupRow}
+use Rattle.path_rows.specs.declared.row.RollupRow.{RollupRow}
 use Rattle.report_rows.proofs.TableLemmas.{prefix-sum}
 use Rattle.report_rows.proofs.laws.sizes_by_prefix.Goals as goal
 

@@ -1,7 +1,7 @@
 use Rattle.std.proofs.Common.{◌≡◌, length, arith, Bor}
 use Rattle.std.proofs.lemmas.List.{length-map}
 use Rattle.std.proofs.lemmas.Result.{IfOk-weaker}
-use Rattle.rollup.specs.declared.table.RollupRow.{RollupRow}
+use Rattle.path_rows.specs.declared.row.RollupRow.{RollupRow}
 use Rattle.report_rows.specs.Groups.{labels_at, IsBorder}
 use Rattle.report_rows.proofs.GatherLemmas.{group-run}
 use Rattle.report_rows.proofs.GroupLemmas.{seen}

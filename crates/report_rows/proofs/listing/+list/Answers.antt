@@ -1,7 +1,7 @@
 use Rattle.std.proofs.Common.{List, ◌<◌, ◌+◌, ◌-◌, ◌++◌, ◌∙◌, sym, ap, arith, length, map, take, drop, get_or}
 use Rattle.std.specs.List.{flat_map}
 use Rattle.std.proofs.lemmas.List.{take_all}
-use Rattle.rollup.specs.declared.table.RollupRow.{RollupRow}
+use Rattle.path_rows.specs.declared.row.RollupRow.{RollupRow}
 use Rattle.report_rows.specs.declared.groups.Group.{Group}
 use Rattle.report_rows.specs.declared.groups.Kind.TheVariants.{Label}
 use Rattle.report_rows.specs.Groups.{table_at, group_entry, IsPart}

@@ -1,5 +1,5 @@
 use Rattle.std.proofs.Common.{◌∙◌, sym, ap, get_or, [], Bor}
-use Rattle.rollup.specs.declared.table.RollupRow.{RollupRow}
+use Rattle.path_rows.specs.declared.row.RollupRow.{RollupRow}
 use Rattle.report_rows.specs.declared.row.RowKind.{RowKind}
 use Rattle.report_rows.specs.declared.row.RowKind.TheVariants.{Label}
 use Rattle.report_rows.specs.declared.row.Row.{Row}

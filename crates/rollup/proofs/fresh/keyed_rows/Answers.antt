@@ -4,7 +4,7 @@ use Rattle.std.specs.List.Sorted.{IsPermutation, IsSorted}
 use Rattle.std.proofs.lemmas.List.Sorted.{All-permutation}
 use Rattle.rollup.specs.declared.fresh.Keyed.{Keyed}
 use Rattle.rollup.specs.Order.{IsKeyed, keyed_row}
-use Rattle.rollup.specs.Rows.{falling}
+use Rattle.path_rows.specs.Rows.{falling}
 use Rattle.rollup.specs.Sizes.{row_of}
 use Rattle.rollup.proofs.Gathered.{file-fits, vm-fits}
 use Rattle.rollup.proofs.Ranks.{keyed_fall, same_keyed_rows}

@@ -5,7 +5,7 @@ use Rattle.std.proofs.lemmas.List.Sorted.{All-permutation}
 use Rattle.std.proofs.lemmas.Result.{IfOk-weaker}
 use Rattle.rollup.specs.declared.fresh.Ranked.{Ranked}
 use Rattle.rollup.specs.Order.{IsRanked, ranked_row}
-use Rattle.rollup.specs.Rows.{falling}
+use Rattle.path_rows.specs.Rows.{falling}
 use Rattle.rollup.specs.Sizes.{row_of}
 use Rattle.rollup.proofs.Gathered.{file-fits, vm-fits}
 use Rattle.rollup.proofs.Ranks.{rows_fall, same_rows}

@@ -1,7 +1,7 @@
 use Rattle.std.proofs.Common.{ap, sym, ◌∙◌}
 use Rattle.std.specs.Ordering.{ordering_then}
 use Rattle.rollup.specs.Order.{label_cmp}
-use Rattle.rollup.proofs.Paths.{then_other}
+use Rattle.path_rows.proofs.Paths.{then_other}
 use Rattle.rollup.proofs.order.compare_worded.Goals as goal
 
 pub returns-in_default : goal.returns-in_default

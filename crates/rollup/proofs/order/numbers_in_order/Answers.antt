@@ -6,7 +6,7 @@ use Rattle.std.proofs.lemmas.Result.{IfOk-weaker}
 use Rattle.rollup.specs.declared.order.WordedLabel.{WordedLabel}
 use Rattle.rollup.specs.Order.{IsWorded, label_cmp}
 use Rattle.rollup.proofs.Ranks.{numbers_ascend}
-use Rattle.rollup.proofs.Words.{worded_sorted}
+use Rattle.rollup.proofs.Worded.{worded_sorted}
 use Rattle.rollup.proofs.order.numbers_in_order.Goals as goal
 
 pub returns-clause-all : goal.returns-clause-all

@@ -6,7 +6,7 @@ use Rattle.std.proofs.lemmas.Option.{get_or_from_slice_get}
 use Rattle.size_model.specs.Numbered.{text_of}
 use Rattle.rollup.specs.declared.order.WordedLabel.{WordedLabel}
 use Rattle.rollup.specs.Order.{IsWorded}
-use Rattle.rollup.specs.Words.{word_after}
+use Rattle.path_rows.specs.Words.{IsLessByWord, word_after}
 use Rattle.rollup.proofs.Ranks.{range_more}
 use Rattle.rollup.proofs.order.worded_labels.Goals as goal
 
@@ -16,7 +16,10 @@ loop-number-preserved c =
     let i = c.loop-number.number in
     let text : text_of pool i ≡ c.get.result.now = get_or_from_slice_get pool i c.get.result.now [] c.get.ensures in
     let one : WordedLabel = record { word = c.word_of_label-word.result; number = i } in
-    let worded : IsWorded pool one = record { word = c.word_of_label-word.ensures ∙ ap (word_after 0 8) (sym text) } in
+    let worded : IsWorded pool one = record {
+      word = c.word_of_label-word.ensures.word ∙ ap (word_after 0 8) (sym text);
+      less = subst (IsLessByWord c.word_of_label-word.result) (sym text) c.word_of_label-word.ensures.less;
+    } in
     let made = c.in_ok-push.ensures.items in
     record {
       numbers = ap (map (λ (w : WordedLabel). w.number)) made

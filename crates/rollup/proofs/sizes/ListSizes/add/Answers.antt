@@ -1,5 +1,4 @@
-use Rattle.std.proofs.Common.{refl, inl, inr}
-use Rattle.std.proofs.lemmas.Result.{on_ok_weaker}
+use Rattle.std.proofs.Common.{refl, inl}
 use Rattle.rollup.proofs.sizes.ListSizes.add.Goals as goal
 
 pub grow-requires-clause-within : goal.grow-requires-clause-within

@@ -6,13 +6,12 @@ use Rattle.size_model.specs.Numbered.{text_of}
 use Rattle.size_model.proofs.Counts.{count-le-length}
 use Rattle.size_model.specs.Loads.{is_mapped}
 use Rattle.rollup.specs.Totals.{IsTotals, Totals}
-use Rattle.rollup.specs.Adding.{file_where, vm_where}
+use Rattle.path_rows.specs.Sums.{file_where, vm_where}
 use Rattle.rollup.specs.Counted.{file_counted, vm_counted}
-use Rattle.rollup.specs.Rows.{AreMerged}
+use Rattle.path_rows.specs.Rows.{Merges}
 use Rattle.rollup.specs.Sizes.{IsEntry, row_of}
 use Rattle.rollup.proofs.OneFile.{file-le, vm-le}
-use Rattle.rollup.proofs.Merging.{alone_fits, merged_moved, moved_fits}
-use Rattle.rollup.proofs.Totalling.{fit_together, file_added, vm_added, new_totals}
+use Rattle.rollup.proofs.Totalling.{alone_fits, file_added, fit_together, merges_moved, moved_fits, new_totals, vm_added}
 use Rattle.rollup.proofs.table.Rollup.add_file.Goals as goal
 
 pub overflow_add-mapped : goal.overflow_add-mapped
@@ -46,8 +45,8 @@ pub returns-clause-file : goal.returns-clause-file
 returns-clause-file g c = λ test.
     let es = c.in_ok-sizes.sizes in
     let old : c.self.inside.rows ≡ c.args.self.now.rows = ap (λ (t : Totals). t.rows) c.self.view_is in
-    let merged : AreMerged c.self.inside.rows (map (row_of c.args.pool.now) es) c.add.new.self =
-    merged_moved c.self.inside.rows (map (row_of c.args.pool.now) es) c.in_ok-new.new.items c.add.new.self c.in_ok-new.ensures.same c.in_ok-add.ensures.ok in
+    let merged : Merges c.self.inside.rows (map (row_of c.args.pool.now) es) c.add.new.self =
+    merges_moved c.self.inside.rows (map (row_of c.args.pool.now) es) c.in_ok-new.new.items c.add.new.self c.in_ok-new.ensures.same c.in_ok-add.ensures.ok in
     file_added c.args.pool.now c.self.inside.rows es test c.add.new.self merged
     ∙ (ap (λ k. file_where test c.self.inside.rows + k) (c.in_ok-sizes.ensures.file (λ ns. test (map (text_of c.args.pool.now) ns)) ∙ ap (file_counted (λ ns. test (map (text_of c.args.pool.now) ns)) (option_copied c.args.passes) c.args.maps.now) c.requires.len)
     ∙ ap (λ rows. file_where test rows + file_counted (λ ns. test (map (text_of c.args.pool.now) ns)) (option_copied c.args.passes) c.args.maps.now c.args.file_len) old)
@@ -56,8 +55,8 @@ pub returns-clause-vm : goal.returns-clause-vm
 returns-clause-vm g c = λ test.
     let es = c.in_ok-sizes.sizes in
     let old : c.self.inside.rows ≡ c.args.self.now.rows = ap (λ (t : Totals). t.rows) c.self.view_is in
-    let merged : AreMerged c.self.inside.rows (map (row_of c.args.pool.now) es) c.add.new.self =
-    merged_moved c.self.inside.rows (map (row_of c.args.pool.now) es) c.in_ok-new.new.items c.add.new.self c.in_ok-new.ensures.same c.in_ok-add.ensures.ok in
+    let merged : Merges c.self.inside.rows (map (row_of c.args.pool.now) es) c.add.new.self =
+    merges_moved c.self.inside.rows (map (row_of c.args.pool.now) es) c.in_ok-new.new.items c.add.new.self c.in_ok-new.ensures.same c.in_ok-add.ensures.ok in
     vm_added c.args.pool.now c.self.inside.rows es test c.add.new.self merged
     ∙ (ap (λ k. vm_where test c.self.inside.rows + k) (c.in_ok-sizes.ensures.vm (λ ns. test (map (text_of c.args.pool.now) ns)))
     ∙ ap (λ rows. vm_where test rows + vm_counted (λ ns. test (map (text_of c.args.pool.now) ns)) (option_copied c.args.passes) c.args.maps.now c.args.base.now.loads) old)
@@ -70,8 +69,8 @@ invariant_of-self-2 g c =
     let es = c.in_ok-sizes.sizes in
     let pool = c.args.pool.now in
     let new = c.add.new.self in
-    let merged : AreMerged c.self.inside.rows (map (row_of pool) es) c.add.new.self =
-    merged_moved c.self.inside.rows (map (row_of pool) es) c.in_ok-new.new.items c.add.new.self c.in_ok-new.ensures.same c.in_ok-add.ensures.ok in
+    let merged : Merges c.self.inside.rows (map (row_of pool) es) c.add.new.self =
+    merges_moved c.self.inside.rows (map (row_of pool) es) c.in_ok-new.new.items c.add.new.self c.in_ok-new.ensures.same c.in_ok-add.ensures.ok in
     let depth : length c.args.maps.now ≡ c.self.inside.depth = c.requires.depth ∙ sym (ap (λ (t : Totals). t.depth) c.self.view_is) in
     let all : All (IsEntry c.self.inside.depth (length pool)) es = subst (λ k. All (IsEntry k (length pool)) es) depth (c.in_ok-sizes.ensures.entries (length pool) c.requires.labels) in
     let lengths : c.from.result + c.from-2.result ≡ c.self.inside.lengths + c.args.file_len = omega (arith, c.from.ensures, c.from-2.ensures) in

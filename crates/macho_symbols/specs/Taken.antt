@@ -1,0 +1,32 @@
+-- The symbols of a table that take part.
+use Rattle.std.specs.Prelude.{◌≡◌, ℕ, All, List, ◌++◌, Result, Ok, true}
+use Rattle.std.specs.List.{filter}
+use Rattle.size_core.specs.declared.fault.BadFile.{BadFile}
+use Rattle.size_core.specs.Checks.{◌>>=◌}
+use Rattle.macho_symbols.specs.declared.answer.SpanAnswer.{SpanAnswer}
+use Rattle.macho_symbols.specs.declared.answer.SpanAnswer.TheVariants.{Bad, NoMemory}
+use Rattle.macho_symbols.specs.declared.extent.Extent.{Extent}
+use Rattle.macho_symbols.specs.declared.symbol_table.SymbolTable.{SymbolTable}
+use Rattle.macho_symbols.specs.Symbols.{SymbolRecord}
+use Rattle.macho_symbols.specs.Spans.{symbols_from, takes_part}
+
+-- The symbols that take part, of this many symbols from number k on, or the first fault.
+unfoldable pub taken_from : List ℕ → SymbolTable → List Extent → ℕ → ℕ → Result (List SymbolRecord) BadFile
+taken_from file t all k count = do
+  read ← symbols_from file t k count
+  Ok (filter (takes_part all) read)
+
+-- These symbols, and then those of a reading, or its fault.
+unfoldable pub prepend : List SymbolRecord → Result (List SymbolRecord) BadFile → Result (List SymbolRecord) BadFile
+prepend front reading = do
+  rest ← reading
+  Ok (front ++ rest)
+
+-- What holds of the fault of an answer. Out of memory has no fault.
+abbrev pub ForBad : SpanAnswer → (BadFile → Type 0) → Type 0
+ForBad (Bad bad) P = P bad
+ForBad NoMemory P = Unit {0}
+
+-- Each of these symbols takes part.
+pub record TakePart (all : List Extent) (taking : List SymbolRecord) : Type 0 where
+  pub each : All (λ (s : SymbolRecord). takes_part all s ≡ true) taking

@@ -1,0 +1,18 @@
+//! The symbol table of Mach-O files, and the spans of symbols: the address ranges that they name in their sections. The
+//! file is borrowed, and only the spans allocate memory.
+#![tactic(auto)]
+
+mod answer;
+mod extent;
+mod index;
+mod names;
+mod span_symbols;
+mod spans;
+mod symbol;
+mod symbol_table;
+
+pub use answer::SpanAnswer;
+pub use extent::Extent;
+pub use spans::{NamedSpan, spans_of_table};
+pub use symbol::PlacedSymbol;
+pub use symbol_table::{SymbolTable, symbol_of, table_at};

@@ -1,0 +1,5 @@
+pub mod Merging
+pub mod Paths
+pub mod Trees
+pub mod Unions
+pub mod Words

@@ -1,6 +1,0 @@
-use Rattle.std.proofs.Common.{◌≡◌, drop}
-use Rattle.rollup.specs.Totals.{path_cmp}
-use Rattle.rollup.proofs.order.compare_paths.Given as goal
-
-abbrev pub invariant-loop-i : goal.invariant-loop-i
-invariant-loop-i l = path_cmp l.a l.b ≡ path_cmp (drop l.i l.a) (drop l.i l.b)

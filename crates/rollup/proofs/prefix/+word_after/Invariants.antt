@@ -1,4 +1,0 @@
-use Rattle.rollup.proofs.prefix.+word_after.Given as goal
-
-abbrev pub decreases-word_after : goal.decreases-word_after
-decreases-word_after l = l.count

@@ -1,4 +1,0 @@
-use Rattle.rollup.proofs.tree.+build.Given as goal
-
-abbrev pub decreases-build : goal.decreases-build
-decreases-build l = l.count

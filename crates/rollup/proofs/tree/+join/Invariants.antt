@@ -1,6 +1,0 @@
-use Rattle.std.proofs.Common.{◌+◌, length}
-use Rattle.rollup.specs.Tree.{rows_in}
-use Rattle.rollup.proofs.tree.+join.Given as goal
-
-abbrev pub decreases-join : goal.decreases-join
-decreases-join l = length (rows_in l.low) + length (rows_in l.high)

@@ -1,6 +1,0 @@
-use Rattle.std.proofs.Common.{length}
-use Rattle.rollup.specs.Tree.{rows_in}
-use Rattle.rollup.proofs.tree.+split.Given as goal
-
-abbrev pub decreases-split : goal.decreases-split
-decreases-split l = length (rows_in l.rows)

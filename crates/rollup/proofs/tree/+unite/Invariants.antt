@@ -1,6 +1,0 @@
-use Rattle.std.proofs.Common.{length}
-use Rattle.rollup.specs.Tree.{rows_in}
-use Rattle.rollup.proofs.tree.+unite.Given as goal
-
-abbrev pub decreases-unite : goal.decreases-unite
-decreases-unite l = length (rows_in l.rows)
