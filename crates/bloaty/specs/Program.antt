@@ -43,15 +43,16 @@ pub record SeenDevices (O E : Type 0) : Type 0 where
 abbrev pub seen : {O E : Type 0} → SeenHost → SeenSink O → SeenSink E → SeenDevices O E
 seen files out err = record { files = files; out = out; err = err }
 
--- The program ran with these arguments, those after its name, and ended with this exit status. Each field but `is` is a clause of
--- the call of `bloaty`.
+-- The program ran with these arguments, those after its name, and ended with this exit status. Each field from `run`
+-- on is a clause of the call of `bloaty`.
 --
 -- outcome, is: The exit status is that of the outcome.
 -- last: The last pattern that was refused for its size.
 -- run: The arguments and the bytes that the reads returned decide the outcome and the bytes that the output took.
--- arguments: The arguments are misused as a whole only if they can't be parsed.
--- reads: The files of the request were read in order, and a failed read is reported.
--- writes: A failed write is reported.
+-- arguments: The outcome is `Usage Words` only if clap can't parse the arguments.
+-- reads: The files of the request were read in order. The outcome is `ReadFailed` only if a read failed, and with
+--     another outcome no read failed.
+-- writes: The outcome is `WriteFailed` only if a write to the output failed, and with another outcome none failed.
 -- line: The line of the outcome is on the error output.
 pub record IsProgramRun {O E : Type 0} (limits : Limits) (words : List (List ℕ)) (before after : SeenDevices O E) (status : ℕ) : Type 0 where
   pub outcome : Outcome

@@ -7,7 +7,7 @@ use outside::{HostFiles, HostSink};
 use std::process::ExitCode;
 use std::{env, io};
 
-// The arguments, of which the first is the program's name.
+// The arguments. The first one is the program's name.
 fn args_of(rt: &HostRuntime) -> io::Result<Vec<String>> {
     Ok(env::args(rt)?.collect(rt.alloc())?)
 }

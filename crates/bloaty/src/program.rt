@@ -47,8 +47,8 @@ fn run_words<R: rt::Files>(
     outcome.status()
 }
 
-/// Runs the program with its arguments, of which the first is its name, and returns the exit status. If the arguments can't be
-/// read, it reads and writes nothing.
+/// Runs the program with its arguments, the first of which is its name, and returns the exit status. If the arguments
+/// can't be read, it reads and writes nothing.
 pub fn run<R: rt::Files>(
     alloc: Global,
     args: &io::Result<Vec<String>>,

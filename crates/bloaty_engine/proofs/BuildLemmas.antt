@@ -61,7 +61,7 @@ module _ (names : List (List ℕ)) (filter : Option (List ℕ)) (customs : List 
       by-names (Err unknown) ok = cc
 
   module _ (before after : ℕ) (last : List ℕ) where
-    -- no pattern yet
+    -- No pattern was built yet.
     pub built-none : (built : List (List ℕ)) (e : PlanAnswer) → HasNameCause customs names e → BuildsBefore (plan_patterns names filter customs) last e built built
     built-none built (plan.UnknownSource i) h = refl
     built-none built (plan.PatternSyntax i) h = absurd h
@@ -96,7 +96,7 @@ module _ (names : List (List ℕ)) (filter : Option (List ℕ)) (customs : List 
     built-rewrites old middle new are (plan.PatternTooBig i) h built = (behind-filter (i + 1 - 1) (length (option_to_list filter) + i) old middle new are (omega arith) built.0, built.1)
     built-rewrites old middle new are plan.NoMemory h built = (length (option_to_list filter) + built.0, behind-filter built.0 (length (option_to_list filter) + built.0) old middle new are refl built.1)
 
-  -- all patterns
+  -- All patterns were built.
   pub built-whole : (old middle new : List (List ℕ)) → middle ≡ old ++ option_to_list filter → new ≡ middle ++ patterns_in (rewrites_of customs) → new ≡ old ++ (request_patterns filter customs).patterns
   built-whole old middle new are all = reads-whole old middle (option_to_list filter) (patterns_in (rewrites_of customs)) are new all
 
@@ -125,11 +125,11 @@ module _ {P : Type 0} (p : PatternsGhosts P) where
   kept-from X Y (plan.PatternTooBig i) old same new is kept = tt
   kept-from X Y plan.NoMemory old same new is kept = kept ∙ is
 
-  -- a step of planning that builds no pattern
+  -- A step of planning that builds no pattern.
   pub plan-unbuilt : {X : Type 0} (b : PatternList) (e : PlanAnswer) (s : P) → BuildsBefore b (p.last_refused s) e (p.built s) (p.built s) → Plans {X = X} p b (Err e) s s
   plan-unbuilt {X} b e s built = record { built = built; kept = kept-same X e (p.last_refused s); rises = omega arith; sound = λ q. refl }
 
-  -- a step that ends the planning, after steps that refused no pattern
+  -- A step that ends the planning, after steps that refused no pattern.
   pub plan-stops : {X Y : Type 0} (b c : PatternList) (e : PlanAnswer) (s t u : P) → p.last_refused t ≡ p.last_refused s → p.refused t ≡ p.refused s → BuildsBefore c (p.last_refused u) e (p.built s) (p.built u)
       → Plans {X = X} p b (Err e) t u → Plans {X = Y} p c (Err e) s u
   plan-stops {X} {Y} b c e s t u last count built a = record {
@@ -139,7 +139,7 @@ module _ {P : Type 0} (p : PatternsGhosts P) where
     sound = λ q. a.sound q ∙ count;
   }
 
-  -- two steps of planning that succeed
+  -- Two steps of planning that succeed.
   pub plan-follows : {X Y Z : Type 0} (a b c : PatternList) (x : X) (y : Y) (z : Z) (s t u : P) → p.built u ≡ p.built s ++ c.patterns → Plans p a (Ok x) s t → Plans p b (Ok y) t u → Plans p c (Ok z) s u
   plan-follows a b c x y z s t u built first second = record {
     built = built;
@@ -150,7 +150,7 @@ module _ {P : Type 0} (p : PatternsGhosts P) where
 
   -- Steps of a run.
 
-  -- the results of planning
+  -- The effect of planning as that of a step of the run.
   pub plan-made : {X Y : Type 0} (b : PatternList) (x : X) (y : Y) (s t : P) → Plans p b (Ok x) s t → Builds p b (Ok y) s t
   plan-made b x y s t a = record {
     built = (length b.patterns, record { within = omega arith; are = a.built ∙ ap (λ ps. p.built s ++ ps) (sym (take_all (length b.patterns) b.patterns (omega arith))) });
@@ -189,7 +189,7 @@ module _ {P : Type 0} (p : PatternsGhosts P) where
   unbuilt b r s early good small =
       record { built = (0, reads-none (p.built s) b.patterns); all = λ e. absurd (early e); bad = λ i e. absurd (good i e); refused = λ i e. absurd (small i e); sound = λ e. refl }
 
-  -- a step that ends the run
+  -- A step that ends the run.
   pub build-stops : {X Y : Type 0} (b : PatternList) (e : Outcome) (s t : P) → Builds {X = X} p b (Err e) s t → Builds {X = Y} p b (Err e) s t
   build-stops b e s t a = record { built = a.built; all = a.all; bad = λ i is. a.bad i (ap Err (err-same _ _ is)); refused = λ i is. a.refused i (ap Err (err-same _ _ is)); sound = a.sound }
 
@@ -197,11 +197,11 @@ module _ {P : Type 0} (p : PatternsGhosts P) where
   pub built : {X Y : Type 0} (b : PatternList) (x : X) (r : Result Y Outcome) (s t : P) → ((i : ℕ) → r ≡ Err (PatternSyntax i) → ⊥) → ((i : ℕ) → r ≡ Err (PatternTooBig i) → ⊥) → Builds p b (Ok x) s t → Builds p b r s t
   built b x r s t good small a = record { built = a.built; all = λ q. a.all refl; bad = λ i e. absurd (good i e); refused = λ i e. absurd (small i e); sound = λ e. a.sound refl }
 
-  -- a run that ended before it was done
+  -- A run that ended before it was done.
   pub builds-ended : {X : Type 0} (b : PatternList) (e : Outcome) (s t : P) → ended e ≡ Err e → Builds {X = X} p b (Err e) s t → Builds p b (ended e) s t
   builds-ended b e s t is a = rw is (build-stops b e s t a)
 
-  -- a run that wrote its report, or a part of it
+  -- A run that wrote its report, or a part of it.
   pub written-builds : {X : Type 0} (b : PatternList) (x : X) (outcome : Outcome) (s t : P) → (outcome ≡ Done) ⊎ (outcome ≡ WriteFailed) → Builds p b (Ok x) s t → Builds p b (ended outcome) s t
   written-builds b x outcome s t (inl is) a = rw is (built {Y = ⊤} b x (Ok tt) s t (λ i e. cc) (λ i e. cc) a)
   written-builds b x outcome s t (inr is) a = rw is (built {Y = ⊤} b x (Err WriteFailed) s t (λ i e. cc) (λ i e. cc) a)

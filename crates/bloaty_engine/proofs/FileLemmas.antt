@@ -49,7 +49,7 @@ unfolding counted_file
 counted-within limits sources i lengths mapped name file le total =
     rw (not-below (file_limit limits) (length file) le, not-below (total_limit limits) (lengths + length file) total) refl
 
--- a file over a limit is too long
+-- A file over a limit is too long.
 long-choice : (b c : Bool) (decided : Result FileView Outcome) (i : ℕ) → (b || c) ≡ true → cond (b || c) (Err (TooLong i)) decided ≡ Err (TooLong i)
 long-choice b c decided i e = ap (λ t. cond t (Err (TooLong i)) decided) e
 
@@ -74,7 +74,7 @@ pub viewed-ok : (i : ℕ) (decided : Result FileView ProfileAnswer) (f : FileVie
 viewed-ok i (Ok g) f e = cc
 viewed-ok i (Err a) f e = cc
 
--- the length of a view is that of the file
+-- The length of a view is that of the file.
 alone-len : (mapped limit : ℕ) (name file : List ℕ) (sources : List Chosen) (o : Result Binary BadFile) (f : FileView) → opened file ≡ o
     → if_opened o (λ binary. refused_as of_file_alone (opened_viewed mapped limit (alone name binary) sources)) ≡ Ok f → f.len ≡ length file
 alone-len mapped limit name file sources (Ok binary) f is e =
@@ -104,7 +104,7 @@ counted-one filter count files f old new has depth lengths mapped file vm = reco
   vm = λ test. omega (arith, vm test, has.vm test, sum-more (vm_size_where filter test) files f);
 }
 
--- a total of no file
+-- The total of no file.
 pub none-counted : (filter : Option (List ℕ → Bool)) (count depth : ℕ) → depth ≡ count → HasCounted filter count [] (record { depth = depth; rows = []; lengths = 0; mapped = 0 })
 none-counted filter count depth is = record { depth = is; lengths = refl; mapped = refl; file = λ test. refl; vm = λ test. refl }
 
@@ -163,7 +163,7 @@ module _ (limits : Limits) (sources : List Chosen) (bytes : ℕ → List ℕ) wh
       by-file (Err x) at next = absurd (let wrong : ◌≡◌ {A = Result (List FileView) Outcome} (Err x) (Ok fs) = rw at at e in cc)
       by-file (Ok f) at next = by-rest f at (counted_from limits sources bytes (i + 1) (lengths + f.len) (mapped + mapped_count f.loads) names) refl next
 
--- files whose bytes are the same
+-- Files whose bytes are the same.
 pub same-counted : (limits : Limits) (sources : List Chosen) (old new : ℕ → List ℕ) (i lengths mapped : ℕ) (names : List (List ℕ)) → ((j : ℕ) → i ≤ j → j < i + length names → old j ≡ new j)
     → counted_from limits sources old i lengths mapped names ≡ counted_from limits sources new i lengths mapped names
 same-counted limits sources old new i lengths mapped [] same = refl
@@ -338,7 +338,7 @@ module _ (held : Option Pairs) (limits : Limits) (sources : List Chosen) (filter
     gave-end {X = X} end after k lengths t name b to more at (omega (arith, lt)) (gives-as x (Err end) now after ((name, b) ∷ []) gave),
   )
 
-  -- all files
+  -- All files are counted.
   pub all-counted : {now : Pairs} (k lengths : ℕ) (t : Totals) → AreCountedTo held limits sources filter batch k lengths t given now → length batch.names ≤ k → EndsBatch now (Ok t)
   all-counted {now} k lengths t to le = (
     to.bytes,
@@ -347,7 +347,7 @@ module _ (held : Option Pairs) (limits : Limits) (sources : List Chosen) (filter
     gives-all (Ok t) given now (pairs_from batch.first batch.names to.bytes) (to.gave ∙ ap (λ ns. given ++ pairs_from batch.first ns to.bytes) (take_all k batch.names le)),
   )
 
-  -- no file yet
+  -- No file is counted yet.
   pub counted-none : (depth : ℕ) → depth ≡ length sources → AreCountedTo held limits sources filter batch 0 batch.before (record { depth = depth; rows = []; lengths = 0; mapped = 0 }) given given
   counted-none depth is = record {
     bytes = (some-held held batch.first batch.names).0;

@@ -11,7 +11,7 @@ use Rattle.bloaty_engine.specs.Reports.{EndsCounting, EndsFinding, IsCountedFile
 use Rattle.bloaty_engine.proofs.EndLemmas.{ends-so}
 use Rattle.bloaty_engine.specs.Verdict.{Counted, Sides, as_counted, counted_sides, found, found_by}
 
--- the other names are those of the base files
+-- Without a debug file, the names after those of the files are those of the base files.
 pub no-debug-names : (o : Options) → o.debug ≡ None → other_names o ≡ o.bases
 no-debug-names o none = ap (λ d. debug_names d ++ o.bases) none
 

@@ -22,7 +22,7 @@ use Rattle.bloaty_engine.specs.PatternLists.{rewrite_patterns}
 use Rattle.bloaty_engine.specs.Devices.{BuildsBefore, BuildsFirst}
 use Rattle.bloaty_engine.proofs.ReadLemmas.{reads-as-many, reads-behind, reads-more}
 
--- a custom data source that has another name, and one that has this name
+-- A custom data source that has another name, and one that has this name.
 module _ (customs : List CustomSource) (i : ℕ) (c : CustomSource) (name : List ℕ) (at : slice_get customs i ≡ Some c) where
   pub custom-next : bytes_eq c.name name ≡ false → custom_named (drop i customs) name ≡ custom_named (drop (i + 1) customs) name
   custom-next other =
@@ -37,7 +37,7 @@ module _ (customs : List CustomSource) (i : ℕ) (c : CustomSource) (name : List
 pub custom-end : (customs : List CustomSource) (i : ℕ) (name : List ℕ) → length customs ≤ i → custom_named (drop i customs) name ≡ None
 custom-end customs i name le = ap (λ cs. custom_named cs name) (drop-end customs i le)
 
--- data sources before others
+-- Data sources, followed by others.
 abbrev pub with_chosen : List Chosen → Result (List Chosen) ℕ → Result (List Chosen) ℕ
 with_chosen chosen (Ok others) = Ok (chosen ++ others)
 with_chosen chosen (Err unknown) = Err unknown
@@ -50,7 +50,7 @@ with_more : (chosen : List Chosen) (x : Chosen) (number : ℕ) (r : Result (List
 with_more chosen x number (Ok others) = ap Ok (sym (append_assoc chosen (x ∷ []) others))
 with_more chosen x number (Err unknown) = refl
 
--- the data sources of the names before number i are chosen
+-- The data sources of the first `i` names are chosen.
 abbrev pub AreChosenTo : List CustomSource → List (List ℕ) → ℕ → List Choice → Type 0
 AreChosenTo customs names i choices =
     chosen_sources customs names ≡ with_chosen (map (chosen_in (rewrite_lists customs)) choices) (chosen_from customs (i + 1) (drop i names))
@@ -76,11 +76,11 @@ module _ (customs : List CustomSource) (names : List (List ℕ)) (i : ℕ) (choi
       named (Some (chosen choice)) is ∙ with_more (map chosen choices) (chosen choice) (i + 1) others
       ∙ ap (λ xs. with_chosen xs others) (sym (map-append chosen choices (choice ∷ [])))
 
-  -- a name that means no data source
+  -- A name that means no data source.
   pub chosen-unknown : None ≡ chosen_named customs name → chosen_sources customs names ≡ Err (i + 1)
   chosen-unknown is = named None is
 
--- the rewrites of one data source are part of all rewrites
+-- The rewrites of one data source are part of all rewrites.
 slice_get-past : {X : Type 0} (front back : List X) (k n : ℕ) → k ≡ length front + n → slice_get (front ++ back) k ≡ slice_get back n
 slice_get-past [] back k n e = let same : k ≡ n = omega (arith, e) in ap (slice_get back) same
 slice_get-past (x ∷ front) back zero n e = absurd (omega (arith, e))
@@ -132,7 +132,7 @@ module _ (customs : List CustomSource) (i : ℕ) (c : CustomSource) (at : slice_
     rw parts (stops-within (rewrites_of (take i customs)) c.rewrites (rewrites_of (drop (suc i) customs)) place P read stops),
   )
 
-  -- the cause of an answer in one data source is its cause among all rewrites
+  -- The cause of an answer in one data source is its cause among all rewrites.
   pub cause-more : (first start before after : ℕ) (last : List ℕ) → first ≡ 1 + length (rewrites_of (take i customs)) → AreRead (rewrites_of (take i customs)) → start ≤ before
       → (e : PlanAnswer) → HasRewriteCause first c.rewrites before after last e → HasRewriteCause 1 (rewrites_of customs) start after last e
   cause-more first start before after last now read le (UnknownSource n) h = h

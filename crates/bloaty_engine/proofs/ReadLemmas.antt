@@ -23,7 +23,7 @@ take-next (n ∷ names) (suc k) name at =
     rw p (ap (λ ms. n ∷ ms) (take-next names k name at))
 
 module _ (before names : List (List ℕ)) where
-  -- no name yet
+  -- No name was read yet.
   pub read-none : before ≡ before ++ take 0 names
   read-none = sym (ap (λ ns. before ++ ns) (take-none names) ∙ append-nil before)
 
@@ -33,7 +33,7 @@ module _ (before names : List (List ℕ)) where
   read-next after k name are at =
       ap (λ ns. ns ++ name ∷ []) are ∙ (append_assoc before (take k names) (name ∷ []) ∙ ap (λ ns. before ++ ns) (sym (take-next names k name at)))
 
-  -- all names
+  -- All names were read.
   pub read-all : (after : List (List ℕ)) (k : ℕ) → after ≡ before ++ take k names → length names ≤ k → after ≡ before ++ names
   read-all after k are le = are ∙ ap (λ ns. before ++ ns) (take_all k names le)
 
@@ -118,6 +118,6 @@ pub OnOk-then : {T E : Type 0} (r : Result T E) (P Q : Type 0) → (P → Q) →
 OnOk-then (Ok v) P Q f p = f p
 OnOk-then (Err e) P Q f p = tt
 
--- a run that is done didn't end before its report
+-- A run that is done didn't end before its report.
 pub done-is-no-end : (end : Outcome) → end ≡ Done → is_end end ≡ true → ⊥
 done-is-no-end end done is = let wrong : false ≡ true = rw done at is in cc wrong

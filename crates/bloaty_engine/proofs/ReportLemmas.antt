@@ -38,7 +38,7 @@ growths-count filter depth files bases paths are path = record {
   base_vm = are.base_vm (begins_with path);
 }
 
--- the rows of a report show its files
+-- The rows of a report show its files.
 pub rows-show : (o : Options) (files : List FileView) (rows : List RollupRow) → AreSizes (filter_test o.filter) (depth_of o) files rows
     → ShowsPaths (row_options o) (vm_size (filter_test o.filter) files) (file_size (filter_test o.filter) files) (depth_of o) (report_tree o rows).rows
 rows-show o files rows sizes =

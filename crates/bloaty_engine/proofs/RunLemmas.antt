@@ -263,7 +263,7 @@ found-error : (limits : Limits) (sources : List Chosen) (files : ℕ → List �
 unfolding found
 found-error limits sources files o end e = found-by-error o.place o.debug limits sources files o end e
 
--- each name has its data source
+-- There are as many data sources as names.
 chosen-count : (customs : List CustomSource) (i : ℕ) (names : List (List ℕ)) (sources : List Chosen) → chosen_from customs i names ≡ Ok sources → length sources ≡ length names
 chosen-count customs i [] sources e = let none : [] ≡ sources = ok-same [] sources e in rw (← none) refl
 chosen-count customs i (n ∷ names) sources e = by-name (chosen_named customs n) refl (λ others at. chosen-count customs (i + 1) names others at)
@@ -353,7 +353,7 @@ counts-stripped : (limits : Limits) (sources : List Chosen) (files : ℕ → Lis
 unfolding found
 counts-stripped limits sources files o finding e debug is = counts-file limits sources files o finding o.place debug (ap (λ d. found_by o.place d limits sources files o) (sym is) ∙ e)
 
--- a file never ends a run by a pattern
+-- A file never ends a run by a pattern.
 pub never-big : (limits : Limits) (sources : List Chosen) (files : ℕ → List ℕ) (o : Options) (i : ℕ) → EndsFinding limits sources files o (Err (PatternTooBig i)) → ⊥
 unfolding IsFileEnd
 never-big limits sources files o i e = found-error limits sources files o (PatternTooBig i) e
@@ -571,7 +571,7 @@ usage-answer limits words contents last usage.BadPlace is = usage-verdict limits
 usage-answer limits words contents last usage.TwoPlaces is = usage-verdict limits (options_of words) contents usage.TwoPlaces (is.first (λ e. cc))
 usage-answer limits words contents last usage.PlaceFile is = usage-verdict limits (options_of words) contents usage.PlaceFile (is.first (λ e. cc))
 
--- a run whose arguments and files have no fault is finished, or was interrupted
+-- A run whose verdict is a report has an outcome of `IsFinished`.
 no-error : {X : Type 0} (r : Result X Outcome) (end : Outcome) → IsOk r → r ≡ Err end → ⊥
 no-error (Ok x) end ok e = cc
 no-error (Err x) end ok e = cc
@@ -606,7 +606,7 @@ module _ (limits : Limits) (given : Result Options UsageKind) (contents : Conten
   finished NoMatch is ok = absurd (no-error (verdict limits given contents) NoMatch ok is)
   finished PlaceOutside is ok = absurd (no-error (verdict limits given contents) PlaceOutside ok is)
 
-  -- a run that ends before its report writes nothing
+  -- A run that ends before its report writes nothing.
   unwritten : (out : Option (List ℕ)) (end : Outcome) → is_end end ≡ true → Writes limits given contents out out end
   unwritten out Done is = cc
   unwritten out (Usage kind) is = cc
@@ -628,7 +628,7 @@ module _ (seen : SeenFiles) (limits : Limits) (last : List ℕ) (o : Options) (c
   own-bytes : (p : Options) → ◌≡◌ {A = Result Options UsageKind} (Ok o) (Ok p) → AreContents seen.held p contents
   own-bytes p same = rw (← ok-same o p same) are
 
-  -- a run that ends before its report
+  -- A run that ends before its report.
   pub run-ends : {X : Type 0} (out : Option (List ℕ)) (end : Outcome) → EndsReport limits o last contents (Err end) → Gives {X = X} (Err end) seen.before seen.after (run_pairs (Ok o) contents)
       → IsRun seen limits (Ok o) last out out end
   run-ends out end e gave = record {
@@ -673,14 +673,14 @@ module _ (seen : SeenFiles) (limits : Limits) (last : List ℕ) (o : Options) (c
     complete = λ ok. tt;
   }
 
-  -- a run that writes its report
+  -- A run that writes its report.
   pub run-writes : (old new : Option (List ℕ)) (text : Vec ℕ Global) (outcome : Outcome) → EndsReport limits o last contents (Ok text) → Gives (Ok text) seen.before seen.after (run_pairs (Ok o) contents)
       → (outcome ≡ Done) ⊎ (outcome ≡ WriteFailed)
       → (outcome ≡ Done → Grew old new text.items) → (outcome ≡ WriteFailed → GrewByPart old new text.items) → IsRun seen limits (Ok o) last old new outcome
   run-writes old new text outcome e gave (inl is) done part = rw is (wrote-all old new text e gave (done is))
   run-writes old new text outcome e gave (inr is) done part = rw is (wrote-part old new text e gave (part is))
 
--- a run whose arguments are misused
+-- A run whose arguments are misused.
 pub usage-run : (held : Option Pairs) (before : Pairs) (limits : Limits) (words : List (List ℕ)) (last : List ℕ) (out : Option (List ℕ)) (kind : UsageKind) → IsUsageOf words kind
     → IsRun (record { held = held; before = before; after = before }) limits (options_of words) last out out (Usage kind)
 usage-run held before limits words last out kind is =

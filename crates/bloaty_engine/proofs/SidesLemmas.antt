@@ -47,7 +47,7 @@ beyond-behind : (count : ℕ) (a b : ℕ → List ℕ) (j : ℕ) → count < j �
 unfolding beyond
 beyond-behind count a b j lt = ap (λ t. cond t (a j) (b j)) (let p : nat_le j count ≡ false = grind (arith, nat_tests) in p)
 
--- the files have their bytes, and so have the base files
+-- The files have their bytes, and so have the base files.
 pub front-files : (held : Option Pairs) (synth : Option ℕ) (names : List (List ℕ)) (a b : ℕ → List ℕ) → AreFiles held synth names a → AreFiles held synth names (beyond (length (names_of synth names)) a b)
 front-files None None names a b are = tt
 front-files (Some pairs) None names a b are = λ k name at. beyond-front (length names) a b (1 + k) (omega (arith, slice_get_within names k name at)) ∙ are k name at

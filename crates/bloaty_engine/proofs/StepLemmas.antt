@@ -79,7 +79,7 @@ part-behind front p q taken spent names part i name at old mid new are reads =
     reads-as-many (length front + p.upto i) (q.upto i) old new q.names (part.upto i name at) (rw names (reads-behind old mid front p.names are (p.upto i) new reads))
 
 module _ {F : Type 0} (f : FilesGhosts F) where
-  -- a step that reads no file
+  -- A step that reads no file.
   pub unread : {X : Type 0} (q : Reading) (r : Result X Outcome) (s : F) → OnOk r (q.names ≡ []) → ((i : ℕ) → r ≡ Err (ReadFailed i) → ⊥)
       → ((i : ℕ) → r ≡ Err (TooLong i) → (name : List ℕ) × (q.name_of i ≡ Some name) × (q.upto i ≡ 0) × (q.least i ≡ 0)) → Reads f q r s s
   unread q r s none unfailed short = record {
@@ -201,7 +201,7 @@ module _ {F : Type 0} (f : FilesGhosts F) where
   pub then-no-memory : {X Y : Type 0} (p q : Reading) (rest : List (List ℕ)) (x : X) (s t : F) → q.names ≡ p.names ++ rest → p.most ≤ q.most → Reads f p (Ok x) s t → Reads {X = Y} f q (Err NoMemory) s t
   then-no-memory p q rest x s t names most a = then-unread p q rest x (Err NoMemory) s t names most tt (λ i e. cc) (λ i e. cc) a
 
-  -- one read
+  -- One read.
   pub one-read : {X : Type 0} (number : ℕ) (name : List ℕ) (limit : ℕ) (r : Result X Outcome) (s t : F) → f.asked t ≡ f.asked s ++ name ∷ [] → f.held t ≡ f.held s → f.faults s ≤ f.faults t → f.taken s ≤ f.taken t
       → f.taken t ≤ f.taken s + (limit + 1)
       → ((i : ℕ) → r ≡ Err (ReadFailed i) → (i ≡ number) × Rose (f.faults s) (f.faults t) × IfSome (f.last_failed t) (λ n. n ≡ name))
@@ -231,11 +231,11 @@ module _ {F : Type 0} (f : FilesGhosts F) where
       upto : ReadsFirst (number + 1 - number) (f.asked s) (f.asked t) (name ∷ [])
       upto = reads-as-many 1 (number + 1 - number) (f.asked s) (f.asked t) (name ∷ []) (omega arith) one
 
-  -- a run that ended before it was done
+  -- A run that ended before it was done.
   pub run-ended : {X : Type 0} (q : Reading) (e : Outcome) (s t : F) → ended e ≡ Err e → Reads {X = X} f q (Err e) s t → Reads f q (ended e) s t
   run-ended q e s t is a = rw is (stops q q [] e s t (sym (append-nil q.names)) (same-all q) a)
 
--- a run that wrote its report, or a part of it
+-- A run that wrote its report, or a part of it.
 pub written-reads : {F X : Type 0} (f : FilesGhosts F) (q : Reading) (x : X) (outcome : Outcome) (s t : F) → (outcome ≡ Done) ⊎ (outcome ≡ WriteFailed) → Reads f q (Ok x) s t → Reads f q (ended outcome) s t
 written-reads f q x outcome s t (inl is) a = rw is (same-ok f q x tt s t a)
 written-reads f q x outcome s t (inr is) a = rw is (then-unread f {Y = ⊤} q q [] x (Err WriteFailed) s t (sym (append-nil q.names)) (omega arith) tt (λ i e. cc) (λ i e. cc) a)
@@ -284,7 +284,7 @@ front-all names k le = sym (append-nil (take k names) ∙ take_all k names le)
 pub front-rest : (names : List (List ℕ)) (k : ℕ) → names ≡ take k names ++ drop k names
 front-rest names k = sym (take-append-drop k names)
 
--- the first file of a run
+-- The first file of a run.
 pub first-part : (limits : Limits) (name : List ℕ) (names rest : List (List ℕ)) (limit : ℕ) → limit ≡ min (file_limit limits) (total_limit limits)
     → IsPart (file_reading 1 name limit) (batch_reading limits (batch_of 0 0 (name ∷ rest))) 0 0 0
 first-part limits name names rest limit is =
@@ -292,7 +292,7 @@ first-part limits name names rest limit is =
     let part = batch-part limits (batch_of 0 0 (name ∷ rest)) 0 0 0 limit 0 name (name ∷ rest) refl refl (omega arith) (omega arith) left in
     record { name_of = part.name_of; upto = part.upto; least = part.least; most = part.most }
 
--- the files of a batch in a longer one
+-- The files of a batch in a longer one.
 pub front-part : (limits : Limits) (first before : ℕ) (names rest : List (List ℕ))
     → IsPart (batch_reading limits (record { first = first; before = before; names = names })) (batch_reading limits (record { first = first; before = before; names = names ++ rest })) 0 0 0
 front-part limits first before names rest = record { name_of = λ i n at. named i n (numbered-at first i names n at); upto = λ i n at. omega arith; least = λ i n at. omega arith; most = omega arith }
@@ -318,7 +318,7 @@ files-part limits o names all none named = record {
   most = omega (arith, ap made_len none);
 }
 
--- the configuration
+-- The configuration.
 no-upto : (synth : Option ℕ) → read_upto synth 0 ≡ 0
 no-upto None = refl
 no-upto (Some n) = refl
@@ -370,7 +370,7 @@ base-part limits o lengths all none made within = record {
   most = most-over (total_limit limits) (made_len o.synth) lengths made within;
 }
 
--- the outcome of a run that isn't done
+-- The outcome of a run that isn't done.
 pub not-done : (e : Outcome) → (e ≡ Done → ⊥) → ended e ≡ Err e
 not-done Done is = absurd (is refl)
 not-done (Usage kind) is = refl

@@ -35,7 +35,7 @@ one-of-growth o files bases a b p q =
     ∙ (ap (growth_printed o) (one-growth (row_options o) (growth_sizes (filter_test o.filter) files bases) (depth_of o) p.tree q.tree p.order q.order)
     ∙ sym q.is)
 
--- the sizes of a path over files in another order
+-- A path has the same sizes over the files in any order.
 same-vm : (filter : Option (List ℕ → Bool)) (files others : List FileView) → IsPermutation files others → vm_size filter files ≡ vm_size filter others
 same-vm filter files others same = fun_ext (λ (path : Path). sym (sum_by-IsPermutation (vm_size_in filter path) files others same))
 
@@ -63,7 +63,7 @@ any-order o files others text same report =
       is = report.is;
     }
 
--- the first label of a path depends on the first data source alone
+-- The first label of a path depends on the first data source alone.
 first-alone : {X : Type 0} (g : X → List ℕ) (xs : List X) (label : List ℕ) → starts_with bytes_eq (map g (take 1 xs)) (label ∷ []) ≡ starts_with bytes_eq (map g xs) (label ∷ [])
 first-alone g [] label = refl
 first-alone g (x ∷ xs) label = refl

@@ -1,4 +1,5 @@
--- The outcome of a run and what it writes, by its arguments and the bytes of its files.
+-- The outcome of a run and what it writes, by its arguments and the bytes of its files. `IsRun` is the main
+-- definition.
 use Rattle.std.specs.Prelude.{⊤, ◌≡◌, ℕ, zero, suc, ◌<◌, Bool, true, false, List, length, Option, Some, Result, Ok, Err, Vec, IsOk, All}
 use Rattle.std.specs.declared.alloc.Global.{Global}
 use Rattle.size_core.specs.declared.limits.Limits.{Limits}
@@ -20,12 +21,12 @@ use Rattle.bloaty_engine.specs.Reports.{IsReport, IsUnmade}
 use Rattle.bloaty_engine.specs.Stages.{Patterns, is_past}
 use Rattle.bloaty_engine.specs.Verdict.{Counted, Explained, Finding, Found, IsReadAt, Request, asked, verdict}
 
--- The arguments and the configuration have no fault, and `P` holds of the request.
+-- The arguments, the configuration and the names in `-d` have no fault, and `P` holds of the request.
 abbrev pub IsAsked : Limits → Result Options UsageKind → Contents → (Request → Type 0) → Type 0
 IsAsked limits given contents P = (r : Request) × (asked limits given contents ≡ Ok r) × P r
 
 -- The run gets as far as reading file i. The configuration, which is file 0, is read after the arguments are parsed.
--- Each other file, unless it is synthetic, is read if all files before it have no fault.
+-- Each other file, unless it is synthetic, is read if the run gets past all files before it (`IsReadAt`).
 abbrev pub IsReached : Limits → Result Options UsageKind → Contents → ℕ → Type 0
 IsReached limits given contents zero = (o : Options) × (given ≡ Ok o) × ((name : List ℕ) × (o.config ≡ Some name))
 IsReached limits given contents (suc k) =
@@ -33,8 +34,11 @@ IsReached limits given contents (suc k) =
     (λ r. IsUnmade r.options.synth k × (k < length (all_names r.options))
     × IsReadAt limits r.sources contents.files r.options k)
 
--- The outcome is the verdict, or an interruption at a stage that the verdict reaches without a fault. `last` is the
--- last pattern that was refused for its size.
+-- The outcome is the verdict, or an interruption at a stage that the run reaches. A write fails only if the verdict
+-- is a report, and the read of file i only if the run gets to this file. The run stops at a pattern, which was
+-- refused for its size or is no regular expression, only if all patterns with smaller numbers are regular
+-- expressions. `last` is the last pattern that was refused for its size. Memory may run out at any stage. Arguments
+-- that clap can't parse have a clause of their own (`words` of `bloaty`).
 abbrev pub IsAnswer : Limits → Result Options UsageKind → Contents → List ℕ → Outcome → Type 0
 IsAnswer limits given contents last Done = IsOk (verdict limits given contents)
 IsAnswer limits given contents last WriteFailed = IsOk (verdict limits given contents)
@@ -47,12 +51,13 @@ IsAnswer limits given contents last (PatternTooBig i) =
     IsAsked limits given contents (λ r. StopsAt r.options.filter r.customs i (λ pattern. last ≡ pattern))
 IsAnswer limits given contents last answer = verdict limits given contents ≡ Err answer
 
--- All patterns of the run are regular expressions of the grammar.
+-- The arguments, the configuration and the names in `-d` have no fault, and all patterns are regular expressions.
 abbrev pub HasGoodPatterns : Limits → Result Options UsageKind → Contents → Type 0
 HasGoodPatterns limits given contents = IsAsked limits given contents (λ r. ArePatterns r.options.filter r.customs)
 
--- The outcomes of a run whose arguments and files have no fault: it is done, out of memory, refuses a pattern, or is
--- interrupted. `Reads`, `Builds` and `CountsWrites` give the cause of each interruption.
+-- The outcomes that are possible if the verdict is a report: the run is done, or a pattern is no regular expression,
+-- or the run is interrupted. The other clauses of `bloaty` give the cause of each interruption but running out of
+-- memory.
 abbrev pub IsFinished : Outcome → Type 0
 IsFinished Done = ⊤
 IsFinished NoMemory = ⊤
@@ -63,16 +68,17 @@ IsFinished (PatternTooBig i) = ⊤
 IsFinished WriteFailed = ⊤
 IsFinished outcome = ⊥
 
--- The report is about this file only: its bytes and the addresses that it maps.
+-- A report of sizes counts the bytes of this file only, and the addresses that it maps.
 abbrev pub CountsFile : List ℕ → Finding → Type 0
 CountsFile file (Counted s) = All (IsOfFile file) s.files
 CountsFile file (Explained place sources) = ⊤
 
 -- The verdict is a report, and `P` holds of its text.
 --
+-- found, decided: The verdict is this request with this content of its report.
 -- report: `text` is the text of the report on what was found.
 -- stripped: With a debug file the sizes are those of the first file alone, which may be stripped of debug information.
--- explained: With a location the labels are the path of the byte in a report of sizes.
+-- explained: With a location, the labels are the path that the byte or address has in a report of sizes.
 -- so: `P` holds of this text.
 pub record HasReport (limits : Limits) (given : Result Options UsageKind) (contents : Contents) (P : List ℕ → Type 0) : Type 0 where
   pub found : Found
@@ -93,13 +99,15 @@ Writes limits given contents old new answer = new ≡ old
 -- `last` is the last pattern that was refused for its size; `old` and `new` are what the output held before and after.
 --
 -- contents: The bytes of the configuration and of the files.
--- bytes: They are those that the files hold, if that is reported.
+-- bytes: They are those that the files hold, if the implementation of `Files` reveals this, as files in memory do.
+--     The bytes of a synthetic file are known.
 -- gave: They are those that the reads of this run returned: of the configuration first and then of the files, in the order
 --     in which they are read. A run that is done has read all of them, and any other run the first ones.
 -- answer: The outcome is what the arguments and these bytes decide, or an interruption at a stage that the run reached.
--- patterns: A run that got past the patterns had no bad one.
--- written: Done has written the report, WriteFailed a part of it, and any other outcome nothing.
--- complete: If the verdict over these bytes is a report, the run is done, or it was interrupted.
+-- patterns: If the run got past the stage of the patterns, all of them are regular expressions.
+-- written: Done has written the report, WriteFailed a proper prefix of it, and any other outcome nothing.
+-- complete: If the verdict over these bytes is a report, the run is done, or a pattern is no regular expression, or
+--     the run was interrupted.
 pub record IsRun (seen : SeenFiles) (limits : Limits) (given : Result Options UsageKind) (last : List ℕ)
     (old new : Option (List ℕ)) (outcome : Outcome) : Type 0 where
   pub contents : Contents
@@ -110,14 +118,15 @@ pub record IsRun (seen : SeenFiles) (limits : Limits) (given : Result Options Us
   pub written : Writes limits given contents old new outcome
   pub complete : IsOk (verdict limits given contents) → IsFinished outcome
 
--- The outcomes of a run that ends before its report is written.
+-- The outcomes that can end a run after its arguments are parsed and before its report is written.
 abbrev pub is_end : Outcome → Bool
 is_end Done = false
 is_end (Usage kind) = false
 is_end WriteFailed = false
 is_end outcome = true
 
--- The steps before the writing return the text of the report, or end the run with one of these outcomes.
+-- The result of all steps after the arguments are parsed and before the report is written: the text of the report, or
+-- the outcome that ends the run.
 abbrev pub EndsReport : Limits → Options → List ℕ → Contents → Result (Vec ℕ Global) Outcome → Type 0
 EndsReport limits o last contents (Ok text) =
     HasReport limits (Ok o) contents (λ t. t ≡ text.items) × HasGoodPatterns limits (Ok o) contents

@@ -1,4 +1,5 @@
--- What a step of a run did to the files, the patterns, the output and the error output: each is seen before and after the step.
+-- What a step of a run did to the files, the patterns, the output and the error output: each is seen before and after
+-- the step. That a read or a write failed means that its count of failures rose, or has stopped at 2^64 - 1 (`Rose`).
 use Rattle.std.specs.Prelude.{◌≡◌, ◌≢◌, ℕ, ◌+◌, ◌<◌, ◌≤◌, [], ◌∷◌, ◌++◌, List, length, take, true, Some, Result, Ok, Err, OnOk, IsErrOf, IfSome, ⊤}
 use Rattle.outside.specs.declared.files.Files.{Ghosts as FilesGhosts}
 use Rattle.outside.specs.declared.sink.Sink.{Ghosts as SinkGhosts}
@@ -38,9 +39,9 @@ pub record ReadsFirst (count : ℕ) (before after names : List (List ℕ)) : Typ
 --     was the read of the name of file i, if the files report the name.
 -- sound: Otherwise no read failed.
 -- later, more: The counts of failed reads and of bytes read never fall.
--- long: If it ended because file i was too long, the names that were read are those up to file i, and at least this many bytes
---     were read, if the files don't report what they hold.
--- most: At most this many bytes were read, whatever the result is.
+-- long: If it ended because file i was too long, the names that were read are those up to file i, and at least
+--     `reading.least i` bytes were read, if the files don't report what they hold.
+-- most: At most `reading.most` bytes were read, whatever the result is.
 pub record Reads {F X : Type 0} (f : FilesGhosts F) (reading : Reading) (result : Result X Outcome) (before after : F) : Type 0 where
   pub held : f.held after ≡ f.held before
   pub asked : (count : ℕ) × ReadsFirst count (f.asked before) (f.asked after) reading.names
@@ -64,7 +65,7 @@ BuildsFirst count before after patterns = ReadsFirst count before after patterns
 abbrev pub BuildsUpTo : PatternList → ℕ → List (List ℕ) → List (List ℕ) → Type 0
 BuildsUpTo list i before after = BuildsFirst (list.upto i) before after list.patterns
 
--- This is the last of these patterns.
+-- The pattern is the last of these patterns.
 abbrev pub IsLast : List ℕ → List (List ℕ) → Type 0
 IsLast pattern patterns = (others : List (List ℕ)) × (patterns ≡ others ++ pattern ∷ [])
 
@@ -130,16 +131,16 @@ pub record Plans {P X : Type 0} (p : PatternsGhosts P) (list : PatternList) (res
 
 -- The effect of a run on its output.
 --
--- failed: If the outcome is that the output failed, a write failed.
+-- failed: If the outcome is `WriteFailed`, a write failed.
 -- sound: Otherwise no write failed.
 pub record CountsWrites {O : Type 0} (o : SinkGhosts O) (outcome : Outcome) (before after : O) : Type 0 where
   pub failed : outcome ≡ WriteFailed → Rose (o.faults before) (o.faults after)
   pub sound : outcome ≢ WriteFailed → o.faults after ≡ o.faults before
 
--- The line of the outcome is printed.
+-- The effect of a run on its error output. It prints the line of the outcome.
 --
 -- part: What was written is a prefix of the line, and nothing else.
--- whole: It is the whole line, unless a write failed.
+-- whole: It is the whole line, unless a write to the error output failed.
 -- silent: A run that is done wrote nothing.
 pub record PrintsLine {E : Type 0} (e : SinkGhosts E) (line : List ℕ) (outcome : Outcome) (before after : E) : Type 0 where
   pub part : (count : ℕ) × Grew (e.written before) (e.written after) (take count line)

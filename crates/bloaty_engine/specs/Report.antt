@@ -95,15 +95,16 @@ CountsOnce filter = (path p q : List (List ℕ)) → length p ≡ length q → c
 -- The report of the sizes of files. The sizes of a path are the numbers of file bytes and of mapped addresses whose path
 -- of labels, by first covering claims, begins with it.
 --
--- tree, order: The tree has these sizes of paths in the report's order. Within a level the larger key comes first, and for
---     equal keys the lesser label; the rows under a label follow its row. With `-n` at most that many labels stay, and none
---     that is left out precedes one that stays. One Others row has the sums of those left out. Its own key gives its
---     position, before an equal label.
+-- tree, order: The tree has these sizes of paths in the report's order. Each label with a shown size above 0 has a
+--     row or is left out, and no other label has a row. The key of a row is the shown size that `-s` selects, or the
+--     larger one. Within a level the larger key comes first, and for equal keys the lesser label; the rows under a
+--     label follow its row. With `-n` at most that many labels stay, and none that is left out precedes one that
+--     stays. One Others row has the sums of those left out. Its own key gives its position, before an equal label.
 -- levels: The rows form a tree with a level for each data source: a row has rows below it unless it is of the last level or
 --     an Others row.
 -- each: The sizes of a row are those of its path, which is read off the rows above it; an Others row has the sums of the
 --     labels that are left out.
--- once: Each byte is counted once in a level.
+-- once: No byte is counted for two rows of a level.
 -- sums: The sizes of the children of a row, Others included, add up to that row's, and those of the first level to the total.
 -- whole: Without a filter the totals are the lengths of all files and the numbers of addresses that they map.
 -- is: The text is the printed tree.

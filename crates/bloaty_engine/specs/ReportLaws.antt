@@ -86,7 +86,8 @@ abbrev pub EachPathIsReadBack : Type 0
 EachPathIsReadBack = (o : Options) (files : List FileView) (text : List ℕ)
     → o.limit ≡ 0 → 0 < depth_of o → IsSizeReport o files text → IsReadBack o files text
 
--- What was read is one record for each full path that has changed, with each path that it begins with, with its growths.
+-- What was read is one record for each full path that has changed and whose prefixes have all changed, with its
+-- growths. A path has changed if a shown size of it has.
 abbrev pub ReadsChanges : Options → List FileView → List FileView → Option (List (List (List ℕ))) → Type 0
 ReadsChanges o files bases read =
     ReadsGrowths (row_options o) (growth_sizes (filter_test o.filter) files bases) (depth_of o) o.sources read

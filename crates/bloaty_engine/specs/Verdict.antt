@@ -1,4 +1,5 @@
--- The outcome that the arguments and the bytes of the files decide.
+-- The outcome that the arguments and the bytes of the files decide. The main definition is `verdict`, at the end. The
+-- configuration is file 0, and the files are numbered from 1. The debug file or the base files come after them.
 use Rattle.std.specs.Prelude.{ℕ, zero, suc, ◌+◌, ◌-◌, ◌^◌, min, ◌||◌, nat_lt, ⊤, List, [], ◌∷◌, length, slice_get, take, unwrap_or, Option, None, Some, Result, Ok, Err, IsOk, if◌then◌else◌}
 use Rattle.std.specs.List.{sum_by}
 use Rattle.size_core.specs.declared.fault.BadFile.{BadFile}
@@ -106,7 +107,8 @@ unfoldable pub counted_file : Limits → List Chosen → ℕ → ℕ → ℕ →
 counted_file limits sources i lengths mapped name file =
     if_short limits i lengths file (if_viewed i (viewed mapped limits.claims name file sources))
 
--- The files of these names, one after the other, as they are counted. The first is file i.
+-- The files of these names, one after the other, as they are counted. The first is file i. `lengths` and `mapped` are
+-- the sums for the files before it, in bytes.
 abbrev pub counted_from : Limits → List Chosen → (ℕ → List ℕ) → ℕ → ℕ → ℕ → List (List ℕ) → Result (List FileView) Outcome
 counted_from limits sources files i lengths mapped [] = Ok []
 counted_from limits sources files i lengths mapped (name ∷ names) = do
@@ -182,7 +184,7 @@ unfoldable pub explained_file : Limits → List Chosen → Options → Place →
 explained_file limits sources o place name file =
     if_short limits 1 0 file (if_explained (explained_place limits.claims o.limit place name file (named_sources o.sources sources)))
 
--- The first n of the files, followed by the base files.
+-- The first n of all files, as they are counted. The base files come after the other files.
 abbrev pub counted_files : Limits → List Chosen → (ℕ → List ℕ) → Options → ℕ → Result Sides Outcome
 counted_files limits sources files o n =
     counted_sides limits sources files (take n (file_names o)) (take (n - length (file_names o)) o.bases)

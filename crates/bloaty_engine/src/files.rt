@@ -20,11 +20,14 @@ use size_options::Options;
 use std::alloc::Global;
 use std::sync::ledger::{Blank, Ledger};
 
-/// The number of files counted so far, the sum of their lengths in bytes, and the count of the steps that they took.
+/// What a run has counted so far.
 #[derive(Drop)]
 pub struct Tally<L: Ledger> {
+    /// The number of files. The next file has the number after it.
     pub files: usize,
+    /// The sum of their lengths in bytes.
     pub bytes: u64,
+    /// The steps that they took.
     pub steps: Steps<L>,
 }
 
@@ -57,7 +60,8 @@ pub fn total_limit(limits: &Limits) -> u64
     limits.total.min(1 << 62)
 }
 
-/// Reads file `number`, which has the name `name` and may have at most `limit` bytes.
+/// Reads file `number`, which has the name `name` and may have at most `limit` bytes. The outcome is `ReadFailed` or
+/// `TooLong` with this number, or `NoMemory`.
 pub fn read_file<F: Files>(
     alloc: Global,
     files: &mut F,
@@ -140,8 +144,9 @@ pub fn first_name(options: &Options) -> &str
     }
 }
 
-/// Reads and counts the files of these names, and adds them to `tally`, which counts the files before them. Each file's
-/// memory is freed before the next file is read.
+/// Reads and counts the files of these names, and returns the sizes of each path over them. Adds them to `tally`,
+/// which counts the files before them. Each file's memory is freed before the next file is read. The outcome is that
+/// of the first file that can't be read or counted, or `NoMemory`.
 pub fn count_files<L: Ledger, F: Files>(
     run: &Run,
     plan: &Plan,
@@ -173,7 +178,8 @@ pub fn count_files<L: Ledger, F: Files>(
     Ok(total)
 }
 
-/// Counts the synthetic file of `n` functions, which is the first file, and adds it to `tally`.
+/// Counts the synthetic file of `n` functions, which is the first file, and adds it to `tally`. Returns the sizes of
+/// each path in it. The outcome is `TooLong` if the file exceeds a limit, or that of a file that can't be counted.
 pub fn count_made<L: Ledger>(
     run: &Run,
     plan: &Plan,

@@ -87,8 +87,8 @@ pub fn each_path_is_read_back()
     ensures { EachPathIsReadBack }
 {}
 
-/// The same for a report of growth: there is one record for each full path that has changed, with each path that it begins
-/// with, and it has the growths of the path.
+/// The same for a report of growth: there is one record for each full path that has changed and whose prefixes have
+/// all changed, and it has the growths of the path. A path has changed if a shown size of it has.
 pub fn each_growth_is_read_back()
     ensures { EachGrowthIsReadBack }
 {}

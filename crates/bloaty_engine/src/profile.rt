@@ -25,9 +25,9 @@ use std::sync::ledger::Ledger;
 /// - `Bad`: the first fault of the file,
 /// - `Bad` or `TooManyClaims` of the first data source that has a fault or with which the claims exceed
 ///   `limits.claims`,
-/// - `MappedTooLarge`: the mapped sizes of all files exceed 2^63 - 1.
+/// - `MappedTooLarge`: the mapped sizes of this file and of those in `total` exceed 2^63 - 1.
 ///
-/// After an error `total` is as before.
+/// `NoMemory` may come at any step. After an error `total` is as before.
 pub fn profile_file<L: Ledger>(
     alloc: Global,
     plan: &Plan,

@@ -15,11 +15,14 @@ use size_core::Limits;
 use size_options::Options;
 use std::alloc::Global;
 
-/// The allocator, the options and the limits of a run.
+/// What a run is asked for.
 #[derive(Drop)]
 pub struct Run {
+    /// The allocator with which values are made.
     pub alloc: Global,
+    /// The options that the arguments give.
     pub options: Options,
+    /// The limits of the bytes that are read and of the claims.
     pub limits: Limits,
 }
 
@@ -30,7 +33,8 @@ fn config_limit(limits: &Limits) -> u64
     limits.file.min(1 << 20)
 }
 
-/// Reads and parses the configuration, if the options name one, and returns its custom data sources.
+/// Reads and parses the configuration, if the options name one, and returns its custom data sources. The outcome is
+/// `ReadFailed` or `TooLong` with file 0, `Config` with the first fault, or `NoMemory`.
 pub fn customs_of<F: Files>(run: &Run, files: &mut F) -> Result<Vec<CustomSource>, Outcome>
     ensures { ReadsConfig F.Files run.now.limits run.now.options result files.old files.new }
 {

@@ -1,4 +1,20 @@
-//! The whole run.
+//! The whole run. The contract of `bloaty` is the main contract of the program.
+//!
+//! A data source makes claims: each gives a label to a span of file offsets or of addresses. The label of a file
+//! byte, or of an address that a file maps, is that of the first claim that covers it, or `[Unmapped]` if none does.
+//! A claim of addresses alone also covers the file bytes that are loaded there, and a claim of file offsets alone the
+//! addresses that are loaded from them. A custom data source rewrites the labels. The labels by all data sources in
+//! `-d`, in this order, are the path of the byte or address. The file size of a path is the number of file bytes
+//! whose path begins with it, and its VM size the number of mapped addresses whose path does.
+//!
+//! `files`, `patterns`, `out` and `err` are the devices of a run. Each has ghost state, which only clauses see: what
+//! the files hold (`held`), which reads were made and what they returned (`asked`, `gave`), which patterns were built
+//! (`built`), which bytes were written (`written`), and counts of failures (`faults`, `refused`).
+//!
+//! To understand the clauses, begin with `IsRun` (specs/Answers.antt). It joins `verdict` (specs/Verdict.antt), which
+//! is the outcome as a function of the arguments and the bytes of the files, and `IsReport` (specs/Reports.antt),
+//! which says what a report is; for sizes this is `IsSizeReport` (specs/Report.antt). The clauses about the devices
+//! are in specs/Devices.antt.
 
 ghost use Rattle.std.specs.Prelude.{◌≡◌, ◌++◌, codes, false};
 ghost use Rattle.size_options.specs.Answers.{KeepsLimits, are_taken};
@@ -23,7 +39,7 @@ use std::alloc::Global;
 use std::marker::Brand;
 use std::sync::ledger::{Blank, Ledger};
 
-// Writes the report.
+// Writes the report to `out`.
 fn write<O: Sink>(out: &mut O, report: &[u8]) -> Outcome
     ensures { WritesReport O.Sink report.now result out.old out.new }
 {
@@ -63,14 +79,19 @@ fn misused<E: Sink>(err: &mut E, kind: UsageKind) -> Outcome
     Outcome::Usage(kind)
 }
 
-/// Makes the report that the arguments (`words`) ask for and writes it to `out`. If that fails, it prints one line with
-/// the reason on `err`. File offsets, lengths and sizes are bytes. `patterns` compiles the patterns of the
-/// configuration and the filter.
+/// Makes the report that the arguments (`words`) ask for and writes it to `out`. If that fails, it prints one line
+/// with the reason on `err`. `patterns` compiles the filter and the patterns of the configuration. `limits` bounds
+/// the bytes that are read and the number of claims. Offsets, lengths and sizes are in bytes.
 ///
-/// A run that returns Done has written the report (`run.written`) of the bytes that its reads returned (`run.gave`). Each
-/// row's sizes are the numbers of file bytes and mapped addresses whose path of labels, by first covering claims, begins
-/// with that row's path (`IsSizeReport.each`), each byte once (`IsSizeReport.once`). Any other outcome names a fault in the
-/// arguments or the files (`run.answer`), in the devices (`files`, `patterns`, `out`), or running out of memory.
+/// A run that returns `Done` has written the whole report (`run.written`) on the bytes that its reads returned
+/// (`run.gave`), and on its synthetic file if it has one. In a report of sizes, the row of a label has as its sizes
+/// the numbers of file bytes and of mapped addresses, over all files but a debug file, that pass the filter and whose
+/// path begins with the path of the row (`IsSizeReport.each`). Two rows of one level never count the same byte
+/// (`IsSizeReport.once`).
+///
+/// Any other outcome has a cause: a fault or an exceeded limit that the arguments and these bytes decide
+/// (`run.answer`), arguments that clap can't parse (`words`), a failed read (`files`), a pattern that was refused for
+/// its size (`patterns`), or a failed write (`out`). Only for running out of memory no clause gives a cause.
 pub fn bloaty<F: Files, P: Patterns, O: Sink, E: Sink>(
     alloc: Global,
     words: &[String],
@@ -80,12 +101,15 @@ pub fn bloaty<F: Files, P: Patterns, O: Sink, E: Sink>(
     err: &mut E,
     limits: &Limits,
 ) -> Outcome
-    // The arguments and the bytes of the files decide the outcome and what is written, unless the run is interrupted.
+    // The outcome and what is written. Unless the run is interrupted, the arguments and the bytes of the files decide
+    // both.
     ensures run { let given = options_of (seen_words words.now) in
         IsRun (seen_files F.Files files.old files.new) limits.now given
         (P.last_refused patterns.new) (O.written out.old) (O.written out.new) result }
 
-    // Each interruption has its cause, and each failure of a device is an interruption.
+    // The causes of interruptions, except for running out of memory: arguments that clap can't parse, a failed read,
+    // a pattern that was refused for its size, a failed write to the output. With any other outcome no read failed,
+    // no pattern was refused, and no write to the output failed.
     ensures words { (result ≡ Outcome.Usage UsageKind.Words)
         → are_taken (seen_words words.now) ≡ false }
     ensures files { let reading = run_reading limits.now (options_of (seen_words words.now)) in
@@ -95,7 +119,7 @@ pub fn bloaty<F: Files, P: Patterns, O: Sink, E: Sink>(
         (ended result) patterns.old patterns.new }
     ensures out { CountsWrites O.Sink result out.old out.new }
 
-    // The line of the outcome.
+    // The line of the outcome, on the error output.
     ensures err { let line = line_of (options_of (seen_words words.now)) result in
         PrintsLine E.Sink line result err.old err.new }
 {

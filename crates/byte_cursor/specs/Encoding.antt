@@ -29,6 +29,6 @@ four e bytes place offset = field bytes (place + pick e offset) w32 e.order
 abbrev pub word_len : Encoding → ℕ
 word_len e = if e.wide then 8 else 4
 
--- The field of this size of the record at offset place.
+-- The field of word_len bytes of the record at offset place.
 unfoldable pub word : Encoding → List ℕ → ℕ → ByClass → ℕ
 word e bytes place offset = field bytes (place + pick e offset) (if e.wide then w64 else w32) e.order

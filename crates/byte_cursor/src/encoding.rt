@@ -16,7 +16,7 @@ pub struct Encoding {
 }
 
 /// A number for the 32-bit class, and one for the 64-bit class: the size of a record in bytes, or the offset of
-/// a field in it.
+/// a field in its record in bytes.
 #[derive(Clone, Copy, Debug, PartialEq, Eq, Hash)]
 pub struct ByClass(pub u64, pub u64);
 

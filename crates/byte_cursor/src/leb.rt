@@ -9,7 +9,8 @@ ghost use Rattle.std.specs.Option.{SomeIff};
 ghost use Rattle.byte_cursor.specs.Numbers.{leb, signed};
 ghost use Rattle.byte_cursor.specs.Spelled.{IsUnsigned, IsSigned};
 
-/// Returns the index of the first byte with a clear top bit.
+/// Returns the index of the last byte of the LEB128 number at the start of the bytes: the first byte with a clear top
+/// bit. `None` if there is no such byte.
 pub fn last_digit(bytes: &[u8]) -> Option<usize>
     ensures { MatchOption result (leb bytes.now ≡ None)
         (λ i. (i < length bytes.now) × (slice_index bytes.now i < 128)
@@ -35,7 +36,8 @@ fn with_digit(high: Option<u64>, byte: u8) -> Option<u64>
     }
 }
 
-/// Returns the unsigned number in the bytes up to index `last`. `None` if it doesn't fit 64 bits.
+/// Returns the unsigned number at the start of the bytes, whose last byte is at index `last`. `None` if it doesn't
+/// fit 64 bits.
 pub fn unsigned(bytes: &[u8], last: usize) -> Option<u64>
     requires within { last < length bytes.now }
     requires end { slice_index bytes.now last < 128 }
@@ -74,7 +76,8 @@ fn with_signed_digit(high: Option<i64>, byte: u8) -> Option<i64>
     scaled.checked_add((byte % 128) as i64)
 }
 
-/// Returns the signed number in the bytes up to index `last`. `None` if it doesn't fit 64 bits.
+/// Returns the signed number at the start of the bytes, whose last byte is at index `last`. `None` if it doesn't fit
+/// 64 bits.
 pub fn signed(bytes: &[u8], last: usize) -> Option<i64>
     requires within { last < length bytes.now }
     requires end { slice_index bytes.now last < 128 }

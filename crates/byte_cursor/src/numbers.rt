@@ -71,8 +71,8 @@ fn first_zero(bytes: &[u8]) -> Option<usize>
     memchr(0, bytes)
 }
 
-/// Returns the bytes from an index on, up to the next zero byte. `None` if no zero byte follows, and
-/// if the index is past the end.
+/// Returns the bytes from an index on, up to the next zero byte. `None` if no zero byte follows, or if the index
+/// isn't below the length.
 #[tactic(auto, unfolding(crate::specs::Numbers::text))]
 pub fn text_at(bytes: &[u8], at: usize) -> Option<&[u8]>
     ensures { option_copied result ≡ text bytes.now at }

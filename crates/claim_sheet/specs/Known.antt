@@ -1,5 +1,5 @@
 -- Claims of a sheet by their positions, in the order in which they were added.
-use Rattle.std.specs.Prelude.{◌≡◌, ℕ, ◌-◌, ◌<◌, ◌≤◌, false, List, [], Option, None, Some, drop, get_or, length, map, take}
+use Rattle.std.specs.Prelude.{◌≡◌, ℕ, ◌-◌, ◌<◌, ◌≤◌, false, nat_lt, List, [], Option, None, Some, drop, get_or, length, map, take, if◌then◌else◌}
 use Rattle.std.specs.List.{filter}
 use Rattle.size_model.specs.declared.view.LabelledClaim.{LabelledClaim}
 use Rattle.claim_sheet.specs.declared.known.KnownLabel.{KnownLabel}
@@ -22,6 +22,16 @@ IsKnownBy made label (Some i) = HasLabel made label i
 -- The claim of a known label, if it has one, has this label.
 abbrev pub IsKnown : List LabelledClaim → KnownLabel → Type 0
 IsKnown made known = IsKnownBy made known.text.now known.claim
+
+-- The position of the claim that was added, if the list of claims grew.
+abbrev pub position_added : List LabelledClaim → List LabelledClaim → Option ℕ
+position_added before after = if nat_lt (length before) (length after) then Some (length before) else None
+
+-- The position of a claim with a label: the one that was known before, or else that of the claim that was added, if
+-- one was.
+abbrev pub position_known : Option ℕ → List LabelledClaim → List LabelledClaim → Option ℕ
+position_known (Some i) before after = Some i
+position_known None before after = position_added before after
 
 -- The claims from one position up to another.
 abbrev pub claims_between : List LabelledClaim → ℕ → ℕ → List LabelledClaim

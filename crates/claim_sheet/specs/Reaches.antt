@@ -53,7 +53,7 @@ is_on_addresses Both = false
 abbrev pub claim_of : Reach → List ℕ → LabelledClaim
 claim_of r label = record { side = r.side; vm = r.vm; file = r.file; label = label }
 
--- The list of that one claim. If it would cover nothing, the list is empty.
+-- The list of the one claim that covers these bytes and addresses. If it would cover nothing, the list is empty.
 abbrev pub claim_on : Reach → List ℕ → List LabelledClaim
 claim_on r label = if is_empty r then [] else claim_of r label ∷ []
 

@@ -53,14 +53,14 @@ adding_read s (Err bad) = Err bad
 abbrev pub on_addresses : List LabelledClaim → List LabelledClaim
 on_addresses claims = filter (λ c. is_on_addresses c.side) claims
 
--- Those claims of a reading, or the reading's fault.
+-- The claims of a reading that cover addresses and no bytes of the file, or the reading's fault.
 abbrev pub read_on_addresses : Result (List LabelledClaim) BadFile → Result (List LabelledClaim) BadFile
 read_on_addresses (Ok made) = Ok (on_addresses made)
 read_on_addresses (Err bad) = Err bad
 
 -- The invariant of a sheet: the pool still has the labels that it had at first; each later label is used by a claim;
--- the label of each claim is a number in the pool; there are at most `limit` claims; and if a claim was dropped, there
--- are as many.
+-- the label of each claim is a number in the pool; there are at most `limit` claims; and if a claim was dropped
+-- because of the limit, there are exactly `limit`.
 pub record IsSheet (pool : List (List ℕ)) (first : ℕ) (claims : List Claim) (limit : ℕ) (over : Bool) : Type 0 where
   pub within : first ≤ length pool
   pub numbered : AreNumbered pool claims

@@ -1,8 +1,8 @@
 //! Labels that are known by a claim of a sheet.
 
-ghost use Rattle.std.specs.Prelude.{◌≡◌, IfOk, OnOk};
+ghost use Rattle.std.specs.Prelude.{◌≡◌, IfOk, OnOk, OnErr};
 ghost use Rattle.claim_sheet.specs.Adds.{Adds};
-ghost use Rattle.claim_sheet.specs.Known.{IsKnown, IsKnownBy};
+ghost use Rattle.claim_sheet.specs.Known.{IsKnown, IsKnownBy, position_added, position_known};
 ghost use Rattle.claim_sheet.specs.Reaches.{claim_on};
 
 use crate::labels::Wrap;
@@ -14,15 +14,21 @@ use size_core::NoMemory;
 /// again, which takes as long as the label.
 #[derive(Clone, Copy)]
 pub struct KnownLabel<'a> {
+    /// The label.
     pub text: &'a [u8],
+    /// The position of a claim with this label.
     pub claim: Option<usize>,
 }
 
 impl ClaimSheet {
-    /// Adds a claim, and returns its position. The position is None if no claim was kept.
+    /// Adds a claim, and returns its position on the sheet, counted from 0. The position is None if no claim was
+    /// kept.
     pub fn add_noted(&mut self, reach: Reach, label: &[u8]) -> Result<Option<usize>, NoMemory>
         ensures adds { Adds result self.old self.new (claim_on reach label.now) }
         ensures known { IfOk result (λ claim. IsKnownBy self.new.made label.now claim) }
+        ensures position { IfOk result (λ claim.
+            claim ≡ position_added self.old.made self.new.made) }
+        ensures same { OnErr result (self.new ≡ self.old) }
     {
         let next = self.len();
         self.add(reach, Wrap::Plain, label)?;
@@ -32,11 +38,14 @@ impl ClaimSheet {
         Ok(None)
     }
 
-    /// Adds a claim under a label that may be known. Then it is known, if a claim was kept.
+    /// Adds a claim under a label that may be known. If it isn't, and the claim was kept, it is known from then on.
     pub fn add_known(&mut self, reach: Reach, label: &mut KnownLabel<'_>) -> Result<(), NoMemory>
         requires { IsKnown self.old.made label.old }
         ensures adds { Adds result self.old self.new (claim_on reach label.old.text.now) }
         ensures known { OnOk result (IsKnown self.new.made label.new) }
+        ensures position { OnOk result (label.new.claim
+            ≡ position_known label.old.claim self.old.made self.new.made) }
+        ensures same { OnErr result (self.new ≡ self.old) }
         ensures text { label.new.text.now ≡ label.old.text.now }
     {
         match label.claim {

@@ -8,8 +8,11 @@ use size_core::{Load, Side, Span};
 /// The bytes of the file and the virtual addresses that a claim covers.
 #[derive(Clone, Copy, Debug, PartialEq, Eq)]
 pub struct Reach {
+    /// Which of the two spans the claim names.
     pub side: Side,
+    /// The virtual addresses.
     pub vm: Span,
+    /// The file offsets.
     pub file: Span,
 }
 
@@ -19,7 +22,8 @@ const NO_SPAN: Span = Span {
     len: 0,
 };
 
-/// Returns a span. All empty spans are equal: space, start and length are 0.
+/// Returns a span of `len` bytes. `start` is a file offset or a virtual address. All empty spans are equal: space, start
+/// and length are 0.
 pub fn span(space: u32, start: u64, len: u64) -> Span
     ensures { result ≡ span space start len }
 {

@@ -63,9 +63,11 @@ fn is_taken(addresses_only: bool, side: Side) -> bool
 }
 
 impl ClaimSheet {
-    /// Returns an empty sheet that takes every claim. It owns the pool's labels until `finish` gives them back.
+    /// Returns an empty sheet that takes every claim. It owns the pool's labels until `finish` gives them back, and the pool
+    /// has none meanwhile.
     pub fn begin(alloc: Global, pool: &mut LabelPool, limit: u64) -> ClaimSheet
-        ensures { result ≡ fresh pool.old limit }
+        ensures sheet { result ≡ fresh pool.old limit }
+        ensures taken { pool.new ≡ [] }
     {
         let pool = replace(pool, LabelPool::new(alloc));
         let first = pool.len();
@@ -83,14 +85,16 @@ impl ClaimSheet {
     /// Returns an empty sheet that takes only claims on addresses without bytes of the file. It drops the others with
     /// their labels, and doesn't count them. It owns the pool's labels until `finish` gives them back.
     pub fn begin_on_addresses(alloc: Global, pool: &mut LabelPool, limit: u64) -> ClaimSheet
-        ensures { result ≡ fresh_on_addresses pool.old limit }
+        ensures sheet { result ≡ fresh_on_addresses pool.old limit }
+        ensures taken { pool.new ≡ [] }
     {
         let mut sheet = ClaimSheet::begin(alloc, pool, limit);
         sheet.addresses_only = true;
         sheet
     }
 
-    /// Adds a claim. A claim that covers nothing is dropped.
+    /// Adds a claim. A claim that covers nothing, or on a side that the sheet doesn't take, is dropped. A claim above the
+    /// limit is dropped, and the sheet records that there were more. If memory runs out, the sheet is unchanged.
     pub fn add(&mut self, reach: Reach, wrap: Wrap, label: &[u8]) -> Result<(), NoMemory>
         ensures adds { Adds result self.old self.new (claim_on reach (wrapped wrap label.now)) }
         ensures same { OnErr result (self.new ≡ self.old) }
@@ -199,7 +203,8 @@ impl ClaimSheet {
         Ok(())
     }
 
-    /// Adds claims again that were added between two positions. They are copied, and their labels aren't looked up.
+    /// Adds the claims from position `first` up to position `end` again. They are copied, and their labels aren't
+    /// looked up. If memory runs out, some of them may have been added.
     pub fn add_again(&mut self, first: usize, end: usize) -> Result<(), NoMemory>
         requires order { first ≤ end }
         requires within { end ≤ length self.old.made }
@@ -213,7 +218,7 @@ impl ClaimSheet {
     }
 
     /// Returns the claims, or TooMany if there were more than the limit. The pool gets its labels back, and the labels
-    /// of the claims with them. It gets no other label.
+    /// of the claims with them. If it returns the claims, the pool gets no other label.
     pub fn finish(self, pool: &mut LabelPool) -> Result<Vec<Claim>, TooMany>
         ensures claims { IfOk result (λ v. texts pool.new v.items ≡ self.made) }
         ensures numbered { IfOk result (λ v. AreNumbered pool.new v.items) }

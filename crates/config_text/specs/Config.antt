@@ -4,8 +4,8 @@ use Rattle.config_text.specs.declared.config.CustomSource.{CustomSource}
 use Rattle.config_text.specs.Tokens.{Placed, tokens}
 use Rattle.config_text.specs.Grammar.{Fault, ◌>>=◌, State, Awaited, Item, Separated, InFile, Field, level_of, Draft, at_token, no_source, no_rewrite}
 
--- The sources that these tokens give, or the first fault. awaited is what may come next, and the draft is
--- what was read before them.
+-- The sources that these tokens give, or the first fault. The `Awaited` is what may come next, and the draft is what
+-- was read before these tokens.
 abbrev pub sources_from : List Placed → Awaited → Draft → Result (List CustomSource) Fault
 sources_from [] awaited d = Ok d.sources
 sources_from ((at, t) ∷ ts) awaited d = at_token awaited d at t >>= λ next. sources_from ts next.0 next.1

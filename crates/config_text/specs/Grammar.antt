@@ -152,7 +152,7 @@ source_begun d at name =
     (if nat_lt (length d.sources) 64 then Ok (Opening InSource, d) else bad TooMany at)
     else bad UnknownField at
 
--- The state after the name of a field that can be given once. given is its earlier value.
+-- The state after the name of a field that can be given once. The option is its earlier value.
 abbrev pub once : {X : Type 0} → Option X → Field → Draft → ℕ → Result State Fault
 once given field d at = if is_some given then bad RepeatedField at else Ok (Colon field, d)
 

@@ -9,7 +9,7 @@ abbrev pub Fails : {Y : Type 0} → ConfigAnswer → Result Y Fault → Type 0
 Fails (Bad kind at) read = read ≡ Err (kind, at)
 Fails NoMemory read = Unit {0}
 
--- The result, seen by view, is that of the reading, or out of memory.
+-- The result, seen through a function, is that of the reading, or out of memory.
 abbrev pub Gives : {X Y : Type 0} → (X → Y) → Result X ConfigAnswer → Result Y Fault → Type 0
 Gives view (Ok x) read = read ≡ Ok (view x)
 Gives view (Err e) read = Fails e read

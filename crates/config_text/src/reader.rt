@@ -197,7 +197,7 @@ impl<'a> Reader<'a> {
         }
     }
 
-    /// Returns the allocator for what is made of the values.
+    /// Returns the allocator with which values are made.
     pub(crate) fn alloc(&self) -> Global {
         self.alloc
     }

@@ -42,7 +42,7 @@ module _ (rewrites : List Rewrite) (at : ℕ) (r : Rewrite) (lt : at < length re
         ∙ ap (λ ps. before ++ (ps ++ r.pattern ∷ [])) (take-map pattern at rewrites)
         ∙ ap (λ ps. before ++ ps) (sym (take-map pattern (at + 1) rewrites ∙ ap (map pattern) more ∙ map-append pattern (take at rewrites) (r ∷ [])))
 
-    -- an error at this rewrite
+    -- An error at this rewrite.
     pub built_to : (X : Type 0) (start end : ℕ) (old new : List ℕ) (e : RewriteAnswer) → HasOneCause r.pattern at start end old new e → HasBuilt {X = X} rewrites (Err e) before after
     built_to X start end old new (PatternSyntax place) h = rw h.0 built_more
     built_to X start end old new (PatternTooBig place) h = rw h.0 built_more

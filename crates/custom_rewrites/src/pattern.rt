@@ -18,7 +18,7 @@ pub enum PatternAnswer {
     /// It is no regular expression, or it is nested too deeply.
     #[error("bad syntax")]
     Syntax,
-    /// It is too large.
+    /// It was refused for its size.
     #[error("too big")]
     TooBig,
     /// An allocation failed.
@@ -147,17 +147,17 @@ impl<'a> LabelFinder<'a> {
 pub trait Patterns {
     ghost use Rattle.std.specs.Prelude.{ℕ, List};
 
-    // The number of patterns refused for their size, and the last of them, which is empty if there was
-    // none.
+    /// The number of patterns that were refused for their size.
     ghost refused: { Self → ℕ };
 
+    /// The last pattern that was refused for its size. Empty if there was none.
     ghost last_refused: { Self → List ℕ };
 
-    // The patterns that `build` was called with, in order, whatever it returned.
+    /// The patterns that `build` was called with, in order, whatever it returned.
     ghost built: { Self → List (List ℕ) };
 
-    /// Compiles a pattern. Syntax only if the text is no regular expression or is nested too deeply. TooBig
-    /// only if this call adds to the refusals.
+    /// Compiles a pattern. The error is `Syntax` only if the text is no regular expression or is nested too deeply,
+    /// and `TooBig` only if this call adds to the refusals.
     fn build(&mut self, alloc: Global, pattern: &str) -> Result<LabelPattern, PatternAnswer>
         ensures built { built self.new ≡ built self.old ++ pattern.now ∷ [] }
         ensures ok { IfOk result (λ p. (p ≡ pattern.now) × IsPattern pattern.now) }

@@ -20,7 +20,7 @@ pub enum RewriteAnswer {
     /// Its pattern is no regular expression, or is nested too deeply.
     #[error("rewrite {0}: bad syntax")]
     PatternSyntax(usize),
-    /// Its pattern is too large.
+    /// Its pattern was refused for its size.
     #[error("rewrite {0}: too big")]
     PatternTooBig(usize),
     /// An allocation failed.

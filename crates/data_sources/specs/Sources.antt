@@ -40,7 +40,8 @@ records_of CompileUnits g = g.units
 records_of Inlines g = g.lines
 records_of source g = g.symbols
 
--- The claims of records, and then those of the parts of the file, all in brackets; or the fault of the records.
+-- The claims of records, and then those of the parts of the file, whose labels are all in brackets; or the fault of
+-- the records.
 unfoldable pub with_tail : Reading → Groups → Reading
 with_tail records g = joined records (Ok (parts_claims Section g))
 

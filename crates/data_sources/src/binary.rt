@@ -13,8 +13,11 @@ use wasm_file::WasmFile;
 /// A file of a known format. Its tables passed the checks of the format.
 #[derive(Drop)]
 pub enum Binary<'a> {
+    /// An ELF file.
     Elf(ElfFile<'a>),
+    /// A thin Mach-O file.
     Macho(MachoFile<'a>),
+    /// A WebAssembly module.
     Wasm(WasmFile<'a>),
 }
 

@@ -37,7 +37,8 @@ fn add_debug_records(
 /// lines. A data source over the parts of the file itself (segments, sections, input files) has none.
 ///
 /// Bad is the first fault of these records. If there is none, TooManyClaims means that there are more claims than
-/// `limit`. In all cases the labels of the pool keep their numbers, and each new label is the label of a claim.
+/// `limit`. In all cases the labels of the pool keep their numbers. If the claims are returned, each new label is that of
+/// a claim.
 pub fn debug_claims(
     alloc: Global,
     binary: &Binary<'_>,

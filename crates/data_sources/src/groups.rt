@@ -1,4 +1,5 @@
-//! The groups of claims of a file of any format. Only this module and `loads` distinguish the kinds of file.
+//! The groups of claims of a file of any format. Only this module, `loads` and `binary` distinguish the kinds of
+//! file.
 
 ghost use Rattle.std.specs.Prelude.{Ok, Err};
 ghost use Rattle.claim_sheet.specs.Adds.{Adds, AddsRead};
@@ -9,7 +10,7 @@ use claim_sheet::{ClaimSheet, Stop, Wrap};
 use size_core::{BadFile, Fault, NoMemory};
 use std::alloc::Global;
 
-/// Adds the claims of the loads.
+/// Adds the claims of the loads. A WebAssembly module has none.
 #[tactic(auto, using(claim_sheet::proofs::SheetLemmas::adding_none))]
 pub fn add_loads(
     alloc: Global,
@@ -42,7 +43,7 @@ pub fn add_sections(
     }
 }
 
-/// Adds the claims of the link-edit parts.
+/// Adds the claims of the link-edit parts. Only a Mach-O file has some.
 #[tactic(auto, using(claim_sheet::proofs::SheetLemmas::adding_none))]
 pub fn add_link_edit(binary: &Binary<'_>, sheet: &mut ClaimSheet) -> Result<(), NoMemory>
     ensures { Adds result sheet.old sheet.new ((groups_of binary.now).link_edit) }
@@ -95,7 +96,7 @@ const NOT_OFFERED: Stop = Stop::Bad(BadFile {
     offset: 0,
 });
 
-/// Adds the claims of the compile units. Bad is their first fault.
+/// Adds the claims of the compile units. Bad is their first fault. SourceNotForFile at 0 for a WebAssembly module.
 pub fn add_units(alloc: Global, binary: &Binary<'_>, sheet: &mut ClaimSheet) -> Result<(), Stop>
     ensures { AddsRead result sheet.old sheet.new (groups_of binary.now).units }
 {
@@ -106,7 +107,7 @@ pub fn add_units(alloc: Global, binary: &Binary<'_>, sheet: &mut ClaimSheet) -> 
     }
 }
 
-/// Adds the claims of the source lines. Bad is their first fault.
+/// Adds the claims of the source lines. Bad is their first fault. SourceNotForFile at 0 for a WebAssembly module.
 pub fn add_lines(alloc: Global, binary: &Binary<'_>, sheet: &mut ClaimSheet) -> Result<(), Stop>
     ensures { AddsRead result sheet.old sheet.new (groups_of binary.now).lines }
 {

@@ -105,7 +105,7 @@ fn add_source(
 /// file, which is the label of InputFiles.
 ///
 /// Bad is the first fault of the source. If there is none, TooManyClaims means that there are more claims than `limit`.
-/// In all cases the labels of the pool keep their numbers, and each new label is the label of a claim.
+/// In all cases the labels of the pool keep their numbers. If the claims are returned, each new label is that of a claim.
 pub fn claims(
     alloc: Global,
     binary: &Binary<'_>,

@@ -7,6 +7,6 @@ use Rattle.debug_pair.specs.Notes.{after_note, has_note, note_of, notes}
 abbrev pub NotesGoOn : Type 0
 NotesGoOn = (order : Order) (area : List ℕ) → has_note order area ≡ true → notes order area ≡ note_of order area ∷ notes order (after_note order area)
 
--- If no note fits, there are no notes.
+-- If no note fits at the start of an area, the area has no notes.
 abbrev pub NotesEnd : Type 0
 NotesEnd = (order : Order) (area : List ℕ) → has_note order area ≡ false → notes order area ≡ []

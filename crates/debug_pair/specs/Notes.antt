@@ -22,12 +22,12 @@ name_len order area = field area 0 w32 order
 abbrev pub content_len : Order → List ℕ → ℕ
 content_len order area = field area 4 w32 order
 
--- The offset of the descriptor in the area: after three words of four bytes, and the name with its padding
--- (gABI, Note Section).
+-- The offset of the descriptor in the area: after namesz, descsz and type, which have four bytes each, and the name
+-- with its padding (gABI, Note Section).
 abbrev pub content_place : Order → List ℕ → ℕ
 content_place order area = 12 + padded_len (name_len order area)
 
--- A note fits at the start of an area: the three words lie in the area, and so do the name with its padding
+-- A note fits at the start of an area: namesz, descsz and type lie in the area, and so do the name with its padding
 -- and the descriptor. The padding of the descriptor may be missing (gABI, Note Section).
 unfoldable pub has_note : Order → List ℕ → Bool
 has_note order area = nat_le 12 (length area) && nat_le (content_place order area + content_len order area) (length area)

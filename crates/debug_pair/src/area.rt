@@ -16,7 +16,7 @@ pub fn notes<'a>(area: &'a [u8], order: Order) -> Notes<'a>
     Notes::new(area, order)
 }
 
-/// Returns the descriptor of the first build ID note of an area.
+/// Returns the descriptor of the first build ID note of an area. `None` if it has no such note.
 #[tactic(auto, using(crate::proofs::IdentityLemmas::in_area, crate::proofs::IdentityLemmas::found_here, crate::proofs::IdentityLemmas::found_later, crate::proofs::IdentityLemmas::found_none))]
 pub fn build_id<'a>(area: &'a [u8], order: Order) -> Option<&'a [u8]>
     ensures { option_copied result ≡ build_id order (area.now ∷ []) }

@@ -9,10 +9,12 @@ ghost use Rattle.debug_pair.specs.Areas.{HasNoId, IsArea};
 use crate::area::build_id;
 use elf_file::ElfFile;
 
-/// The area of notes that was searched last, as its file offset and its length in bytes. It has no build ID.
+/// The area of notes that was searched last. It has no build ID.
 #[derive(Clone, Copy)]
 pub struct Searched {
+    /// Its file offset.
     pub offset: u64,
+    /// Its length in bytes.
     pub len: u64,
 }
 

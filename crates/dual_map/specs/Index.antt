@@ -1,4 +1,4 @@
--- Stretches sorted by the starts of their sources, with the greatest ends of these sources.
+-- The targets of stretches, for a range of their sources.
 use Rattle.std.specs.Prelude.{◌+◌, ◌-◌, ℕ, min, max, nat_lt, List, map, filter}
 use Rattle.size_model.specs.declared.piece.Piece.{Piece}
 use Rattle.dual_map.specs.declared.stretch.Stretch.{Stretch}

@@ -12,7 +12,7 @@ use Rattle.dual_map.specs.declared.stretch.Stretch.{Stretch}
 use Rattle.dual_map.specs.Runs.{number_in, IsAt}
 use Rattle.dual_map.specs.Way.{position_if_any}
 
--- The number that a source has in a map. Nothing has none.
+-- The number that a source has in a map, or `none` if there is no source.
 abbrev pub carried_number : ℕ → List Piece → Option ℕ → ℕ
 carried_number none ps None = none
 carried_number none ps (Some y) = number_in none ps y

@@ -43,15 +43,15 @@ stretch_of ToMemory len l p = record {
 }
 stretch_of InMemory len l p = record { source = p.start; target = p.start; len = p.len }
 
--- The load without a byte.
+-- An empty load, for a number that no load has.
 abbrev pub no_load : Load
 no_load = record { space = 0; vaddr = 0; memsz = 0; offset = 0; filesz = 0 }
 
--- The stretch to these targets, without a source that matters.
+-- The stretch to these targets. Its source is 0 and isn't used.
 abbrev pub gap_of : ℕ → ℕ → Stretch
 gap_of from to = record { source = 0; target = from; len = to - from }
 
--- The stretch without a number.
+-- An empty stretch.
 abbrev pub no_stretch : Stretch
 no_stretch = record { source = 0; target = 0; len = 0 }
 

@@ -8,10 +8,12 @@ ghost use Rattle.dual_map.specs.Runs.{number_in, IsAt, IsPast, IsSteady, least};
 use crate::reads::piece_of;
 use range_map::RangeMap;
 
-/// The `len` numbers from a position on that have the same label.
+/// Consecutive positions that have the same number in a map.
 #[derive(Clone, Copy, Debug)]
 pub struct Run {
+    /// The number that they have.
     pub number: usize,
+    /// How many positions there are.
     pub len: u128,
 }
 

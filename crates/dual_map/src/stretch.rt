@@ -7,16 +7,19 @@ use crate::position::position_of;
 use range_map::Piece;
 use size_core::Load;
 
-/// A run of `len` numbers from `source` on, translated in order to the numbers from `target` on.
+/// A run of numbers, translated in order to other numbers.
 #[derive(Clone, Copy, Debug)]
 pub struct Stretch {
+    /// The first number.
     pub source: u128,
+    /// The number to which the first one is translated.
     pub target: u128,
+    /// How many numbers there are.
     pub len: u128,
 }
 
 impl Stretch {
-    /// The targets from `from` up to `to`, without a source that matters.
+    /// The targets from `from` up to `to`. Their source is 0 and isn't used.
     pub fn gap(from: u128, to: u128) -> Stretch
         requires { from ≤ to }
         ensures { result ≡ gap_of from to }

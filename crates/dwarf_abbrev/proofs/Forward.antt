@@ -200,7 +200,7 @@ declaration_below : (w : Window) → Below (suc (left w)) (declaration_from w)
 unfolding declaration_from
 declaration_below w = bind_below (suc (left w)) (suc (left w)) (head_from w) _ (head_below w) (λ head fewer. rest_of_declaration_below (suc (left w)) head.0 head.1 fewer)
 
--- The same for the end of the declarations.
+-- After the declarations of a table no more bytes remain than before them.
 pub declarations_end : (w next : Window) → (declarations_from w).end ≡ Ok next → left next ≤ left w
 declarations_end w next is = end_below declaration_from declaration_below (suc (left w)) w next is
 

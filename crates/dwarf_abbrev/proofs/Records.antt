@@ -46,7 +46,7 @@ module _ {X : Type 0} (read : Window → Result (X × Window) BadFile) (takes : 
       let test : left w == 0 ≡ true = grind (arith, common_steps) in
       listing_done (up_to_end read) end_shortens w w (rw test refl)
 
--- The same of records of which some are skipped.
+-- The same if some records are skipped.
 module _ {X : Type 0} (read : Window → Result (Option X × Window) BadFile) (takes : (w : Window) → Below (left w) (read w)) where
   -- Nothing follows at the end of the window.
   pub records_none : (w : Window) → length w.bytes ≤ w.at → records_in read w ≡ []

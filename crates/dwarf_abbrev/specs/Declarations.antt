@@ -1,4 +1,4 @@
--- Abbreviations: the declarations of entries (DWARF 5, section 7.5.3).
+-- Abbreviation declarations, which describe the entries that use them (DWARF 5, section 7.5.3).
 use Rattle.std.specs.Prelude.{ℕ, ℤ, pos, ◌-◌, ◌==◌, ◌&&◌, Bool, List, find, Option, Some, None, IsOk, Result, Ok, if◌then◌else◌}
 use Rattle.size_core.specs.declared.fault.BadFile.{BadFile}
 use Rattle.size_core.specs.declared.fault.Fault.TheVariants.{OffsetOutside}
@@ -43,8 +43,8 @@ pub record Declaration : Type 0 where
   pub tag : ℕ
   pub specs : List Spec
 
--- The head of a declaration after its code: the tag, and the byte that says whether entries have children. A
--- code of 0 ends the table (DWARF 5, section 7.5.3).
+-- The head of a declaration after its code: the tag, and the byte DW_CHILDREN_*, which is skipped. A code of 0 ends
+-- the table (DWARF 5, section 7.5.3).
 unfoldable pub rest_of_head : ℕ → Window → Result (Option Head × Window) BadFile
 rest_of_head code w =
     if code == 0 then Ok (None, w)

@@ -24,12 +24,14 @@ abbrev pub going_on : {X : Type 0} → Result (Option X × Window) BadFile → (
 going_on (Err e) rest = record { items = []; end = Err e }
 going_on (Ok x) rest = followed x.0 x.1 (rest x.1)
 
--- At most fuel records of a window. `read` reads one record, or none at an end mark.
+-- At most fuel records of a window. `read` reads one record, or none at an end mark. If the fuel runs out, the list
+-- ends with a fault.
 unfoldable pub listing_from : {X : Type 0} → (Window → Result (Option X × Window) BadFile) → ℕ → Window → Listing X
 listing_from read zero w = record { items = []; end = bad Truncated (place_of w) }
 listing_from read (suc fuel) w = going_on (read w) (listing_from read fuel)
 
--- All records of a window. Each takes at least one byte, so there are no more of them than bytes that remain.
+-- All records of a window. Each takes at least one byte, so there are no more of them than bytes that remain, and the
+-- fuel is enough.
 abbrev pub listing : {X : Type 0} → (Window → Result (Option X × Window) BadFile) → Window → Listing X
 listing read w = listing_from read (suc (left w)) w
 
@@ -42,11 +44,11 @@ abbrev pub Reaches : {U X : Type 0} → Result U BadFile → Window → Listing 
 Reaches (Ok u) new records = records.end ≡ Ok new
 Reaches (Err e) new records = records.end ≡ Err e
 
--- A read of a record, or the end of the window.
+-- A read of a record, or none at the end of the window.
 unfoldable pub up_to_end : {X : Type 0} → (Window → Result (X × Window) BadFile) → Window → Result (Option X × Window) BadFile
 up_to_end read w = if left w == 0 then Ok (None, w) else read w >>= (λ x. Ok (Some x.0, x.1))
 
--- The records of these that aren't skipped.
+-- The records that aren't skipped, in order. `None` is a record that is skipped.
 unfoldable pub handed_out : {X : Type 0} → List (Option X) → List (Result X BadFile)
 handed_out [] = []
 handed_out (None ∷ records) = handed_out records

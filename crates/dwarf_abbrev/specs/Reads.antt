@@ -55,7 +55,8 @@ text_from w = whole (text w.bytes w.at) (place_of w) >>= λ t. Ok (t, moved w tr
 unfoldable pub skip_from : ℕ → Window → Result (Unit {0} × Window) BadFile
 skip_from count w = skipped w count >>= λ u. Ok (u, moved w true count)
 
--- A three-byte number in this byte order (DWARF 5, section 7.5.5).
+-- A three-byte number in this byte order. If it isn't complete, the fault is at its missing part (DWARF 5, section
+-- 7.5.5).
 unfoldable pub three_from : Order → Window → Result (ℕ × Window) BadFile
 three_from Little w = do
   low ← num_from w16 Little w

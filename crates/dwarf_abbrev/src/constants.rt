@@ -1,7 +1,8 @@
 //! The constants of the standard that this crate distinguishes: reserved lengths (DWARF 5, section 7.4) and
 //! forms of attribute values (section 7.5.6, table 7.6), with the four forms that GNU tools add.
 
-/// The least reserved value of a length's first four bytes. All values from here to 0xffffffff are reserved.
+/// The least reserved value of a length's first four bytes. All values from here to 0xffffffff are reserved, and the
+/// greatest of them, `WIDE_LENGTH`, begins a length of the 64-bit format.
 pub const FIRST_RESERVED_LENGTH: u32 = 0xffff_fff0;
 
 /// The first four bytes of a length in the 64-bit format. The length follows in eight bytes.

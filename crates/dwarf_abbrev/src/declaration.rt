@@ -1,4 +1,4 @@
-//! Declarations of entries (DWARF 5, section 7.5.3).
+//! Abbreviation declarations (DWARF 5, section 7.5.3).
 
 ghost use Rattle.std.specs.Prelude.{◌≡◌, ◌≤◌, OnOk, ◌∷◌, []};
 ghost use Rattle.dwarf_abbrev.specs.Reads.{Reads};
@@ -14,7 +14,9 @@ use size_core::BadFile;
 /// The fields of a declaration before its attributes.
 #[derive(Clone, Copy, Debug)]
 pub struct Head {
+    /// The code that entries use to refer to the declaration.
     pub code: u64,
+    /// The tag of the entries, `DW_TAG_*`.
     pub tag: u64,
 }
 
@@ -53,7 +55,8 @@ fn rest_of_spec(cursor: &mut Cursor, attribute: u64, form: u64) -> Result<Option
     }))
 }
 
-/// Reads an attribute specification. `None` at the end of the list.
+/// Reads an attribute specification. `None` at the end of the list. Truncated or BadLeb at a number that can't be
+/// read.
 #[tactic(auto, unfolding(crate::specs::Declarations::spec_from))]
 pub fn spec_from(cursor: &mut Cursor) -> Result<Option<Spec>, BadFile>
     ensures { Reads (λ x. x) result cursor.new (spec_from cursor.old) }
@@ -72,8 +75,8 @@ pub fn pass_specs(cursor: &mut Cursor) -> Result<(), BadFile>
     Ok(())
 }
 
-/// The rest of a declaration's head, after its code: the tag and the byte that says whether entries have
-/// children. `None` if the code is 0, the end of the table.
+/// The rest of a declaration's head, after its code: the tag, and the byte `DW_CHILDREN_*`, which is skipped. `None`
+/// if the code is 0, the end of the table.
 #[tactic(auto, unfolding(crate::specs::Declarations::rest_of_head))]
 fn rest_of_head(cursor: &mut Cursor, code: u64) -> Result<Option<Head>, BadFile>
     ensures { Reads (λ x. x) result cursor.new (rest_of_head code cursor.old) }
@@ -86,7 +89,8 @@ fn rest_of_head(cursor: &mut Cursor, code: u64) -> Result<Option<Head>, BadFile>
     Ok(Some(Head { code, tag }))
 }
 
-/// Reads the head of a declaration. `None` at the end of the table.
+/// Reads the head of a declaration. `None` at the end of the table: a code of 0, or the end of the section. Truncated
+/// or BadLeb at a number that can't be read.
 #[tactic(auto, unfolding(crate::specs::Declarations::head_from))]
 pub fn head_from(cursor: &mut Cursor) -> Result<Option<Head>, BadFile>
     ensures { Reads (λ x. x) result cursor.new (head_from cursor.old) }

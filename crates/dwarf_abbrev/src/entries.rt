@@ -9,7 +9,7 @@ use crate::entry::Entry;
 use byte_cursor::Cursor;
 use std::marker::Model;
 
-/// The declarations of a table that are still to come, in order.
+/// The declarations of a table that `next` has not returned yet, in order.
 #[derive(Drop)]
 pub struct Entries<'a> {
     cursor: Cursor<'a>,

@@ -9,7 +9,8 @@ use crate::spec::Spec;
 use byte_cursor::Cursor;
 use std::marker::Model;
 
-/// A declaration of entries. It is an iterator over their attribute specifications, in order.
+/// An abbreviation declaration: the code, the tag and the attribute specifications of the entries that use it. It is
+/// an iterator over the attribute specifications, in order.
 #[derive(Drop)]
 pub struct Entry<'a> {
     head: Head,
@@ -51,7 +52,7 @@ impl<'a> Entry<'a> {
         self.head.code
     }
 
-    /// The tag of the entries.
+    /// The tag of the entries, `DW_TAG_*`.
     pub fn tag(&self) -> u64
         ensures { result ≡ self.now.tag }
     {

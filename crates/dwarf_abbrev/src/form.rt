@@ -17,7 +17,7 @@ use crate::constants::{
 };
 use crate::shape::UnitShape;
 
-/// A form of attribute values, with the standard's name (DWARF 5, section 7.5.6).
+/// A form of attribute values (DWARF 5, section 7.5.6). Each variant is named after its constant `DW_FORM_*`.
 #[derive(Clone, Copy, Debug, PartialEq, Eq)]
 pub enum Form {
     Addr,
@@ -72,25 +72,40 @@ pub enum Form {
 /// The encoding of an unsigned number: a fixed number of bytes, or unsigned LEB128.
 #[derive(Clone, Copy, Debug, PartialEq, Eq)]
 pub enum Digits {
+    /// One byte.
     One,
+    /// Two bytes.
     Two,
+    /// Three bytes.
     Three,
+    /// Four bytes.
     Four,
+    /// Eight bytes.
     Eight,
+    /// Unsigned LEB128.
     Uleb,
 }
 
 /// What a number means as the value of an attribute.
 #[derive(Clone, Copy, Debug, PartialEq, Eq)]
 pub enum Sense {
+    /// An address.
     Address,
+    /// An index into `.debug_addr`.
     AddrIndex,
+    /// A constant.
     Constant,
+    /// The offset of a string in `.debug_str`.
     StrOffset,
+    /// The offset of a string in `.debug_line_str`.
     LineStrOffset,
+    /// An index into `.debug_str_offsets`.
     StrIndex,
+    /// An offset into another section.
     SectionOffset,
+    /// An index of a range list in `.debug_rnglists`.
     ListIndex,
+    /// A number that no caller needs.
     Other,
 }
 
@@ -113,7 +128,7 @@ pub enum Layout {
     Indirect,
 }
 
-/// The form with this number.
+/// The form with this number. `None` if it is unknown.
 #[tactic(auto, unfolding(crate::specs::Forms::form_of))]
 pub fn form_of(number: u64) -> Option<Form>
     ensures { result ≡ form_of number }
@@ -170,7 +185,7 @@ pub fn form_of(number: u64) -> Option<Form>
     }
 }
 
-/// The encoding of an address of `size` bytes.
+/// The encoding of an address of `size` bytes. A size other than 2 and 4 is read as 8.
 pub fn address_digits(size: u8) -> Digits
     ensures { result ≡ address_digits size }
 {
@@ -188,7 +203,7 @@ pub fn offset_digits(wide: bool) -> Digits
     if wide { Digits::Eight } else { Digits::Four }
 }
 
-/// The encoding of a form's values.
+/// The encoding of a form's values in a unit of this shape.
 #[tactic(auto, unfolding(crate::specs::Forms::layout_of))]
 pub fn layout_of(form: Form, shape: &UnitShape) -> Layout
     ensures { result ≡ layout_of shape.now form }

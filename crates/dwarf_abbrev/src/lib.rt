@@ -1,5 +1,6 @@
-//! Abbreviations and forms of DWARF 2 to 5: initial lengths, declarations of entries, and attribute values.
-//! Everything borrows the file, and nothing allocates.
+//! Abbreviations and forms of DWARF 2 to 5: initial lengths, abbreviation declarations, and attribute values. A
+//! declaration describes the debugging information entries that use it. Everything borrows the file, and nothing
+//! allocates.
 #![tactic(auto)]
 
 mod constants;

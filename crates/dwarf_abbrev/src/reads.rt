@@ -1,5 +1,6 @@
-//! Reads of a window: the numbers and strings of DWARF. Each call moves the cursor past what it read. A fault
-//! has the file offset where the call began, and leaves the cursor there.
+//! Reads of a window: the numbers and strings of DWARF. Each public call moves the cursor past what it read. A fault
+//! leaves the cursor where the call began, and has this file offset. Only a three-byte number may have a fault at a
+//! later offset: that of its part that isn't complete.
 
 ghost use Rattle.std.specs.Int.{w16, w32, w64};
 ghost use Rattle.std.specs.Prelude.{◌≡◌, ◌+◌, ◌*◌};
@@ -109,7 +110,7 @@ fn try_three_from(cursor: &mut Cursor, order: Order) -> Result<u64, BadFile>
     }
 }
 
-/// Reads a number in this encoding.
+/// Reads a number in this encoding. Truncated if it isn't complete, and BadLeb if a LEB128 number exceeds 2^64 - 1.
 #[tactic(auto, unfolding(crate::specs::Reads::number_from))]
 pub fn number_from(cursor: &mut Cursor, order: Order, digits: Digits) -> Result<u64, BadFile>
     ensures { Takes (λ n. n) result cursor.old cursor.new (number_from order digits cursor.old) }

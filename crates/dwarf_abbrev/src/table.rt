@@ -76,7 +76,7 @@ impl<'a> Abbrevs<'a> {
         Entries::new(self.cursor.fork())
     }
 
-    /// The first declaration with this code.
+    /// The first declaration with this code. `None` if the table has none.
     pub fn entry(&self, code: u64) -> Option<Entry<'a>>
         ensures { result ≡ declared self.now.declarations code }
     {

@@ -38,7 +38,7 @@ pub enum Content<'a> {
     SecOffset(u64),
     /// An index of a range list in `.debug_rnglists`, counted from the unit's base.
     ListIndex(u64),
-    /// A value that no caller needs: a block, an expression, a reference or a flag.
+    /// A value that no caller needs, such as a block, an expression, a reference or a flag.
     Other,
 }
 
@@ -113,7 +113,7 @@ fn plain_content<'a>(
     }
 }
 
-/// The encoding of the form with this number.
+/// The encoding of the form with this number. `None` if there is no such form.
 fn layout_of_number(shape: &UnitShape, number: u64) -> Option<Layout>
     ensures { result ≡ layout_of_number shape.now number }
 {

@@ -26,7 +26,7 @@ module _ (h : LineHeader) (size : ℕ) where
   steps before [] = []
   steps before (row ∷ rows) = claim_before h before row ++ steps (previous_of_next size before row) rows
 
-  -- the claims of sequences, of which the first continues after a row
+  -- the claims of sequences, where the first sequence continues after a row
   abbrev continued : LineRow → Bool → List (List LineRow) → List LabelledClaim
   continued row claims [] = []
   continued row claims (rows ∷ sequences) = (if claims then pair_claims h row rows else []) ++ all sequences

@@ -8,7 +8,7 @@ use Rattle.dwarf_units.specs.Strings.{named, string_in_section}
 use Rattle.dwarf_claims.specs.declared.last_label.LastLabel.{LastLabel}
 use Rattle.dwarf_claims.specs.UnitClaims.{or_unnamed}
 
--- Two names are there, and are the same.
+-- Both names exist, and they are the same.
 abbrev pub AreSameNames : Option StringAt → Option StringAt → Type 0
 AreSameNames (Some a) (Some b) = a ≡ b
 AreSameNames _ _ = ⊥

@@ -11,7 +11,7 @@ abbrev pub HaveSameRanges : Bool → RangeKey → RangeKey → Type 0
 HaveSameRanges true a b = AreOneList a b
 HaveSameRanges false a b = a ≡ b
 
--- Two keys are there, and units with them have the same ranges.
+-- Both keys exist, and units with them have the same ranges.
 abbrev pub AreSameKeys : Bool → Option RangeKey → Option RangeKey → Type 0
 AreSameKeys is_hollow (Some a) (Some b) = HaveSameRanges is_hollow a b
 AreSameKeys is_hollow _ _ = ⊥
@@ -21,7 +21,7 @@ abbrev pub AreKnownBy : Sections → Option RangeKey → List (ℕ × ℕ) → T
 AreKnownBy s None ranges = Unit {0}
 AreKnownBy s (Some key) ranges = (place : ℕ) → listed s key place ≡ Ok ranges
 
--- The list of the key, if there is one, has no ranges if this is true.
+-- If `is_hollow` is true and there is a key, the list of the key has no ranges.
 abbrev pub IsHollowBy : Sections → Bool → Option RangeKey → Type 0
 IsHollowBy s is_hollow None = Unit {0}
 IsHollowBy s is_hollow (Some key) = is_hollow ≡ true → IsHollowKey s key

@@ -45,7 +45,7 @@ label_by h file line = path_of h file ++ codes ":" ++ decimal line
 abbrev pub HasPath : LineHeader → RowLabel → Type 0
 HasPath h label = take label.path_len label.text.items ≡ path_of h label.file
 
--- The claim of a known row, if it has one, has the row's label.
+-- If a known row has a claim, the claim has the row's label.
 abbrev pub IsKnownRow : List LabelledClaim → LineHeader → KnownRow → Type 0
 IsKnownRow made h known = IsKnownBy made (label_by h known.file known.line) known.claim
 

@@ -61,7 +61,7 @@ shown_unit u = (u.offset, u.label.text.now)
 abbrev pub shown_units : List KnownUnit → List (ℕ × List ℕ)
 shown_units units = map shown_unit units
 
--- The claims of the labels of these units, if they have some, have their labels.
+-- If the label of one of these units has a claim, the claim has this label.
 abbrev pub AreKnownUnits : List LabelledClaim → List KnownUnit → Type 0
 AreKnownUnits made units = All (λ u. IsKnown made u.label) units
 

@@ -15,13 +15,14 @@ use std::collections::BTreeMap;
 /// values, so a root is read in time proportional to its bytes.
 #[derive(Drop)]
 pub struct Needed {
+    /// The attributes, in the order of the declaration.
     pub specs: Vec<Spec>,
     /// The numbers of those that take no bytes.
     pub bare: Vec<u64>,
 }
 
-// Adds the next attribute of a declaration, unless it changes nothing: if it takes no bytes, and no root has a value of
-// it or another one came before it.
+// Adds the next attribute of a declaration, unless it changes nothing. It changes nothing if it takes no bytes, and
+// either no root keeps its value or the same attribute came before it.
 #[tactic(auto, using(crate::proofs::IndexLemmas::kept, crate::proofs::IndexLemmas::skipped_unread, crate::proofs::IndexLemmas::skipped_again, crate::proofs::IndexLemmas::among_more, crate::proofs::IndexLemmas::among_both))]
 fn add_spec(needed: &mut Needed, spec: Spec) -> Result<(), NoMemory>
     requires { AreAmong needed.old.bare.items needed.old.specs.items }

@@ -20,6 +20,7 @@ pub struct KnownCode {
 /// The codes of a table whose declarations are known.
 #[derive(Drop)]
 pub enum KnownCodes {
+    /// No code.
     Nothing,
     /// One code.
     One(KnownCode),
@@ -60,8 +61,8 @@ impl KnownCodes {
         }
     }
 
-    /// Returns what is known of a table after one more code, which isn't known: that code if it is the first one, and
-    /// otherwise all codes.
+    /// Returns what is known of a table once a code is needed that isn't known yet: that code alone if none was
+    /// known, and otherwise all codes.
     pub fn with(
         &self,
         alloc: Global,

@@ -12,7 +12,7 @@ use dwarf_lines::LineRow;
 use size_core::NoMemory;
 use std::alloc::Global;
 
-/// A file and a line, and the position of a claim that has their label, if one is known.
+/// A file and a line, and the position on the sheet of a claim that has their label, if one is known.
 #[derive(Clone, Copy)]
 pub struct KnownRow {
     pub file: u64,

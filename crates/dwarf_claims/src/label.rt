@@ -18,7 +18,7 @@ fn or_unnamed(name: Option<&[u8]>) -> &[u8]
     }
 }
 
-/// Returns the label of a unit: its name, or `[Unnamed unit]` if it has none or an empty one.
+/// Returns the label of a unit, or the fault of its name. A missing or empty name gives `[Unnamed unit]`.
 #[tactic(auto, unfolding(crate::specs::UnitClaims::label_of))]
 pub fn label_of<'a>(root: &Root<'a>, sections: &Sections<'a>) -> Result<&'a [u8], BadFile>
     ensures { Gives (λ t. t.now) result (label_of sections.now (shown_root root.now)) }

@@ -18,11 +18,12 @@ use dwarf_lines::LineProgram;
 use dwarf_units::{Root, Sections};
 use std::alloc::Global;
 
-/// A line program that was read for units of this shape, with its offset in `.debug_line`, and the positions of its
-/// claims on the sheet.
+/// A line program that was read, and the positions of its claims on the sheet.
 #[derive(Clone, Copy)]
 pub struct LastProgram {
+    /// Its offset in `.debug_line`.
     pub offset: u64,
+    /// The shape of the units that it was read for.
     pub shape: UnitShape,
     /// The position of the first claim.
     pub first: usize,
@@ -56,8 +57,8 @@ fn read_program(
     add_rows(alloc, &program, shape.address, sheet)
 }
 
-/// Adds the claims of the line program that a unit names, if it names one. A program that was read for the unit before
-/// isn't read again: its claims are copied.
+/// Adds the claims of the line program that a unit names, if it names one. The program that was read last isn't read
+/// again for a unit of the same shape: its claims are copied. Bad is the first fault of the program.
 #[tactic(auto, using(claim_sheet::proofs::SheetLemmas::adding_none))]
 pub fn add_program(
     alloc: Global,

@@ -11,10 +11,12 @@ use dwarf_ranges::{RangeAnswer, RangeKey, range_key, unit_ranges};
 use dwarf_units::{Root, Sections};
 use std::alloc::Global;
 
-/// The ranges of the unit that was read last. They have a key if the unit names a range list.
+/// The ranges of the unit that was read last.
 #[derive(Drop)]
 pub struct LastRanges {
+    /// What the ranges depend on, if the unit names a range list.
     pub key: Option<RangeKey>,
+    /// Each as its first address and its length in bytes.
     pub ranges: Vec<(u64, u64)>,
     /// Whether the list is known to have no ranges, whatever the first address of a unit is.
     pub is_hollow: bool,
@@ -73,9 +75,9 @@ fn ranges_of(
     }
 }
 
-/// Makes the last ranges those of a unit, without those that claim nothing. A list that the unit before named is read
-/// again only if the unit differs in what the ranges depend on. A list without ranges doesn't depend on the unit's first
-/// address. Bad is the first fault of the ranges.
+/// Sets `last` to the ranges of a unit, without those that claim nothing. The list that the unit before named is read
+/// again only if the two units differ in what its ranges depend on. A list without ranges doesn't depend on the
+/// unit's first address. Bad is the first fault of the ranges.
 #[tactic(auto, using(crate::proofs::RangeLemmas::known_again, crate::proofs::RangeLemmas::known_new))]
 pub fn read_ranges(
     alloc: Global,

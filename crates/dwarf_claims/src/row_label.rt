@@ -15,6 +15,7 @@ use std::alloc::Global;
 /// keep the path, since only the line changes.
 #[derive(Drop)]
 pub struct RowLabel {
+    /// The label.
     pub text: Vec<u8>,
     /// The length of the path, with which the text begins.
     pub path_len: usize,
@@ -32,7 +33,7 @@ impl RowLabel {
         }
     }
 
-    /// Sets the path to that of a file of a program.
+    /// Sets the label to the path of a file of a program, without a line.
     pub fn set_file(&mut self, program: &LineProgram<'_>, file: u64) -> Result<(), NoMemory>
         ensures path { OnOk result (self.new.text.items ≡ path_of program.now file) }
         ensures has { OnOk result (HasPath program.now self.new) }

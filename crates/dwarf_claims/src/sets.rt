@@ -88,7 +88,7 @@ fn add_set(
     Ok(())
 }
 
-/// Adds the claims of the address sets, in order, each under the label of its unit.
+/// Adds the claims of the address sets, in order, each under the label of its unit. Bad is the fault that ends them.
 #[tactic(auto, using(claim_sheet::proofs::LoopLemmas::read_list_goes, claim_sheet::proofs::LoopLemmas::read_list_ends), unfolding(crate::specs::SetClaims::sets_claims))]
 pub fn add_sets(
     sections: &Sections<'_>,

@@ -14,7 +14,7 @@ use Rattle.dwarf_line_header.specs.declared.entry.TableKind.TheVariants.{Directo
 use Rattle.dwarf_line_header.specs.Tables.{Entry}
 use Rattle.dwarf_line_header.specs.PlainTables.{numbers_from, plain_entry, plain_from, plain_table, up_to_empty}
 
--- More of the same window follows a name and a number.
+-- Reading a name or a number moves forward in the same window.
 name_moves : (w : Window) (x : List ℕ × Window) → text_from w ≡ Ok x → (x.1.bytes ≡ w.bytes) × (w.at < x.1.at)
 unfolding text_from
 name_moves w x h = grind (arith, common_steps)

@@ -6,7 +6,7 @@ use Rattle.byte_cursor.specs.Window.{Window}
 use Rattle.dwarf_abbrev.specs.Reads.{Reading}
 use Rattle.dwarf_line_header.specs.Tables.{before, items_of, many_from, passed_over}
 
--- What an item before a read changes.
+-- A read with one more item before it ends at the same window, and fails like the read.
 pub passed_over-before : {X : Type 0} (x : X) (r : Reading (List X)) → passed_over (before x r) ≡ passed_over r
 unfolding passed_over
 passed_over-before x (Ok xs) = refl
@@ -16,7 +16,7 @@ pub is_ok-before : {X : Type 0} (x : X) (r : Reading (List X)) → is_ok (before
 is_ok-before x (Ok xs) = refl
 is_ok-before x (Err e) = refl
 
--- The first item of a read that continues with the others.
+-- The items of a read with one more item before it.
 pub items_before : {X : Type 0} (x : X) (r : Reading (List X)) → is_ok (before x r) ≡ true → items_of (before x r) ≡ x ∷ items_of r
 items_before x (Ok xs) good = refl
 items_before x (Err e) good = cc
@@ -29,7 +29,7 @@ pub item_later : {X : Type 0} (x : X) (r : Reading (List X)) (k : ℕ) → slice
 item_later x (Ok xs) k = refl
 item_later x (Err e) k = refl
 
--- What is skipped can be read, and this is the window after it.
+-- If items can be skipped, they can be read, and the window after them is the same.
 pub passed_is : {X : Type 0} (r : Reading (List X)) (w : Window) → passed_over r ≡ Ok (tt, w) → r ≡ Ok (items_of r, w)
 unfolding passed_over
 passed_is (Ok x) w h = let both : (tt, x.1) ≡ (tt, w) = cc in let e : x.1 ≡ w = ap (λ (p : Unit {0} × Window). p.1) both in rw e refl
@@ -43,7 +43,7 @@ unfolding passed_over
 passed_is_not (Ok x) e h = cc
 passed_is_not (Err d) e h = cc
 
--- Whether the index of an item is reached.
+-- A walk over the items up to index k: it is at this item, or the item comes later.
 pub walk_here : {X : Type 0} (k i : ℕ) (x : X) (r rest : Reading (List X)) → r ≡ before x rest → is_ok r ≡ true → i ≡ k → slice_get (items_of r) (k - i) ≡ Some x
 walk_here {X = X} k i x r rest is good same =
     let none : k - i ≡ 0 = omega arith in
@@ -60,12 +60,12 @@ pub many_bad : {X : Type 0} (read : Window → Reading X) (n i : ℕ) (w : Windo
 unfolding many_from
 many_bad read n i w e lt is = let k : n - i ≡ suc (n - (i + 1)) = omega arith in rw (k, is) refl
 
--- A number of items of which one more follows.
+-- A number of items whose next one can be read.
 pub many_more : {X : Type 0} (read : Window → Reading X) (n i : ℕ) (w next : Window) (x : X) → i < n → read w ≡ Ok (x, next) → many_from read (n - i) w ≡ before x (many_from read (n - (i + 1)) next)
 unfolding many_from
 many_more read n i w next x lt is = let k : n - i ≡ suc (n - (i + 1)) = omega arith in rw (k, is) refl
 
--- A number of items that has come to its end.
+-- No item is left.
 pub many_end : {X : Type 0} (read : Window → Reading X) (n i : ℕ) (w : Window) → n ≤ i → many_from read (n - i) w ≡ Ok ([], w)
 unfolding many_from
 many_end read n i w le = let k : n - i ≡ 0 = omega arith in rw k refl

@@ -6,7 +6,7 @@ use Rattle.dwarf_line_header.specs.declared.entry.TableKind.{TableKind}
 use Rattle.dwarf_line_header.specs.PlainTables.{plain_entry, plain_table, up_to_empty}
 use Rattle.dwarf_line_header.specs.Tables.{Entry}
 
--- A table of DWARF 2 to 4 is its first entry with a name and then the rest of the table.
+-- A table of DWARF 2 to 4 is its first entry and then the rest of the table. An entry with an empty name ends it.
 abbrev pub TableGoesOn : Type 0
 TableGoesOn = (kind : TableKind) (w next : Window) (x : Entry) → plain_entry kind w ≡ Ok (x, next) → plain_table kind w ≡ up_to_empty (length x.name == 0) (x, next) (plain_table kind next)
 

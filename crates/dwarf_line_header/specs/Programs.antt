@@ -46,7 +46,7 @@ header_by sections s place wide (Some version) =
 abbrev pub program_of : Sections → UnitShape → ℕ → Bool → Window → Result LineHeader BadFile
 program_of sections s place wide contents = header_by sections s place wide (known (num_from w16 s.order contents))
 
--- The program at the begin of a window. Its contents follow its length (DWARF 5, sections 6.2.4 and 7.4).
+-- The program at the start of a window. Its contents follow its length (DWARF 5, sections 6.2.4 and 7.4).
 unfoldable pub program_here : Sections → UnitShape → Window → Result LineHeader BadFile
 program_here sections s w = do
   initial ← initial_length_from s.order w

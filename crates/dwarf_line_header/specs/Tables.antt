@@ -14,12 +14,12 @@ pub record Entry : Type 0 where
 abbrev pub shown : FileEntry → Entry
 shown e = record { name = e.name.now; directory = e.directory }
 
--- The items of a list that can be read.
+-- The items of a list, or none if the list can't be read.
 abbrev pub items_of : {X : Type 0} → Reading (List X) → List X
 items_of (Ok x) = x.0
 items_of (Err e) = []
 
--- A read of which only the window after it counts.
+-- A read without its value: only the window after it is kept.
 unfoldable pub passed_over : {X : Type 0} → Reading X → Reading (Unit {0})
 passed_over (Ok x) = Ok (tt, x.1)
 passed_over (Err e) = Err e

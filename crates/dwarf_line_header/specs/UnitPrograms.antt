@@ -32,8 +32,8 @@ named_program version (Some v) = option_map (λ n. (n, v.place)) (program_offset
 abbrev pub unit_program : RootRecord → Option (ℕ × ℕ)
 unit_program root = named_program root.shape.version root.lines
 
--- The bytes of the line program at the start of this window: its length field, and as many bytes as that says (DWARF 5,
--- section 6.2.4).
+-- The bytes of the line program at the start of this window: its length field, and as many bytes as its length (DWARF
+-- 5, section 6.2.4).
 unfoldable pub bytes_here : Order → Window → Result Span BadFile
 bytes_here order w = do
   initial ← initial_length_from order w

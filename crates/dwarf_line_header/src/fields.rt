@@ -20,7 +20,8 @@ fn skip_sizes(version: u16, cursor: &mut Cursor) -> Result<(), BadFile>
     skip_from(cursor, 2)
 }
 
-/// The cursor at the first instruction, by the length of the header.
+/// Returns a cursor at the first instruction, by the length of the header. `cursor` itself moves past the length
+/// field.
 #[tactic(auto, unfolding(crate::specs::Header::instructions_from))]
 pub fn instructions<'a>(shape: &UnitShape, cursor: &mut Cursor<'a>) -> Result<Cursor<'a>, BadFile>
     ensures { Reads (λ w. w) result cursor.new (instructions_from shape.now cursor.old) }
@@ -45,7 +46,7 @@ fn max_ops(version: u16, cursor: &mut Cursor) -> Result<u8, BadFile>
     Ok(max_ops.max(1))
 }
 
-/// A number that isn't 0.
+/// Reads a number of one byte that may not be 0. BadHeader at the number if it is.
 #[tactic(auto, unfolding(crate::specs::Header::divisor_from))]
 fn divisor(cursor: &mut Cursor) -> Result<u8, BadFile>
     ensures reads { Reads (λ n. n) result cursor.new (divisor_from cursor.old) }

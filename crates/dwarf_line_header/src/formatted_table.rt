@@ -23,7 +23,8 @@ use size_core::{BadFile, Fault, NoMemory};
 use std::alloc::Global;
 use std::marker::Model;
 
-/// Reads a pair: the content type of a value, as an attribute number, and the value's form.
+/// Reads a pair: the content type of a value, as an attribute number, and the value's form. UnknownForm at the pair
+/// for `DW_FORM_implicit_const`, since a pair has no constant.
 #[tactic(auto, unfolding(crate::specs::FormattedTables::pair_from))]
 fn pair(cursor: &mut Cursor) -> Result<Spec, BadFile>
     ensures { Reads (λ p. p) result cursor.new (pair_from cursor.old) }
@@ -63,7 +64,7 @@ struct EntryValues<'a> {
     directory: Option<Value<'a>>,
 }
 
-/// The first value of a content type: the one that is known, or else this one, if it has this content type.
+/// The first value of a content type: the one that is known, or else `value`, if it has this content type.
 fn first_of_content<'a>(
     held: Option<Value<'a>>,
     is_content: bool,
@@ -104,7 +105,8 @@ fn entry_values<'a>(
     Ok(EntryValues { path, directory })
 }
 
-/// What is needed to read the entries of a table.
+/// What is needed to read the entries of a table: the sections with its strings, the shape of its values, and its
+/// pairs.
 #[derive(Drop)]
 struct Format<'a> {
     sections: Sections<'a>,
@@ -238,7 +240,7 @@ fn entries_of<'a>(
     Ok(all)
 }
 
-/// A table. Contracts see it as the list of its entries.
+/// A table of DWARF 5. Contracts see it as the list of its entries.
 #[derive(Drop)]
 pub struct FormattedTable<'a> {
     format: Format<'a>,
@@ -259,7 +261,7 @@ impl<'a> Model for FormattedTable<'a> {
         is_ok (many_from (formatted_entry t.format) t.count t.entries) ≡ true };
 }
 
-/// Checks that there aren't more entries than bytes.
+/// Checks that there aren't more entries than bytes left. Truncated at the cursor if there are.
 fn can_have(count: u64, cursor: &Cursor) -> Result<(), BadFile>
     ensures { result
         ≡ demand (nat_le count (length cursor.now.bytes - cursor.now.at)) Truncated
@@ -294,7 +296,7 @@ impl<'a> FormattedTable<'a> {
         })
     }
 
-    /// Reads a table.
+    /// Reads a table. The fault is that of the first part that can't be read.
     #[tactic(auto, unfolding(crate::specs::FormattedTables::formatted_table, crate::specs::FormattedTables::entries_from))]
     pub fn read(
         sections: &Sections<'a>,
@@ -310,7 +312,7 @@ impl<'a> FormattedTable<'a> {
         FormattedTable::of(format, count, cursor)
     }
 
-    /// The entry at index `k`, counted from 0.
+    /// The entry at index `k`, counted from 0. `None` if the table is shorter.
     pub fn get(&self, k: u64) -> Option<FileEntry<'a>>
         ensures { option_map shown result ≡ slice_get self.now k }
     {

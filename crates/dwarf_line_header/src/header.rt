@@ -166,8 +166,8 @@ impl<'a> LineHeader<'a> {
         LineHeader::of(sections, shape, place, initial.wide, contents)
     }
 
-    /// The header of the program at an offset of `.debug_line`. A program that has no complete version, or a version
-    /// other than 2 to 5, has no instructions and no files.
+    /// The header of the program at an offset of `.debug_line`. A program whose version isn't complete, or isn't 2 to
+    /// 5, has no instructions, no directories and no files.
     ///
     /// OffsetOutside at the file offset `place` if the offset isn't below the section's length. The other
     /// faults have the program's file offset: Truncated or BadUnit if its length can't be read or exceeds
@@ -212,7 +212,7 @@ impl<'a> LineHeader<'a> {
         self.encoding
     }
 
-    /// The number of operands of each standard opcode.
+    /// The number of operands of each standard opcode, from opcode 1 on.
     pub fn lengths(&self) -> &'a [u8]
         ensures value { result.now ≡ self.now.lengths }
         ensures all { HasLengths self.now.encoding result.now }
@@ -227,7 +227,8 @@ impl<'a> LineHeader<'a> {
         self.instructions.fork()
     }
 
-    /// The directory with this number.
+    /// The directory with this number. `None` if there is none. Numbers begin at 1 before DWARF 5, and at 0 from
+    /// DWARF 5 on.
     pub fn directory(&self, number: u64) -> Option<FileEntry<'a>>
         ensures { option_map shown result
             ≡ entry_numbered self.now.version self.now.directories number }
@@ -235,7 +236,8 @@ impl<'a> LineHeader<'a> {
         entry_numbered(self.version, &self.directories, number)
     }
 
-    /// The file with this number.
+    /// The file with this number. `None` if there is none. Numbers begin at 1 before DWARF 5, and at 0 from DWARF 5
+    /// on.
     pub fn file(&self, number: u64) -> Option<FileEntry<'a>>
         ensures { option_map shown result
             ≡ entry_numbered self.now.version self.now.files number }

@@ -103,7 +103,7 @@ fn entries_of<'a>(
     Ok(all)
 }
 
-/// A table. Contracts see it as the list of its entries.
+/// A table of DWARF 2 to 4. Contracts see it as the list of its entries.
 #[derive(Drop)]
 pub struct PlainTable<'a> {
     kind: TableKind,
@@ -123,7 +123,8 @@ impl<'a> Model for PlainTable<'a> {
 }
 
 impl<'a> PlainTable<'a> {
-    /// Reads a table.
+    /// Reads a table. The fault is that of the first entry that can't be read, or Truncated if no entry with an empty
+    /// name ends the table.
     #[tactic(auto, using(crate::proofs::TableLemmas::passed_is, crate::proofs::TableLemmas::passed_is_ok, crate::proofs::TableLemmas::passed_is_not))]
     pub fn read(kind: TableKind, cursor: &mut Cursor<'a>) -> Result<PlainTable<'a>, BadFile>
         ensures { Reads (λ t. t) result cursor.new (plain_table kind cursor.old) }
@@ -136,7 +137,7 @@ impl<'a> PlainTable<'a> {
         })
     }
 
-    /// The entry at index `k`, counted from 0.
+    /// The entry at index `k`, counted from 0. `None` if the table is shorter.
     pub fn get(&self, k: u64) -> Option<FileEntry<'a>>
         ensures { option_map shown result ≡ slice_get self.now k }
     {

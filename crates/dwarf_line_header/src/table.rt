@@ -41,7 +41,7 @@ fn copy_entries<'a>(
 }
 
 impl<'a> Table<'a> {
-    /// Reads a table.
+    /// Reads a table, in the format of the version.
     #[tactic(auto, unfolding(crate::specs::Header::table_from))]
     pub fn read(
         sections: &Sections<'a>,
@@ -59,7 +59,7 @@ impl<'a> Table<'a> {
         }
     }
 
-    /// The entry at index `k`, counted from 0.
+    /// The entry at index `k`, counted from 0. `None` if the table is shorter.
     pub fn get(&self, k: u64) -> Option<FileEntry<'a>>
         ensures { option_map shown result ≡ slice_get (entries self.now) k }
     {

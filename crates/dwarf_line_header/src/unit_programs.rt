@@ -20,7 +20,9 @@ fn program_offset(version: u16, value: &Value<'_>) -> Option<u64>
     }
 }
 
-/// The offset of the unit's line program in `.debug_line`, and the file offset of the attribute value that names it.
+/// The offset of the unit's line program in `.debug_line`, and the file offset of the attribute value that names it
+/// (DWARF 5, section 3.1.1). `None` if the unit has no such attribute, or if its value is no offset. A constant is an
+/// offset before DWARF 4 (DWARF 3, section 7.5.4).
 pub fn unit_program(root: &Root<'_>) -> Option<(u64, u64)>
     ensures { result ≡ unit_program (shown_root root.now) }
 {
@@ -29,7 +31,7 @@ pub fn unit_program(root: &Root<'_>) -> Option<(u64, u64)>
     Some((offset, value.place))
 }
 
-/// The bytes of the program at the cursor, with its length field.
+/// The file range of the program at the cursor, with its length field.
 #[tactic(auto, unfolding(crate::specs::UnitPrograms::bytes_here))]
 fn bytes_here(mut cursor: Cursor<'_>, order: Order) -> Result<Span, BadFile>
     ensures { result ≡ bytes_here order cursor.entry }
@@ -56,9 +58,9 @@ fn bytes_in(cursor: Option<Cursor<'_>>, place: u64, order: Order) -> Result<Span
     }
 }
 
-/// The bytes of a line program, with its length field. OffsetOutside at the file offset of the value that names the
-/// program if its offset isn't below the section's length. Truncated or BadUnit at the program's file offset if its
-/// length can't be read or exceeds the section.
+/// The file range of a line program, with its length field. `program` is that of `unit_program`; `None` gives `None`.
+/// OffsetOutside at the file offset of the value that names the program if its offset isn't below the section's
+/// length. Truncated or BadUnit at the program's file offset if its length can't be read or exceeds the section.
 pub fn program_bytes(
     sections: &Sections<'_>,
     program: Option<(u64, u64)>,

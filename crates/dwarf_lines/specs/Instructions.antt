@@ -16,7 +16,7 @@ use Rattle.dwarf_lines.specs.declared.constants.TheConstants.{EXTENDED_OPCODE, D
 use Rattle.dwarf_lines.specs.declared.instruction.Instruction.{Instruction}
 use Rattle.dwarf_lines.specs.declared.instruction.Instruction.TheVariants.{Special, CopyRow, AdvancePc, AdvanceLine, SetFile, SetColumn, NegateStatement, SetBasicBlock, ConstAddPc, FixedAdvancePc, SetPrologueEnd, SetEpilogueBegin, SetIsa, UnknownStandard, EndSequence, SetAddress, OtherExtended}
 
--- The address that all bytes left are. BadLine unless they are 2, 4 or 8 bytes (DWARF 5, section 6.2.5).
+-- All bytes that are left, as an address. BadLine unless they are 2, 4 or 8 bytes (DWARF 5, section 6.2.5).
 unfoldable pub whole_address : Order → Window → Reading ℕ
 whole_address order w =
     if left w == 2 then address_from order 2 w
@@ -39,7 +39,7 @@ extended_from order w = do
   instruction ← extended_in order contents.0
   Ok (instruction, contents.1)
 
--- What a function makes of a value that is read.
+-- A read whose value is passed to a function.
 abbrev pub made : {X Y : Type 0} → (X → Y) → Reading X → Reading Y
 made f read = read >>= λ x. Ok (f x.0, x.1)
 

@@ -8,7 +8,7 @@ use Rattle.dwarf_line_header.specs.Tables.{Entry}
 abbrev pub is_absolute : List ℕ → Bool
 is_absolute name = slice_index name 0 == SLASH
 
--- A name after its directory, if that exists (DWARF 5, section 6.2.4).
+-- A name after its directory and a slash, or the name alone without a directory (DWARF 5, section 6.2.4).
 abbrev pub in_directory : Option Entry → List ℕ → List ℕ
 in_directory None name = name
 in_directory (Some directory) name = directory.name ++ SLASH ∷ name
@@ -20,7 +20,7 @@ shown_directory h file =
     if is_absolute file.name || file.directory == 0 then None
     else entry_numbered h.version h.directories file.directory
 
--- The path of a file, if it exists (DWARF 5, section 6.2.4).
+-- The path of a file, or `[Unknown file]` if it doesn't exist (DWARF 5, section 6.2.4).
 abbrev pub file_path : LineHeader → Option Entry → List ℕ
 file_path h None = codes "[Unknown file]"
 file_path h (Some file) = in_directory (shown_directory h file) file.name

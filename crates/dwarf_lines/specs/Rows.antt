@@ -19,7 +19,7 @@ good row = Ok row
 unfoldable pub rows_of : LineEncoding → Registers → Listing Instruction → List (Result LineRow BadFile)
 rows_of s r p = map good (run s r p.items) ++ last_fault p.end
 
--- The rows and the fault in the rest of a window (DWARF 5, section 6.2).
+-- The rows in the rest of a window, from these registers on, and then the fault (DWARF 5, section 6.2).
 unfoldable pub to_come : LineEncoding → List ℕ → Registers → Window → List (Result LineRow BadFile)
 to_come s lengths r w = rows_of s r (program s lengths w)
 

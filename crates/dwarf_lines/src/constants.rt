@@ -48,5 +48,5 @@ pub const DW_LNE_SET_ADDRESS: u8 = 2;
 /// The separator between a directory and a name.
 pub const SLASH: u8 = b'/';
 
-/// The path that is reported for a file that doesn't exist.
+/// The path that is reported for a file number that the program doesn't have.
 pub const UNKNOWN_FILE: &[u8] = b"[Unknown file]";

@@ -30,7 +30,7 @@ fn bad_line<T>(place: u64) -> Result<T, BadFile>
     })
 }
 
-/// Reads all bytes left as an address. BadLine unless they are 2, 4 or 8 bytes.
+/// Reads all bytes that are left as an address. BadLine unless they are 2, 4 or 8 bytes.
 #[tactic(auto, unfolding(crate::specs::Instructions::whole_address))]
 fn whole_address(cursor: &mut Cursor, order: Order) -> Result<u64, BadFile>
     ensures { Reads (λ n. n) result cursor.new (whole_address order cursor.old) }
@@ -43,7 +43,7 @@ fn whole_address(cursor: &mut Cursor, order: Order) -> Result<u64, BadFile>
     }
 }
 
-/// Reads the extended instruction that these bytes are.
+/// Reads an extended instruction from its contents: the bytes after its size.
 #[tactic(auto, unfolding(crate::specs::Instructions::extended_in))]
 fn extended_in(mut contents: Cursor, order: Order) -> Result<Instruction, BadFile>
     ensures { result ≡ extended_in order contents.entry }

@@ -72,8 +72,8 @@ fn append_both(out: &mut Vec<u8>, directory: &[u8], name: &[u8]) -> Result<(), N
 }
 
 impl<'a> LineProgram<'a> {
-    /// The program at an offset of `.debug_line`. A program that has no complete version, or a version other
-    /// than 2 to 5, has no rows and no files.
+    /// The program at an offset of `.debug_line`. A program whose version isn't complete, or isn't 2 to 5, has no
+    /// rows and no files.
     ///
     /// OffsetOutside at the file offset `place` if the offset isn't below the section's length. The other
     /// faults have the program's file offset: Truncated or BadUnit if its length can't be read or exceeds
@@ -108,7 +108,7 @@ impl<'a> LineProgram<'a> {
         LineRows::new(encoding, self.header.lengths(), self.header.instructions())
     }
 
-    /// The directory that is printed before a file's name.
+    /// The directory that is printed before a file's name, if one is.
     fn shown_directory(&self, file: &FileEntry) -> Option<FileEntry<'a>>
         ensures { option_map shown result ≡ shown_directory self.now (shown file.now) }
     {
@@ -118,9 +118,9 @@ impl<'a> LineProgram<'a> {
         self.header.directory(file.directory)
     }
 
-    /// Appends the path of the file with this number. The path is the file's name, after its directory unless
-    /// that is directory 0 or the name is absolute. It is `[Unknown file]` if there is no such file. On an
-    /// error `out` is unchanged.
+    /// Appends the path of the file with this number. The path is the file's name, after its directory and a slash.
+    /// The directory is left out if it is directory 0 or doesn't exist, or if the name is absolute. The path is
+    /// `[Unknown file]` if there is no such file. On an error `out` is unchanged.
     #[tactic(auto, unfolding(crate::specs::Paths::path_of))]
     pub fn path(&self, file: u64, out: &mut Vec<u8>) -> Result<(), NoMemory>
         ensures ok { OnOk result (out.new.items ≡ out.old.items ++ path_of self.now file) }

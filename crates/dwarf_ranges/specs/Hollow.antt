@@ -11,19 +11,19 @@ use Rattle.dwarf_ranges.specs.Claims.{claims_nothing}
 use Rattle.dwarf_ranges.specs.Keys.{listed}
 use Rattle.dwarf_ranges.specs.Lists.{list_of}
 
--- An item after which the list continues, and which claims nothing (DWARF 5, section 2.17.3).
+-- The list continues after the item, and the item claims nothing (DWARF 5, section 2.17.3).
 abbrev pub is_nothing : ℕ → ListItem → Bool
 is_nothing size ListItem.End = false
 is_nothing size (ListItem.Base other) = true
 is_nothing size (ListItem.Range start len) = claims_nothing size start len
 
--- The item claims nothing, and the list continues like this. Nothing is known without an answer.
+-- The item claims nothing, and the list continues like this. `None` states nothing about the item.
 abbrev pub AddsNothing : ℕ → Option Hollow → ListItem → Type 0
 AddsNothing size None item = Unit {0}
 AddsNothing size (Some Hollow.End) item = item ≡ ListItem.End
 AddsNothing size (Some Hollow.More) item = is_nothing size item ≡ true
 
--- The same of an item that may have a fault. If something is known, it has none.
+-- The same of an item that may have a fault. `Some` states that the item has no fault.
 abbrev pub GivesNothing : ℕ → Option Hollow → Result ListItem BadFile → Type 0
 GivesNothing size None item = Unit {0}
 GivesNothing size (Some how) item = IsOkAnd item (λ i. AddsNothing size (Some how) i)

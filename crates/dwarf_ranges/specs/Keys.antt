@@ -1,4 +1,5 @@
--- The ranges of a unit by what they depend on, so that units of one range list need it read only once.
+-- The ranges of a unit by what they depend on: its key. So units with the same key need their range list read only
+-- once.
 use Rattle.std.specs.Prelude.{◌≡◌, ℕ, List, Result}
 use Rattle.size_core.specs.declared.fault.BadFile.{BadFile}
 use Rattle.size_core.specs.Checks.{◌>>=◌}

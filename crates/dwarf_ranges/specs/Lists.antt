@@ -14,7 +14,7 @@ use Rattle.dwarf_ranges.specs.declared.answer.RangeAnswer.TheVariants.{Bad, NoMe
 use Rattle.dwarf_ranges.specs.Claims.{kept}
 use Rattle.dwarf_ranges.specs.Entries.{item_from}
 
--- These ranges, and then those of a result.
+-- These ranges and then those of a result, or the result's fault.
 abbrev pub appended : List (ℕ × ℕ) → Result (List (ℕ × ℕ)) BadFile → Result (List (ℕ × ℕ)) BadFile
 appended ranges (Ok more) = Ok (ranges ++ more)
 appended ranges (Err e) = Err e

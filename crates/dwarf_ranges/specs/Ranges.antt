@@ -41,7 +41,7 @@ abbrev pub opened : Option Window → ℕ → Result Window BadFile
 opened None place = bad OffsetOutside place
 opened (Some w) place = Ok w
 
--- The offset at an index of the table in `.debug_rnglists`. It is counted from the table's begin (DWARF 5,
+-- The offset at an index of the table in `.debug_rnglists`. It is counted from the start of the table (DWARF 5,
 -- section 7.28).
 abbrev pub list_entry : Sections → Bool → ℕ → ℕ → ℕ → Result ℕ BadFile
 list_entry s wide base index place = offset_at s.order wide s.rnglists base index place

@@ -62,7 +62,7 @@ headed order place wide contents (Err e) = None
 unfoldable pub set_in : Order → ℕ → Bool → Window → Option AddressSet
 set_in order place wide contents = headed order place wide contents (header_from order wide contents)
 
--- The set at the begin of a window, or none if it is skipped, and the window after it (DWARF 5, section
+-- The set at the start of a window, or none if it is skipped, and the window after it (DWARF 5, section
 -- 6.1.2).
 unfoldable pub set_from : Order → Window → Result (Option AddressSet × Window) BadFile
 set_from order w = do

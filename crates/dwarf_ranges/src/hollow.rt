@@ -21,7 +21,7 @@ pub enum Hollow {
     More,
 }
 
-// Returns that more entries follow, if this one claims nothing.
+// Returns `More` if an entry claims nothing, and `None` otherwise.
 fn more_if(is_nothing: bool) -> Option<Hollow>
     ensures { result ≡ (if is_nothing then Some Hollow.More else None) }
 {

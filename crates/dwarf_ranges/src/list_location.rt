@@ -29,7 +29,7 @@ pub struct ListReference {
 }
 
 /// The list that a value of `DW_AT_ranges` refers to. The value is an offset; in DWARF 5 it can also be an
-/// index. DWARF 2 and 3 had no form for offsets, so there it can also be a constant.
+/// index. DWARF 2 and 3 had no form for offsets, so there it can also be a constant. `None` for any other value.
 pub fn list_name(version: u16, value: &Value) -> Option<ListName>
     ensures { result ≡ list_name version (meaning value.now.content) }
 {
@@ -106,7 +106,7 @@ fn list_entry(
 
 /// The window at a unit's range list: in `.debug_rnglists` in DWARF 5, in `.debug_ranges` in earlier versions.
 /// OffsetOutside at the file offset `place` if the list doesn't begin inside the section, or if the entry
-/// that has its offset isn't completely inside it.
+/// that has its offset isn't completely inside it. The end of `.debug_ranges` counts as inside.
 #[tactic(auto, unfolding(crate::specs::Ranges::list_at))]
 pub fn list_at<'a>(
     sections: &Sections<'a>,

@@ -64,7 +64,7 @@ fn told_address(
     }
 }
 
-/// The length of a range, unless the number is negative.
+/// The length of a range. `None` if the number is negative.
 fn signed_length(length: i64) -> Option<High>
     ensures { result ≡ signed_length length }
 {
@@ -75,7 +75,7 @@ fn signed_length(length: i64) -> Option<High>
     }
 }
 
-/// What `DW_AT_high_pc` gives: the address after the range, or the range's length.
+/// What `DW_AT_high_pc` gives: the address after the range, or the range's length. `None` if it gives neither.
 fn high_of(root: &Root, sections: &Sections) -> Result<Option<High>, BadFile>
     ensures { result ≡ high_of sections.now (shown_root root.now) (shown_root root.now).high }
 {
@@ -202,7 +202,8 @@ fn ranges_of(
 /// that refers outside.
 ///
 /// - OffsetOutside if the address that `DW_AT_low_pc` refers to isn't in `.debug_addr`.
-/// - OffsetOutside if the list or its offset isn't in its section.
+/// - OffsetOutside if the list doesn't begin in its section, or if the entry that has its offset isn't in the
+///   section. A list at the end of `.debug_ranges` counts as in the section, and has the fault of its first entry.
 /// - In a list, at the entry's file offset: OffsetOutside if an address that an entry refers to isn't in
 ///   `.debug_addr`; BadRangeList if an entry has an unknown kind or isn't complete.
 /// - Without a list: OffsetOutside if the address that `DW_AT_high_pc` refers to isn't in `.debug_addr`.

@@ -68,7 +68,7 @@ fn set_with<'a>(
     })
 }
 
-/// Reads the set with these contents. `None` if it is skipped.
+/// Reads the set with these contents. `None` if it is skipped: it is too short for a header, or isn't supported.
 #[tactic(auto, unfolding(crate::specs::Sets::set_in))]
 fn set_in<'a>(order: Order, place: u64, wide: bool, contents: &Cursor<'a>) -> Option<AddressSet<'a>>
     ensures { result ≡ set_in order place wide contents.now }

@@ -10,7 +10,7 @@ use byte_cursor::{Cursor, Order};
 use size_core::BadFile;
 use std::marker::Model;
 
-/// Reads a tuple. `None` for a tuple of zeros, the end of the list.
+/// Reads a tuple: an address, and a length in bytes. `None` for a tuple of zeros, the end of the list.
 #[tactic(auto, unfolding(crate::specs::Tuples::tuple_from))]
 fn tuple_from(cursor: &mut Cursor, order: Order, size: u8) -> Result<Option<(u64, u64)>, BadFile>
     ensures { Reads (λ t. t) result cursor.new (tuple_from order size cursor.old) }

@@ -82,7 +82,7 @@ pub filled_bad : (shape : UnitShape) (s : Spec) (ss : List Spec) (w : Window) (e
 unfolding filled_from values_from
 filled_bad shape s ss w e r is = rw is refl
 
--- The same of a slice from an index on.
+-- The same of a slice of attributes, from an index on.
 pub listed_end : (shape : UnitShape) (specs : List Spec) (i : ℕ) (w : Window) (r : RootRecord) → length specs ≤ i → filled_from shape (drop i specs) w r ≡ Ok r
 listed_end shape specs i w r le = rw (drop_all i specs le) (filled_end shape w r)
 

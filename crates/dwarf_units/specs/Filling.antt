@@ -1,7 +1,8 @@
 -- A root while its values are read: the values known so far, and those that are still to come.
-use Rattle.std.specs.Prelude.{◌≡◌, ◌≤◌, ℕ, ◌==◌, List, length, Option, Some, None, Result, Ok, Err, if◌then◌else◌}
+use Rattle.std.specs.Prelude.{◌≡◌, ◌≤◌, ℕ, ◌==◌, Bool, List, [], ◌∷◌, length, Option, Some, None, Result, Ok, Err, if◌then◌else◌}
 use Rattle.std.specs.BTreeMap.{BTreeMap, get}
 use Rattle.std.specs.Global.{Vec}
+use Rattle.std.specs.List.{list_any}
 use Rattle.std.specs.Option.{option_map}
 use Rattle.std.specs.Ordering.{nat_cmp}
 use Rattle.size_core.specs.declared.fault.BadFile.{BadFile}
@@ -17,7 +18,7 @@ use Rattle.dwarf_units.specs.declared.constants.TheConstants.{DW_AT_NAME, DW_AT_
 use Rattle.dwarf_units.specs.declared.unit.DwarfUnit.{DwarfUnit}
 use Rattle.dwarf_units.specs.Roots.{RootRecord, values_from, first_value}
 
--- Of two values of an attribute the first one.
+-- The first of two values of an attribute.
 abbrev pub earlier_value : Option ValueRecord → ValueRecord → Option ValueRecord
 earlier_value None v = Some v
 earlier_value (Some first) v = Some first
@@ -38,6 +39,14 @@ with_value attribute v r = record r {
   addr_base = slot DW_AT_ADDR_BASE attribute r.addr_base v;
   list_base = slot DW_AT_RNGLISTS_BASE attribute r.list_base v;
 }
+
+-- The attributes whose values a root keeps (DWARF 5, section 3.1.1).
+abbrev pub read_attributes : List ℕ
+read_attributes = DW_AT_NAME ∷ DW_AT_LOW_PC ∷ DW_AT_HIGH_PC ∷ DW_AT_RANGES ∷ DW_AT_STMT_LIST ∷ DW_AT_STR_OFFSETS_BASE ∷ DW_AT_ADDR_BASE ∷ DW_AT_RNGLISTS_BASE ∷ []
+
+-- Whether a root keeps the values of this attribute.
+abbrev pub is_read : ℕ → Bool
+is_read attribute = list_any (λ a. a == attribute) read_attributes
 
 -- A value of this attribute changes no root.
 abbrev pub IsUnread : ℕ → Type 0
@@ -76,7 +85,7 @@ abbrev pub GiveSameRoots : List Spec → List Spec → Type 0
 GiveSameRoots some all = (shape : UnitShape) (w : Window) (r : RootRecord) → w.at ≤ length w.bytes
     → filled_from shape some w r ≡ filled_from shape all w r
 
--- These attributes give the same roots as those of the declaration, if there is one.
+-- A list of attributes is there exactly if a declaration is, and it gives the same roots as the declaration's own.
 abbrev pub AreRootsOf : Option Declaration → Option (List Spec) → Type 0
 AreRootsOf None None = Unit {0}
 AreRootsOf (Some d) (Some specs) = GiveSameRoots specs d.specs

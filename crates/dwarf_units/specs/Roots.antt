@@ -17,7 +17,7 @@ use Rattle.dwarf_units.specs.declared.sections.Sections.{Sections}
 use Rattle.dwarf_units.specs.declared.unit.DwarfUnit.{DwarfUnit}
 use Rattle.dwarf_units.specs.declared.root.Root.{Root}
 use Rattle.dwarf_units.specs.declared.strings.StringAt.{StringAt}
-use Rattle.dwarf_units.specs.Strings.{address_by, base_or, named, string_in_section, table_header, text_of}
+use Rattle.dwarf_units.specs.Strings.{address_by, base_or, named, string_in_section, stored_string, table_header, text_of}
 
 -- The values of the attributes of an entry, in order, each with its attribute's number (DWARF 5, sections 7.5.2
 -- and 7.5.3).
@@ -114,6 +114,15 @@ name_by s r (Some v) = text_of s r.shape.wide (base_or r.str_base (table_header 
 -- The unit's name, if it has one (DWARF 5, section 3.1.1).
 abbrev pub name_of : Sections → RootRecord → Result (Option (List ℕ)) BadFile
 name_of s r = name_by s r r.name
+
+-- The section and the offset of the name that this value gives, if there is one in a section (DWARF 5, section 3.1.1).
+abbrev pub stored_name_by : Sections → RootRecord → Option ValueRecord → Option StringAt
+stored_name_by s r None = None
+stored_name_by s r (Some v) = stored_string s r.shape.wide (base_or r.str_base (table_header r.shape.wide)) v
+
+-- The section and the offset of the unit's name, if it is in a section (DWARF 5, section 3.1.1).
+abbrev pub stored_name : Sections → RootRecord → Option StringAt
+stored_name s r = stored_name_by s r r.name
 
 -- The unit's name is this string of a section (DWARF 5, section 3.1.1).
 pub record IsNameAt (s : Sections) (r : RootRecord) (at : StringAt) : Type 0 where

@@ -19,7 +19,7 @@ abbrev pub ended : Option (List ℕ) → ℕ → Result (List ℕ) BadFile
 ended None place = bad BadString place
 ended (Some t) place = Ok t
 
--- The string at the begin of a window; OffsetOutside if there is no such window (DWARF 5, section 7.5.5).
+-- The string at the start of a window; OffsetOutside if there is no such window (DWARF 5, section 7.5.5).
 abbrev pub string_in : Option Window → ℕ → Result (List ℕ) BadFile
 string_in None place = bad OffsetOutside place
 string_in (Some w) place = ended (text w.bytes w.at) place
@@ -81,6 +81,23 @@ text_by s wide base place _ = Ok None
 -- The string that a value refers to, with faults at the value's file offset (DWARF 5, section 7.5.5).
 abbrev pub text_of : Sections → Bool → ℕ → ValueRecord → Result (Option (List ℕ)) BadFile
 text_of s wide base v = text_by s wide base v.place v.content
+
+-- The string of `.debug_str` at the offset that an entry has, if the entry can be read (DWARF 5, section 7.26).
+abbrev pub stored_by_entry : Result ℕ BadFile → Option StringAt
+stored_by_entry (Ok n) = Some (Strings n)
+stored_by_entry (Err e) = None
+
+-- The section and the offset of the string that a value refers to, if it is in a section: the offset itself, or that at an
+-- index, if the entry can be read (DWARF 5, section 7.5.5).
+unfoldable pub stored_string_by : Sections → Bool → ℕ → ℕ → Meaning → Option StringAt
+stored_string_by s wide base place (AStrOffset n) = Some (Strings n)
+stored_string_by s wide base place (ALineStrOffset n) = Some (LineStrings n)
+stored_string_by s wide base place (AStrIndex i) = stored_by_entry (string_offset_at s wide base i place)
+stored_string_by s wide base place _ = None
+
+-- The same, of a value at its file offset (DWARF 5, section 7.5.5).
+abbrev pub stored_string : Sections → Bool → ℕ → ValueRecord → Option StringAt
+stored_string s wide base v = stored_string_by s wide base v.place v.content
 
 -- The address that a value gives, directly or by its index, if it gives one (DWARF 5, section 7.5.5).
 unfoldable pub address_by : Sections → UnitShape → ℕ → ℕ → Meaning → Result (Option ℕ) BadFile

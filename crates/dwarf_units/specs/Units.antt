@@ -102,7 +102,7 @@ versioned order p version w =
 unfoldable pub unit_in : Order → Position → Window → Result (Option DwarfUnit) BadFile
 unit_in order p contents = if nat_lt (left contents) 2 then Ok None else num_from w16 order contents >>= (λ version. versioned order p version.0 version.1)
 
--- The unit at the begin of a window, or none if it is skipped, and the window after it (DWARF 5, section
+-- The unit at the start of a window, or none if it is skipped, and the window after it (DWARF 5, section
 -- 7.5.1).
 unfoldable pub unit_from : Order → ℕ → Window → Result (Option DwarfUnit × Window) BadFile
 unit_from order start w = do

@@ -14,8 +14,11 @@ use size_core::BadFile;
 /// The fields of a unit's header after its version.
 #[derive(Clone, Copy, Debug)]
 pub struct Header {
+    /// The unit's type, `DW_UT_*`.
     pub kind: u8,
+    /// The size of an address in bytes.
     pub address: u8,
+    /// The offset of the unit's abbreviation table in `.debug_abbrev`.
     pub abbrev_offset: u64,
 }
 
@@ -81,7 +84,8 @@ fn new_header(cursor: &mut Cursor, order: Order, wide: bool) -> Result<Option<He
     }
 }
 
-/// Reads the header of a unit, after its version. `None` if the unit is skipped.
+/// Reads the header of a unit, after its version. `None` if the unit is skipped, since the standard doesn't define
+/// its type.
 pub fn header_from(
     cursor: &mut Cursor,
     order: Order,

@@ -1,11 +1,11 @@
-//! The roots of units (DWARF 5, section 3.1).
+//! The roots of units. The root is the first entry of a unit, and describes the unit itself (DWARF 5, section 3.1).
 
 ghost use Rattle.std.specs.Prelude.{◌≡◌, false, IfSome};
 ghost use Rattle.std.specs.Option.{option_copied};
 ghost use Rattle.size_core.specs.Checks.{Gives};
 ghost use Rattle.dwarf_abbrev.specs.Values.{shown};
-ghost use Rattle.dwarf_units.specs.Filling.{IsUnread, earlier_value, with_value};
-ghost use Rattle.dwarf_units.specs.Roots.{IsNameAt, address_of, name_of, shown_root, shown_value};
+ghost use Rattle.dwarf_units.specs.Filling.{IsUnread, earlier_value, is_read, with_value};
+ghost use Rattle.dwarf_units.specs.Roots.{IsNameAt, address_of, name_of, shown_root, shown_value, stored_name};
 
 use crate::constants::{
     DW_AT_ADDR_BASE, DW_AT_HIGH_PC, DW_AT_LOW_PC, DW_AT_NAME, DW_AT_RANGES, DW_AT_RNGLISTS_BASE,
@@ -16,8 +16,8 @@ use crate::strings::{StringAt, address_by, base_or, string_of, table_header, tex
 use dwarf_abbrev::{UnitShape, Value};
 use size_core::BadFile;
 
-/// The attribute values of a unit's root that this crate distinguishes. Of each attribute it has the first
-/// value, if there is one.
+/// The attribute values of a unit's root that this crate distinguishes. It has the first value of each attribute, if
+/// there is one.
 #[derive(Clone, Copy, Debug)]
 pub struct Root<'a> {
     /// The unit's file offset.
@@ -46,7 +46,7 @@ pub struct Root<'a> {
     pub list_base: Option<Value<'a>>,
 }
 
-/// The first of two values of an attribute.
+/// The value to keep of an attribute: the one that is kept already, or else the new one.
 fn earlier_value<'a>(old: Option<Value<'a>>, value: Value<'a>) -> Option<Value<'a>>
     ensures { shown_value result ≡ earlier_value (shown_value old.entry) (shown value.entry) }
 {
@@ -73,9 +73,10 @@ pub fn add_value<'a>(root: &mut Root<'a>, attribute: u64, value: Value<'a>)
     }
 }
 
-/// False only if a root has no value of this attribute.
+/// Returns whether a root keeps the values of this attribute.
 pub fn is_read(attribute: u64) -> bool
-    ensures { result ≡ false → IsUnread attribute }
+    ensures value { result ≡ is_read attribute }
+    ensures unread { result ≡ false → IsUnread attribute }
 {
     match attribute {
         DW_AT_NAME | DW_AT_LOW_PC | DW_AT_HIGH_PC | DW_AT_RANGES | DW_AT_STMT_LIST => true,
@@ -102,10 +103,11 @@ impl<'a> Root<'a> {
         }
     }
 
-    /// The section and the offset of the unit's name, if it is in a section of strings and the index of its offset has
-    /// no fault.
+    /// The section and the offset of the unit's name. `None` if it isn't in a section of strings, or if the index of
+    /// its offset has a fault.
     pub fn name_at(&self, sections: &Sections<'a>) -> Option<StringAt>
-        ensures { IfSome result (λ at. IsNameAt sections.now (shown_root self.now) at) }
+        ensures stored { result ≡ stored_name sections.now (shown_root self.now) }
+        ensures name { IfSome result (λ at. IsNameAt sections.now (shown_root self.now) at) }
     {
         let name = self.name.as_ref()?;
         let base = base_or(&self.str_base, table_header(self.shape.wide));

@@ -128,8 +128,9 @@ impl<'a> DwarfUnit<'a> {
         }
     }
 
-    /// The same root, by attributes that give the same roots as those of the declaration of the root's code. Units of
-    /// one code need them found only once.
+    /// The root as `root_in` returns it. It is read with these attribute specifications instead of those that the
+    /// table declares for the root's code, and they must give the same roots. So the table is searched only once for
+    /// all units whose roots have this code.
     #[tactic(auto, using(crate::proofs::RootLemmas::root_none, crate::proofs::RootLemmas::root_bad, crate::proofs::RootLemmas::root_known))]
     pub fn root_with(&self, table: &Abbrevs<'a>, specs: &[Spec]) -> Result<Root<'a>, BadFile>
         requires { AreSpecsOf table.now.declarations (code_of self.now) specs.now }
@@ -142,9 +143,9 @@ impl<'a> DwarfUnit<'a> {
         read_listed(specs, &self.shape, cursor, root)
     }
 
-    /// The same root, by an index of the table. For each code that the table declares, the index has attributes that
-    /// give the same roots as all attributes of the declaration. So a root needs no search of the table, and no walk
-    /// over attributes that change nothing.
+    /// The root as `root_in` returns it. It is read with an index of the table, which has attribute specifications
+    /// for each code that the table declares. They must give the same roots as all those of the declaration. So a
+    /// root needs no search of the table, and no walk over attributes that change nothing.
     #[tactic(auto, using(crate::proofs::RootLemmas::root_none, crate::proofs::RootLemmas::root_bad, crate::proofs::RootLemmas::root_unlisted, crate::proofs::RootLemmas::root_listed))]
     pub fn root_by(
         &self,

@@ -6,7 +6,7 @@ ghost use Rattle.size_core.specs.Checks.{Gives, bad};
 ghost use Rattle.size_core.specs.declared.fault.Fault.TheVariants.{OffsetOutside};
 ghost use Rattle.dwarf_abbrev.specs.Reads.{inside};
 ghost use Rattle.dwarf_abbrev.specs.Values.{meaning, shown};
-ghost use Rattle.dwarf_units.specs.Strings.{address_at, address_by, address_size, base_or, named, offset_at, string_at, string_in_section, string_offset_at, table_header, text_by, text_of};
+ghost use Rattle.dwarf_units.specs.Strings.{address_at, address_by, address_size, base_or, named, offset_at, stored_string, string_at, string_in_section, string_offset_at, table_header, text_by, text_of};
 ghost use Rattle.dwarf_units.specs.Roots.{shown_value};
 
 use crate::sections::Sections;
@@ -108,7 +108,7 @@ impl<'s, 'a> OffsetTable<'s, 'a> {
     }
 }
 
-/// An entry of `.debug_str_offsets`.
+/// The offset at an index of the table in `.debug_str_offsets` that begins at `base`.
 fn string_offset_at(
     sections: &Sections,
     wide: bool,
@@ -158,7 +158,8 @@ pub fn table_header(wide: bool) -> u64
     if wide { 16 } else { 8 }
 }
 
-/// The base that an attribute gives, or else `other`.
+/// The offset, in bytes, that an attribute gives as the base of a table in its section. It is `other` if the
+/// attribute is absent or gives no offset.
 pub fn base_or(value: &Option<Value>, other: u64) -> u64
     ensures { result ≡ base_or (shown_value value.now) other }
 {
@@ -209,9 +210,10 @@ pub fn text_of<'a>(
 
 /// The section and the offset of the string that a value refers to, if it is in a section. `None` also if the index of
 /// its offset has a fault. The arguments are those of `text_of`.
-#[tactic(auto, unfolding(crate::specs::Strings::text_by))]
+#[tactic(auto, unfolding(crate::specs::Strings::text_by, crate::specs::Strings::stored_string_by))]
 pub fn string_of(value: &Value, wide: bool, base: u64, sections: &Sections) -> Option<StringAt>
-    ensures { IfSome result (λ at. text_of sections.now wide base (shown value.now)
+    ensures stored { result ≡ stored_string sections.now wide base (shown value.now) }
+    ensures text { IfSome result (λ at. text_of sections.now wide base (shown value.now)
         ≡ named (string_in_section sections.now at value.now.place)) }
 {
     match value.content {

@@ -34,13 +34,16 @@ pub struct DwarfUnit<'a> {
     pub body: Cursor<'a>,
 }
 
-/// What is known of a unit before its header is read: its file offset, its offset in `.debug_info`, its length
-/// in bytes, and the size of its offsets.
+/// What is known of a unit before its header is read.
 #[derive(Clone, Copy)]
 pub struct Position {
+    /// The unit's file offset.
     pub place: u64,
+    /// The unit's offset in `.debug_info`.
     pub offset: u64,
+    /// The unit's length in bytes, with its length field.
     pub len: u64,
+    /// Whether offsets have 8 bytes or 4.
     pub wide: bool,
 }
 
@@ -134,7 +137,9 @@ fn unit_in<'a>(
     versioned(order, position, version, contents)
 }
 
-/// Reads the unit at the cursor. `None` if it is skipped.
+/// Reads the unit at the cursor. `start` is the file offset of `.debug_info`. `None` if the unit is skipped.
+/// Truncated or BadUnit at the unit if its length or its header can't be read, or BadUnit if its addresses don't have
+/// 2, 4 or 8 bytes.
 #[tactic(auto, unfolding(crate::specs::Units::unit_from))]
 pub fn unit_from<'a>(
     cursor: &mut Cursor<'a>,

@@ -33,7 +33,7 @@ section_reach file i = let s = section_at file i in
     else if has_flag s.flags SHF_ALLOC then Some (in_both (section_addresses file i) (span 0 s.offset s.size))
     else Some (in_file (span 0 s.offset s.size))
 
--- The claim of section i, with its label written as `wrap` says (gABI, Sections).
+-- The claim of section i. `wrap` is how its label is written (gABI, Sections).
 unfoldable pub section_claim : Wrap → List ℕ → ℕ → List LabelledClaim
 section_claim wrap file i = claim_on_some (section_reach file i) (wrapped wrap (section_label file i))
 
@@ -47,11 +47,11 @@ section_claims wrap file = gather (section_claim wrap file) 1 (section_count fil
 abbrev pub header_reach : List ℕ → Reach
 header_reach file = in_file (span 0 0 (header_len (encoding_of file)))
 
--- The program header table: e_phnum entries from e_phoff (gABI, ELF Header).
+-- The program header table: an entry for each segment, from e_phoff on (gABI, ELF Header).
 abbrev pub segment_table_reach : List ℕ → Reach
 segment_table_reach file = in_file (span 0 (phoff file) (segment_count file * segment_len (encoding_of file)))
 
--- The section header table: e_shnum entries from e_shoff (gABI, ELF Header).
+-- The section header table: an entry for each section, from e_shoff on (gABI, ELF Header).
 abbrev pub section_table_reach : List ℕ → Reach
 section_table_reach file = in_file (span 0 (shoff file) (section_count file * section_len (encoding_of file)))
 

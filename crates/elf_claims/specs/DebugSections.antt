@@ -74,7 +74,7 @@ sections_of file = record {
   lines = window_named file Line;
 }
 
--- Section i is compressed (gABI, Sections: SHF_COMPRESSED).
+-- Section i is compressed: it has SHF_COMPRESSED and isn't of type SHT_NOBITS (gABI, Sections: SHF_COMPRESSED).
 abbrev pub is_compressed : List ℕ → ℕ → Bool
 is_compressed file i = has_flag (section_at file i).flags SHF_COMPRESSED && not ((section_at file i).kind == SHT_NOBITS)
 

@@ -13,15 +13,25 @@ use size_core::{BadFile, Fault};
 /// The debug sections that are read.
 #[derive(Clone, Copy, Debug, PartialEq, Eq)]
 pub enum DebugSection {
+    /// `.debug_info`
     Info,
+    /// `.debug_abbrev`
     Abbrev,
+    /// `.debug_str`
     Str,
+    /// `.debug_line_str`
     LineStr,
+    /// `.debug_str_offsets`
     StrOffsets,
+    /// `.debug_addr`
     Addr,
+    /// `.debug_ranges`
     Ranges,
+    /// `.debug_rnglists`
     Rnglists,
+    /// `.debug_aranges`
     Aranges,
+    /// `.debug_line`
     Line,
 }
 
@@ -162,9 +172,10 @@ fn check_addresses(file: &ElfFile<'_>) -> Result<(), BadFile>
 /// Returns the debug sections of a file. A section is found by its name: the first section that has the name.
 ///
 /// SourceNotForFile at 0 if the file is relocatable: its debug sections aren't relocated yet. CompressedDebugInfo at
-/// the section header if a section is compressed: it has SHF_COMPRESSED, or it is named `.zdebug_..` and no section is
-/// named `.debug_..`. The sections are tested in this order: .debug_info, .debug_abbrev, .debug_str, .debug_line_str,
-/// .debug_str_offsets, .debug_addr, .debug_ranges, .debug_rnglists, .debug_aranges, .debug_line.
+/// the section header if a section is compressed: it has SHF_COMPRESSED and isn't of type SHT_NOBITS, or it is named
+/// `.zdebug_..` and no section is named `.debug_..`. The sections are checked in this order: .debug_info,
+/// .debug_abbrev, .debug_str, .debug_line_str, .debug_str_offsets, .debug_addr, .debug_ranges, .debug_rnglists,
+/// .debug_aranges, .debug_line.
 #[tactic(auto, unfolding(crate::specs::DebugSections::debug_sections))]
 pub fn debug_sections<'a>(file: &ElfFile<'a>) -> Result<Sections<'a>, BadFile>
     ensures { result ≡ debug_sections file.now }

@@ -10,11 +10,12 @@ use elf_symbols::NumbersIndex;
 use size_core::NoMemory;
 use std::alloc::Global;
 
-/// What is known of the symbols of a file while they are read: its sections with extended section indexes, and the
-/// labels of the symbols that were read.
+/// What is known of the symbols of a file while they are read.
 #[derive(Drop)]
 pub struct KnownSymbols<'a> {
+    /// The sections with extended section indexes.
     pub numbers: NumbersIndex<'a>,
+    /// The labels of the symbols that were read.
     pub names: SymbolNames<'a>,
 }
 

@@ -16,14 +16,16 @@ use long_names::LongNames;
 use size_core::BadFile;
 use std::alloc::Global;
 
-/// The label of the symbol that was read last, with the section and the offset of its name, and the labels of the long
-/// names that were read before.
+/// The label of the symbol that was read last, and the labels of the long names that were read before.
 #[derive(Drop)]
 pub struct SymbolNames<'a> {
+    /// The section and the offset of the name of the last symbol. `None` before the first one.
     pub name: Option<NameOffset>,
     /// The file offset of the name.
     pub place: u64,
+    /// The label of the last symbol.
     pub label: KnownLabel<'a>,
+    /// The labels of the long names that were read before.
     pub long: LongNames<'a>,
 }
 
@@ -104,8 +106,8 @@ impl<'a> SymbolNames<'a> {
         }
     }
 
-    /// Makes the label the name of symbol `k`. The name isn't read again if the symbol before had it, or if it is long
-    /// and some symbol had it. Bad is the fault of the name.
+    /// Sets the label to the name of symbol `k`. The name isn't read again if the symbol before had it, or if it is
+    /// long and an earlier symbol had it. Bad is the fault of the name.
     pub fn read(&mut self, table: &SymbolTable<'a>, k: u32) -> Result<(), Stop>
         requires index { k < symbol_count table.now.file table.now.index }
         requires names { AreNamesOf table.now.file self.old }

@@ -41,8 +41,8 @@ name_table_checks file =
     demand (name_index file == 0 || nat_lt (name_index file) (section_count file)) BadIndex (shstrndx_place (encoding_of file))
     ∷ []
 
--- The check that the bytes of section i lie in the file, and that its addresses end by 2^64 (gABI, Section
--- Header).
+-- The check that the bytes of section i lie in the file, and that its addresses end by 2^64 if it is allocated (gABI,
+-- Section Header).
 unfoldable pub section_fits : List ℕ → ℕ → Check
 section_fits file i = let s = section_at file i in do
   demand (not (has_bytes file i) || s.size == 0 || nat_le (s.offset + s.size) (length file)) SectionPastEnd s.place

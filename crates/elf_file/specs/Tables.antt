@@ -12,7 +12,7 @@ use Rattle.elf_file.specs.Layout.{encoding_of, section_len, segment_len, phoff, 
 abbrev pub section_place : List ℕ → ℕ → ℕ
 section_place file i = shoff file + i * section_len (encoding_of file)
 
--- The fields of section i but for the name: Elf32_Shdr, Elf64_Shdr (gABI, Section Header).
+-- The fields of section i, without the name: Elf32_Shdr, Elf64_Shdr (gABI, Section Header).
 unfoldable pub section_at : List ℕ → ℕ → SectionHeader
 section_at file i = let e = encoding_of file in let place = section_place file i in record {
   place = place;

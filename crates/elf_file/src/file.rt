@@ -46,9 +46,10 @@ impl<'a> Model for ElfFile<'a> {
 impl<'a> ElfFile<'a> {
     /// Opens a file of fewer than 2^32 bytes. The checks come in this order, and the first fault is
     /// returned: the file header (Truncated, BadHeader), the section table and then the segment table
-    /// (BadHeader, TablePastEnd), the section name table (BadIndex), the bytes and addresses of each
-    /// section (SectionPastEnd, RangeOverflow), the name of each section (NameOutside), and the addresses
-    /// of each load (RangeOverflow).
+    /// (BadHeader, TablePastEnd), the section name table (BadIndex), the bytes of each section, and its
+    /// addresses if it is allocated (SectionPastEnd, RangeOverflow), the name of each section (NameOutside),
+    /// and the addresses of each load (RangeOverflow). A fault has the file offset of the wrong field, of the
+    /// table, or of the header of the wrong section or segment. Truncated is at offset 0.
     #[tactic(auto, using(crate::proofs::OpenedLemmas::opened_is, crate::proofs::OpenedLemmas::means_opened, crate::proofs::OpenedLemmas::is_well_formed))]
     pub fn parse(file: &'a [u8]) -> Result<ElfFile<'a>, BadFile>
         requires { length file.now < 2 ^ 32 }

@@ -1,4 +1,5 @@
-//! The sizes of records and the offsets of their fields (ELF gABI, ELF Header, Section Header, Program Header).
+//! The sizes of records and the offsets of their fields, in bytes (ELF gABI, ELF Header, Section Header, Program
+//! Header).
 
 ghost use Rattle.std.specs.Prelude.{◌≡◌};
 ghost use Rattle.byte_cursor.specs.Encoding.{by_class};

@@ -13,10 +13,12 @@ use crate::sections::{section_bytes, section_of_table, section_place};
 use byte_cursor::{Encoding, text_at};
 use size_core::{BadFile, Fault};
 
-/// The section name table: its number, which is 0 if sections have no names, and its bytes.
+/// The section name table.
 #[derive(Clone, Copy)]
 pub struct NameTable<'a> {
+    /// The number of its section, or 0 if sections have no names.
     pub index: u32,
+    /// Its bytes.
     pub bytes: &'a [u8],
 }
 
@@ -37,7 +39,7 @@ fn name_index(file: &[u8], encoding: Encoding, sections: u32) -> u32
     }
 }
 
-/// Returns the number of the section name table, or 0 if sections have no names. BadIndex if no
+/// Returns the number of the section name table, or 0 if sections have no names. BadIndex at `e_shstrndx` if no
 /// section has the number.
 #[tactic(auto, unfolding(crate::specs::ElfChecks::name_table_checks))]
 pub fn name_table(file: &[u8], encoding: Encoding, sections: u32) -> Result<u32, BadFile>
@@ -82,7 +84,8 @@ fn name_text<'a>(file: &[u8], encoding: Encoding, names: &'a [u8], i: u32) -> Op
     text_at(names, encoding.four(file, place, SH_NAME) as usize)
 }
 
-/// Checks that the name of section `i` has its terminating zero byte.
+/// Checks that the name of section `i` has its terminating zero byte. NameOutside at the section header if it has
+/// none.
 #[tactic(auto, unfolding(crate::specs::ElfChecks::section_has_name))]
 fn section_has_name(
     file: &[u8],

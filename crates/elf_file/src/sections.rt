@@ -15,7 +15,8 @@ use crate::section::SectionHeader;
 use byte_cursor::{Encoding, Order};
 use size_core::{BadFile, Fault};
 
-/// Returns the class and the byte order. Checks that the file header is complete.
+/// Returns the class and the byte order. Truncated at 0 if the file header isn't complete, and BadHeader at the byte
+/// of an unknown class or byte order.
 #[tactic(auto, unfolding(crate::specs::ElfChecks::header_checks, crate::specs::Layout::encoding_of))]
 pub fn encoding(file: &[u8]) -> Result<Encoding, BadFile>
     requires { length file.now < 2 ^ 32 }
@@ -52,7 +53,8 @@ pub fn encoding(file: &[u8]) -> Result<Encoding, BadFile>
     Ok(encoding)
 }
 
-/// Returns the number of sections. Checks that the section table lies in the file.
+/// Returns the number of sections. BadHeader at `e_shentsize` if it is wrong, and TablePastEnd at the section table
+/// if the table doesn't lie in the file.
 #[tactic(auto, unfolding(crate::specs::ElfChecks::section_table_checks, crate::specs::Tables::section_count))]
 pub fn section_table(file: &[u8], encoding: Encoding) -> Result<u32, BadFile>
     requires { HasHeader file.now encoding }
@@ -131,7 +133,8 @@ pub fn section_of_table(file: &[u8], encoding: Encoding, sections: u32, i: u32) 
     section_header(file, encoding, i)
 }
 
-/// Checks that the bytes of section `i` lie in the file, and that its addresses end by 2^64.
+/// Checks that the bytes of section `i` lie in the file (SectionPastEnd), and that its addresses end by 2^64 if it is
+/// allocated (RangeOverflow). A fault is at the section header.
 #[tactic(auto, unfolding(crate::specs::ElfChecks::section_fits))]
 fn section_fits(file: &[u8], encoding: Encoding, sections: u32, i: u32) -> Result<(), BadFile>
     requires table { HasSections file.now encoding sections }
@@ -166,7 +169,7 @@ pub fn passes_end(addr: u64, size: u64) -> bool
     size != 0 && u64::MAX - (size - 1) < addr
 }
 
-/// Checks the bytes and addresses of each section.
+/// Checks the bytes and addresses of each section, in order.
 #[tactic(auto, using(size_core::proofs::Each::each_next, size_core::proofs::Each::each_bad, size_core::proofs::Each::each_end))]
 pub fn sections_fit(file: &[u8], encoding: Encoding, sections: u32) -> Result<(), BadFile>
     requires { HasSections file.now encoding sections }

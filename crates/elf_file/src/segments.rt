@@ -29,7 +29,8 @@ fn segment_count(file: &[u8], encoding: Encoding, sections: u32) -> u32
     }
 }
 
-/// Returns the number of segments. Checks that the segment table lies in the file.
+/// Returns the number of segments. BadHeader at `e_phentsize` if it is wrong, and TablePastEnd at the segment table
+/// if the table doesn't lie in the file.
 #[tactic(auto, unfolding(crate::specs::ElfChecks::segment_table_checks))]
 pub fn segment_table(file: &[u8], encoding: Encoding, sections: u32) -> Result<u32, BadFile>
     requires { HasSections file.now encoding sections }
@@ -92,7 +93,8 @@ pub fn segment_bytes<'a>(file: &'a [u8], encoding: Encoding, segments: u32, i: u
     &file[start as usize..(start + size) as usize]
 }
 
-/// Checks that the addresses of segment `i` end by 2^64, if it is loaded.
+/// Checks that the addresses of segment `i` end by 2^64, if it is loaded. RangeOverflow at its program header if they
+/// don't.
 #[tactic(auto, unfolding(crate::specs::ElfChecks::segment_fits))]
 fn segment_fits(file: &[u8], encoding: Encoding, segments: u32, i: u32) -> Result<(), BadFile>
     requires table { HasSegments file.now encoding segments }

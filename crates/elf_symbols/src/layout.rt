@@ -1,4 +1,4 @@
-//! The size of a symbol and the offsets of its fields (ELF gABI, Symbol Table).
+//! The size of a symbol and the offsets of its fields, in bytes (ELF gABI, Symbol Table).
 
 ghost use Rattle.std.specs.Prelude.{◌≡◌};
 ghost use Rattle.byte_cursor.specs.Encoding.{by_class};

@@ -16,6 +16,7 @@ use std::marker::Model;
 pub struct TableNumbers {
     /// The section number of its symbol table.
     pub table: u32,
+    /// The section number of the extended section indexes.
     pub section: u32,
 }
 
@@ -77,7 +78,7 @@ fn numbers_by_table(alloc: Global, file: &ElfFile<'_>) -> Result<Vec<TableNumber
     Ok(known)
 }
 
-/// Returns how many sections belong to tables before section `i`.
+/// Returns how many of these sections belong to symbol tables in sections before section `i`.
 fn count_before(known: &[TableNumbers], i: u32) -> usize
     requires { RiseByTable known.now }
     ensures bound { result ≤ length known.now }
@@ -86,7 +87,7 @@ fn count_before(known: &[TableNumbers], i: u32) -> usize
     known.partition_point(|numbers| numbers.table < i)
 }
 
-/// Returns the number of the first section that belongs to the table in section `i`.
+/// Returns the number of the first section that belongs to the table in section `i`. `None` if there is none.
 fn first_for(known: &[TableNumbers], i: u32) -> Option<u32>
     requires { RiseByTable known.now }
     ensures { result ≡ first_for i known.now }
@@ -115,7 +116,7 @@ impl<'a> NumbersIndex<'a> {
     }
 
     /// Returns the number of the first section with the extended section indexes of the table in section
-    /// `i`.
+    /// `i`. `None` if no section has them.
     #[tactic(auto, using(crate::proofs::NumbersLemmas::numbers_within))]
     pub fn first(&self, i: u32) -> Option<u32>
         ensures value { result ≡ numbers_index self.now i }

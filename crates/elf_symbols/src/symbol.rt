@@ -30,7 +30,7 @@ pub struct Symbol<'a> {
     pub section: u32,
 }
 
-/// Where the name of a symbol is. Symbols with the same numbers have the same name.
+/// Where the name of a symbol is. Symbols with equal values of this type have the same name.
 #[derive(Clone, Copy, Debug, PartialEq, Eq)]
 pub struct NameOffset {
     /// The number of the section with the names (`sh_link` of the symbol table).

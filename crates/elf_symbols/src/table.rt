@@ -19,7 +19,7 @@ use elf_file::ElfFile;
 use size_core::{BadFile, Fault};
 use std::marker::Model;
 
-/// A symbol table.
+/// An opened symbol table of an ELF file (ELF gABI, Symbol Table).
 #[derive(Drop)]
 pub struct SymbolTable<'a> {
     file: &'a [u8],
@@ -95,7 +95,7 @@ fn bytes_place(file: &ElfFile<'_>, j: u32) -> u64
 }
 
 impl<'a> SymbolTable<'a> {
-    /// Opens the symbol table in section `i`. BadIndex if `sh_link` is no section's number.
+    /// Opens the symbol table in section `i`. BadIndex at the section header if `sh_link` is no section's number.
     pub fn at(file: &ElfFile<'a>, i: u32) -> Result<SymbolTable<'a>, BadFile>
         requires { IsSymbolTable file.now i }
         ensures { result ≡ table_at file.now i }
@@ -103,8 +103,8 @@ impl<'a> SymbolTable<'a> {
         SymbolTable::open_table(file, i, numbers_index(file, i))
     }
 
-    /// Opens the symbol table in section `i`, with an index of the extended section indexes. In a file with
-    /// many tables, the sections are then visited once for all of them.
+    /// Opens the symbol table in section `i`, as `at` does. An index finds its extended section indexes, so a file
+    /// with many tables has its sections visited only once.
     pub fn indexed(
         file: &ElfFile<'a>,
         i: u32,
@@ -187,9 +187,9 @@ impl<'a> SymbolTable<'a> {
         self.base + self.encoding.four(self.file, self.offset_of(k), ST_NAME) as u64
     }
 
-    /// Returns whether `name` can be the name of symbol `k`: the symbol has a name, and a name of this length ends among
-    /// the table's names. So a text at `name_place(k)` is the symbol's name if this returns true. It returns true for each
-    /// symbol that has this name, unless the name is empty.
+    /// Returns whether symbol `k` has a name, and a name as long as `name` would end among the table's names. If so,
+    /// and if `name` is the text at `name_place(k)`, then `name` is the symbol's name. For a symbol with this name it
+    /// returns true, unless the name is empty.
     #[tactic(auto, using(crate::proofs::PlaceLemmas::is_name, crate::proofs::PlaceLemmas::name_fits))]
     pub fn is_name(&self, k: u32, name: &[u8]) -> bool
         requires { k < symbol_count self.now.file self.now.index }
@@ -203,7 +203,8 @@ impl<'a> SymbolTable<'a> {
         0 < offset && (offset as usize) < self.names.len().saturating_sub(name.len())
     }
 
-    /// Returns the name of symbol `k`. NameOutside if it has no terminating zero byte in the table's names.
+    /// Returns the name of symbol `k`. NameOutside at the symbol if it has no terminating zero byte in the table's
+    /// names.
     #[tactic(auto, using(crate::proofs::NameLemmas::name_any, crate::proofs::PlaceLemmas::name_placed))]
     pub fn name(&self, k: u32) -> Result<&'a [u8], BadFile>
         requires { k < symbol_count self.now.file self.now.index }
@@ -217,8 +218,8 @@ impl<'a> SymbolTable<'a> {
         name_at(self.file, self.encoding, self.names, self.offset_of(k))
     }
 
-    /// Returns symbol `k`, whose name is known and isn't read again. BadIndex if it needs an extended
-    /// section index and has none.
+    /// Returns symbol `k`, whose name is known and isn't read again. BadIndex at the symbol if it needs an
+    /// extended section index and has none.
     #[tactic(auto, unfolding(crate::specs::Symbols::symbol_at))]
     pub fn symbol_named(&self, k: u32, name: &'a [u8]) -> Result<Symbol<'a>, BadFile>
         requires index { k < symbol_count self.now.file self.now.index }
@@ -243,7 +244,7 @@ impl<'a> SymbolTable<'a> {
     }
 
     /// Returns symbol `k`. NameOutside if its name has no terminating zero byte in the table's names,
-    /// and BadIndex if it needs an extended section index and has none.
+    /// and BadIndex if it needs an extended section index and has none. Both are at the symbol.
     #[tactic(auto, unfolding(crate::specs::Symbols::symbol_at))]
     pub fn symbol(&self, k: u32) -> Result<Symbol<'a>, BadFile>
         requires { k < symbol_count self.now.file self.now.index }

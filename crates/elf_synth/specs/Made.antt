@@ -60,7 +60,7 @@ symbols_header part = record {
   entry_size = 24;
 }
 
--- The section header of a string table (SHT_STRTAB). name is the offset of its own name in the section name
+-- The section header of a string table (SHT_STRTAB). `name` is the offset of its own name in the section name
 -- table.
 abbrev pub names_header : ℕ → Part → SectionHeader
 names_header name part = record {

@@ -46,7 +46,7 @@ file_header entry section_headers =
     ++ half 5  -- e_shnum
     ++ half 4  -- e_shstrndx
 
--- The program header, Elf64_Phdr, of a load that can be read and executed: the first size bytes of the
+-- The program header, Elf64_Phdr, of a load that can be read and executed: the first `size` bytes of the
 -- file, at a virtual address (gABI, Program Header).
 unfoldable pub program_header : ℕ → ℕ → List ℕ
 program_header address size =

@@ -11,7 +11,7 @@ use Rattle.size_model.specs.Sizes.{relabelled, with_rewriting}
 use Rattle.claim_sheet.specs.Made.{AreNumbered, KeepsLabels, texts}
 use Rattle.file_profile.specs.Numbering.{AreTexts, IsRenumbering, renumbered}
 
--- a number keeps its text
+-- A number keeps its text.
 pub kept-get : (old new : List (List ℕ)) (n : ℕ) (text : List ℕ) → KeepsLabels old new → slice_get old n ≡ Some text → slice_get new n ≡ Some text
 kept-get old new n text kept at =
     let lt : n < length old = slice_get_within old n text at in

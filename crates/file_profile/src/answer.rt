@@ -17,7 +17,7 @@ pub enum ProfileAnswer {
     /// The claims of the plan's data sources exceed the limit.
     #[error("too many claims")]
     TooManyClaims,
-    /// The mapped sizes of the files pass 2^63 - 1.
+    /// The mapped sizes of the files exceed 2^63 - 1.
     #[error("mapped size too large")]
     MappedTooLarge,
     /// There was not enough memory.
@@ -37,7 +37,7 @@ pub enum PairAnswer {
     /// The claims of the plan's data sources exceed the limit.
     #[error("too many claims")]
     TooManyClaims,
-    /// The mapped sizes of the files pass 2^63 - 1.
+    /// The mapped sizes of the files exceed 2^63 - 1.
     #[error("mapped size too large")]
     MappedTooLarge,
     /// There was not enough memory.
@@ -57,7 +57,7 @@ pub enum PlaceAnswer {
     /// The claims of the plan's data sources exceed the limit.
     #[error("too many claims")]
     TooManyClaims,
-    /// The mapped size of the file passes 2^63 - 1.
+    /// The mapped size of the file exceeds 2^63 - 1.
     #[error("mapped size too large")]
     MappedTooLarge,
     /// There was not enough memory.
@@ -118,7 +118,7 @@ pub enum OpenedAnswer {
     Bad(u32, BadFile),
     /// The claims of the plan's data sources exceed the limit.
     TooManyClaims,
-    /// The mapped sizes of the files pass 2^63 - 1.
+    /// The mapped sizes of the files exceed 2^63 - 1.
     MappedTooLarge,
     /// There was not enough memory.
     NoMemory,

@@ -16,10 +16,12 @@ use data_sources::{Binary, ClaimAnswer, claims, debug_claims};
 use size_core::{Claim, LabelPool, NoMemory, Source};
 use std::alloc::Global;
 
-/// The claims of a data source in order, and the label of bytes that no claim covers. Labels are numbers of a pool.
+/// The claims of a data source. Labels are numbers of a pool.
 #[derive(Drop)]
 pub struct Numbered {
+    /// The claims in order. The first claim that covers a byte gives its label.
     pub claims: Vec<Claim>,
+    /// The label of bytes that no claim covers.
     pub unmapped: usize,
 }
 

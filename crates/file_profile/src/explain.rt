@@ -18,18 +18,21 @@ use place_explain::{
 use size_core::{Bytes, LabelPool, Limits, Names, NoMemory, Place, Source, Text};
 use std::alloc::Global;
 
-/// What is explained: a location, with the first claim that covers it and up to `shown` more. If `shown` is 0, with all
-/// of them.
+/// What is explained.
 #[derive(Clone, Copy)]
 pub struct Request {
+    /// The location.
     pub place: Place,
+    /// The first claim that covers the location is kept, and up to this many more. If it is 0, all are kept.
     pub shown: u32,
 }
 
-/// The explanation by one data source before labels are rewritten, and the number of its claims.
+/// The explanation by one data source, and how many claims the data source makes.
 #[derive(Drop)]
 pub struct CountedExplanation {
+    /// The explanation before labels are rewritten.
     pub explained: Explained,
+    /// The number of all claims of the data source, whether they cover the location or not.
     pub claims: u64,
 }
 
@@ -158,7 +161,9 @@ fn explain_opened(
 /// - `PlaceOutside`: the file offset isn't below the file's length, or the address isn't mapped,
 /// - `Bad` or `TooManyClaims` of the first data source that has a fault or with which the claims exceed
 ///   `limits.claims`,
-/// - `MappedTooLarge`: the mapped size exceeds 2^63 - 1.
+/// - `MappedTooLarge`: the mapped size of the file exceeds 2^63 - 1.
+///
+/// `NoMemory` may come at any step.
 pub fn explain_place(
     alloc: Global,
     plan: &Plan,

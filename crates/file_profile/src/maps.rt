@@ -16,14 +16,18 @@ use size_core::LabelPool;
 /// The two maps of a data source, and the number of claims that they are made of.
 #[derive(Drop)]
 pub struct Mapped {
+    /// The map of file offsets and the map of addresses.
     pub maps: DualMap,
+    /// The number of claims.
     pub claims: u64,
 }
 
-/// The maps of the data sources of a plan over a file, in their order. Their labels are numbers of the pool.
+/// The maps of the data sources of a plan over a file.
 #[derive(Drop)]
 pub struct FileMaps {
+    /// The two maps of each data source, in the order of the data sources. Labels are numbers of `pool`.
     pub maps: Vec<DualMap>,
+    /// The pool of the labels of all maps.
     pub pool: LabelPool,
 }
 

@@ -89,9 +89,9 @@ fn open_pair<'n, 'a, 'd>(
 /// - `NoMatch`: the identifiers of the two (the build ID of ELF, the UUID of Mach-O) differ, or one is absent,
 /// - `Bad` or `TooManyClaims` of the first data source that has a fault, in the debug file or else in the file, or with
 ///   which the claims exceed `limits.claims`,
-/// - `MappedTooLarge`: the mapped sizes of all files exceed 2^63 - 1.
+/// - `MappedTooLarge`: the mapped sizes of this file and of those in `total` exceed 2^63 - 1.
 ///
-/// After an error `total` is as before.
+/// `NoMemory` may come at any step. After an error `total` is as before.
 pub fn profile_pair<L: Ledger>(
     alloc: Global,
     plan: &Plan,

@@ -16,11 +16,11 @@ pub enum PlanAnswer {
     /// A name in `-d` is not the name of a data source. The names are numbered from 1.
     #[error("unknown source {0}")]
     UnknownSource(usize),
-    /// A pattern isn't a regular expression, or it nests too deep. The filter is pattern 0, rewrites have the numbers
-    /// from 1 on.
+    /// The pattern with this number isn't a regular expression, or it is nested too deeply. The filter is pattern 0,
+    /// and the rewrites are numbered from 1.
     #[error("pattern {0}: bad syntax")]
     PatternSyntax(usize),
-    /// A compiled pattern would be too large.
+    /// The pattern with this number was refused for its size.
     #[error("pattern {0}: too big")]
     PatternTooBig(usize),
     /// There was not enough memory.
@@ -38,11 +38,12 @@ impl<T: Drop> From<AllocFailed<T>> for PlanAnswer {
     }
 }
 
-/// A data source of a run: the built-in source that makes its claims, and the position of its rewrites in the plan's
-/// list.
+/// A data source of a run.
 #[derive(Clone, Copy, Debug)]
 pub struct Choice {
+    /// The built-in data source that makes its claims.
     pub base: Source,
+    /// The index of its rewrites in the plan's list. `None` for a built-in data source.
     pub rewrites: Option<usize>,
 }
 

@@ -72,6 +72,16 @@ fn add_maps<L: Ledger>(
 
 /// Adds the sizes of an opened file to `total`: for each path of labels, one label for each data source of the plan,
 /// the number of the file's bytes and of its mapped addresses that have this path and pass the filter.
+///
+/// # Errors
+///
+/// The first of these:
+///
+/// - `Bad` or `TooManyClaims` of the first data source that has a fault or with which the claims exceed
+///   `limits.claims`,
+/// - `MappedTooLarge`: the mapped sizes of this file and of those in `total` exceed 2^63 - 1.
+///
+/// `NoMemory` may come at any step. After an error `total` is as before.
 pub fn profile_opened<L: Ledger>(
     plan: &Plan,
     subject: &Subject<'_, '_, '_>,

@@ -16,6 +16,6 @@ label_at names offset = get nat_cmp names.labels offset
 pub record AreNames (names : LongNames) : Type 0 where
   pub each : (offset : ℕ) (label : KnownLabel) → label_at names offset ≡ Some label → text names.file.now offset ≡ Some label.text.now
 
--- The claims of the labels, if they have some, have their labels.
+-- If a label has a claim, the claim has this label.
 pub record AreKnownNames (made : List LabelledClaim) (names : LongNames) : Type 0 where
   pub each : (offset : ℕ) (label : KnownLabel) → label_at names offset ≡ Some label → IsKnown made label

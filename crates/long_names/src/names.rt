@@ -15,16 +15,17 @@ use std::collections::BTreeMap;
 /// offset among the kept ones.
 pub const LONG_NAME: usize = 1024;
 
-/// The labels of the long names of a file that were met, by the file offsets of the names. Without long names, no
-/// memory is allocated.
+/// The labels of the long names of a file that have occurred so far. Without long names, no memory is allocated.
 #[derive(Drop)]
 pub struct LongNames<'a> {
+    /// The bytes of the file.
     pub file: &'a [u8],
+    /// The labels, by the file offsets of their names.
     pub labels: BTreeMap<u64, KnownLabel<'a>>,
 }
 
 impl<'a> LongNames<'a> {
-    /// Returns no names, of a file.
+    /// Returns an empty set of names of a file.
     #[tactic(auto, using(crate::proofs::NameLemmas::no_names, crate::proofs::NameLemmas::none_known))]
     pub fn new(alloc: Global, file: &'a [u8]) -> LongNames<'a>
         ensures file { result.file.now ≡ file.now }

@@ -26,7 +26,7 @@ section_reach s = if s.in_file then in_both (span 0 s.addr s.size) (span 0 s.off
 abbrev pub section_label : SectionRecord → List ℕ
 section_label s = s.segment ++ codes "," ++ s.name
 
--- The claim of a section, with its label written as `wrap` says (mach-o/loader.h, `section`, `section_64`).
+-- The claim of a section. `wrap` is how its label is written (mach-o/loader.h, `section`, `section_64`).
 unfoldable pub section_claim : Wrap → SectionRecord → List LabelledClaim
 section_claim wrap s = claim_on (section_reach s) (wrapped wrap (section_label s))
 

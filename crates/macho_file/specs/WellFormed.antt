@@ -5,7 +5,7 @@ use Rattle.macho_file.specs.declared.command.Command.{Command}
 use Rattle.macho_file.specs.Commands.{commands}
 use Rattle.macho_file.specs.Tables.{SegmentRecord, SectionRecord, segments, sections}
 
--- A command lies between the header and the end of the load commands.
+-- A command ends by the end of the load commands.
 abbrev pub IsAmongCommands : List ℕ → Command → Type 0
 IsAmongCommands file c = c.place + c.size ≤ commands_end file
 
@@ -18,8 +18,8 @@ pub record Fits (file : List ℕ) (s : SectionRecord) : Type 0 where
   pub addresses : s.addr + s.size ≤ 2 ^ 64
   pub contents : s.in_file ≡ true → s.size ≢ 0 → s.offset + s.size ≤ length file
 
--- A well-formed Mach-O file: the load commands follow the header and lie in the file, no address range ends
--- after 2^64, and the bytes of each section lie in the file.
+-- A well-formed Mach-O file: the header and the load commands lie in the file, no address range ends after 2^64, and
+-- the bytes of each section lie in the file.
 pub record IsWellFormed (file : List ℕ) : Type 0 where
   pub header : header_len file ≤ length file
   pub commands_within : commands_end file ≤ length file

@@ -28,7 +28,8 @@ fn passes_end(addr: u64, size: u64) -> bool
     size != 0 && u64::MAX - (size - 1) < addr
 }
 
-/// Checks that the addresses of a section end by 2^64, and that its bytes lie in the file.
+/// Checks that the addresses of a section end by 2^64 (RangeOverflow), and that its bytes lie in the file
+/// (SectionPastEnd). A fault is at the section header.
 #[tactic(auto, unfolding(crate::specs::Checks::section_fits))]
 fn section_fits(file: &[u8], section: &MachoSection<'_>) -> Result<(), BadFile>
     ensures { result ≡ section_fits file.now (section_shown section.now) }

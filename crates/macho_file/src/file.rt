@@ -60,9 +60,11 @@ impl<'a> Model for MachoFile<'a> {
 impl<'a> MachoFile<'a> {
     /// Opens a file of fewer than 2^32 bytes. The checks come in this order, and the first fault is
     /// returned: the magic number of a thin file, which gives the class and the byte order (UnknownFormat
-    /// at 0, also for fewer than four bytes), the header (Truncated), the end of the load commands
-    /// (TablePastEnd), and for each command its size (BadCommand), the addresses of a segment
-    /// (RangeOverflow) and the addresses and bytes of each of its sections (RangeOverflow, SectionPastEnd).
+    /// at 0, also for fewer than four bytes), the header (Truncated at 0), the end of the load commands
+    /// (TablePastEnd at the end of the header), and for each command its size (BadCommand), the addresses of a
+    /// segment (RangeOverflow) and the addresses and bytes of each of its sections (RangeOverflow,
+    /// SectionPastEnd). A fault of a command or its segment is at the command, and that of a section at the
+    /// section header.
     #[tactic(auto, using(crate::proofs::OpenedLemmas::opened_is, crate::proofs::OpenedLemmas::means_opened, crate::proofs::WellFormedLemmas::is_well_formed))]
     pub fn parse(file: &'a [u8]) -> Result<MachoFile<'a>, BadFile>
         requires { length file.now < 2 ^ 32 }
@@ -81,7 +83,7 @@ impl<'a> MachoFile<'a> {
         })
     }
 
-    /// Returns the same file.
+    /// Returns another view of the same file.
     pub fn fork(&self) -> MachoFile<'a>
         ensures { result ≡ self.now }
     {
@@ -298,8 +300,8 @@ impl<'a> MachoFile<'a> {
     /// Returns the spans of symbols, in symbol table order. A symbol takes part if it isn't for a debugger,
     /// is defined in a section that contains its value, and has a name. Its span ends at the next greater
     /// value of the symbols that take part in the same section, or at the end of the section. Of several
-    /// symbols with one value, the first has the span. Bad if the table has a fault (TablePastEnd), and
-    /// else at the first symbol with a fault (NameOutside), whether or not it takes part.
+    /// symbols with one value, the first has the span. Bad is the fault of the table (TablePastEnd), or
+    /// otherwise that of the first symbol with one (NameOutside), whether or not it takes part.
     pub fn spans(&self, alloc: Global) -> Result<Vec<SymbolSpan<'a>>, SpanAnswer>
         ensures { MatchResult result
             (λ v. spans self.now ≡ Ok (map span_shown v.items))
@@ -310,7 +312,7 @@ impl<'a> MachoFile<'a> {
         Ok(spans)
     }
 
-    /// Returns the same spans, each with the file offset of its name.
+    /// Returns the spans as `spans` does, each with the file offset of its name.
     #[tactic(auto, unfolding(crate::specs::Spans::spans))]
     pub fn named_spans(&self, alloc: Global) -> Result<Vec<NamedSpan<'a>>, SpanAnswer>
         ensures spans { MatchResult result

@@ -15,7 +15,7 @@ use crate::segment::{MachoSegment, segment_at};
 use crate::walk::Walk;
 use std::marker::Model;
 
-/// Returns the next segment command.
+/// Returns the next segment command, or `None` after the last.
 #[tactic(auto, using(crate::proofs::SegmentLemmas::same_segments, crate::proofs::SegmentLemmas::same_at, crate::proofs::SegmentLemmas::skip_command))]
 pub fn next_segment(walk: &mut Walk<'_>) -> Option<Command>
     ensures file { walk.new.file ≡ walk.old.file }

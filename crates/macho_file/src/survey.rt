@@ -14,11 +14,14 @@ use crate::walk::Walk;
 use byte_cursor::Encoding;
 use macho_records::LC_SYMTAB;
 
-/// The numbers of segments and sections, and the first command with a symbol table.
+/// What one walk over the load commands finds.
 #[derive(Clone, Copy)]
 pub struct Survey {
+    /// The number of segments.
     pub segments: u32,
+    /// The number of sections in all segments.
     pub sections: u32,
+    /// The first LC_SYMTAB command, if there is one.
     pub symtab: Option<Command>,
 }
 

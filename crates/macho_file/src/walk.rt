@@ -64,7 +64,7 @@ impl<'a> Walk<'a> {
         self.encoding
     }
 
-    /// Returns the next command.
+    /// Returns the next command, or `None` after the last.
     #[tactic(auto, using(crate::proofs::WalkLemmas::is_inside, crate::proofs::WalkLemmas::has_load_command, crate::proofs::WalkLemmas::fits_here, crate::proofs::WalkLemmas::goes_on, crate::proofs::WalkLemmas::comes, crate::proofs::WalkLemmas::is_over))]
     pub fn next(&mut self) -> Option<Command>
         ensures file { self.new.file ≡ self.old.file }

@@ -12,7 +12,7 @@ use Rattle.macho_records.specs.Layout.{encoding_of, symbol_len}
 use Rattle.macho_records.specs.Kinds.{data_kind, is_dyld_info}
 
 -- The range whose file offset is a field of the command at file offset place. The next field is its length, in
--- units of some bytes.
+-- units of `unit` bytes.
 unfoldable pub part_at : List ℕ → ℕ → LinkEdit → ByClass → ℕ → LinkEditPart
 part_at file place kind field unit = let e = encoding_of file in record {
   kind = kind;

@@ -27,25 +27,25 @@ pub enum LinkEdit {
     LazyBindingInfo,
     /// The export information (LC_DYLD_INFO, LC_DYLD_INFO_ONLY).
     ExportInfo,
-    /// LC_CODE_SIGNATURE.
+    /// The code signature (LC_CODE_SIGNATURE).
     CodeSignature,
-    /// LC_SEGMENT_SPLIT_INFO.
+    /// The split segment information (LC_SEGMENT_SPLIT_INFO).
     SegmentSplitInfo,
-    /// LC_FUNCTION_STARTS.
+    /// The start addresses of functions (LC_FUNCTION_STARTS).
     FunctionStarts,
-    /// LC_DATA_IN_CODE.
+    /// The ranges of data in code (LC_DATA_IN_CODE).
     DataInCode,
-    /// LC_DYLIB_CODE_SIGN_DRS.
+    /// The code signing requirements of linked libraries (LC_DYLIB_CODE_SIGN_DRS).
     CodeSignDrs,
-    /// LC_LINKER_OPTIMIZATION_HINT.
+    /// The linker optimization hints (LC_LINKER_OPTIMIZATION_HINT).
     OptimizationHints,
-    /// LC_DYLD_EXPORTS_TRIE.
+    /// The export trie (LC_DYLD_EXPORTS_TRIE).
     ExportTrie,
-    /// LC_DYLD_CHAINED_FIXUPS.
+    /// The chained fixups (LC_DYLD_CHAINED_FIXUPS).
     ChainedFixups,
 }
 
-/// Returns what a `linkedit_data_command` of this kind locates.
+/// Returns what a `linkedit_data_command` of this kind (`cmd`) locates. `None` for another kind of command.
 #[tactic(auto, unfolding(crate::specs::Kinds::data_kind))]
 pub fn data_kind(kind: u32) -> Option<LinkEdit>
     ensures { result ≡ data_kind kind }

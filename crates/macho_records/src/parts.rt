@@ -74,8 +74,8 @@ fn dyld_part(at: FileCommand<'_>, i: u32) -> Option<LinkEditPart>
     }
 }
 
-/// Returns range `i` that the command of this kind at file offset `place` locates, and none if there are fewer. The
-/// command has the minimum size of its kind.
+/// Returns range `i`, counted from 0, that the command of this kind at file offset `place` locates. `None` if it
+/// locates fewer. The bytes of the command up to the minimum size of its kind lie in the file.
 #[tactic(auto, unfolding(crate::specs::LinkEdit::parts_at, crate::specs::Kinds::least_by_kind))]
 pub fn part_of(
     file: &[u8],

@@ -25,7 +25,7 @@ IsKeyIn all k = (s : SymbolRecord) × (slice_get all k.number ≡ Some s) × (k 
 pub record AreAddresses (all : List SymbolRecord) : Type 0 where
   pub small : All (λ (s : SymbolRecord). s.value < 2 ^ 64) all
 
--- The index of these symbols: their keys, sorted by position, and those of one position by number.
+-- The index of these symbols: their keys, sorted by position. Keys with the same position are sorted by number.
 pub record IsIndex (all : List SymbolRecord) (keys : List Key) : Type 0 where
   pub known : All (IsKeyIn all) keys
   pub there : (i : ℕ) (s : SymbolRecord) → slice_get all i ≡ Some s → Contains keys (key_of i s)

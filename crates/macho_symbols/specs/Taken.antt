@@ -10,19 +10,19 @@ use Rattle.macho_symbols.specs.declared.symbol_table.SymbolTable.{SymbolTable}
 use Rattle.macho_symbols.specs.Symbols.{SymbolRecord}
 use Rattle.macho_symbols.specs.Spans.{symbols_from, takes_part}
 
--- The symbols that take part, of this many symbols from number k on, or the first fault.
+-- The symbols that take part among count symbols from number k on, or the first fault.
 unfoldable pub taken_from : List ℕ → SymbolTable → List Extent → ℕ → ℕ → Result (List SymbolRecord) BadFile
 taken_from file t all k count = do
   read ← symbols_from file t k count
   Ok (filter (takes_part all) read)
 
--- These symbols, and then those of a reading, or its fault.
+-- These symbols and then those of a reading, or the reading's fault.
 unfoldable pub prepend : List SymbolRecord → Result (List SymbolRecord) BadFile → Result (List SymbolRecord) BadFile
 prepend front reading = do
   rest ← reading
   Ok (front ++ rest)
 
--- What holds of the fault of an answer. Out of memory has no fault.
+-- `P` holds of the fault of an answer. Out of memory has no fault, so nothing has to hold.
 abbrev pub ForBad : SpanAnswer → (BadFile → Type 0) → Type 0
 ForBad (Bad bad) P = P bad
 ForBad NoMemory P = Unit {0}

@@ -10,14 +10,16 @@ use crate::symbol::PlacedSymbol;
 use size_core::NoMemory;
 use std::alloc::Global;
 
-/// The position of a symbol, which is `sect * 2^64 + value`, and its number.
+/// The position of a symbol and its number in a list.
 #[derive(Clone, Copy)]
 pub struct Key {
+    /// `sect * 2^64 + value`.
     pub position: u128,
+    /// The index of the symbol in the list, counted from 0.
     pub number: u32,
 }
 
-/// Returns the position of a symbol.
+/// Returns the position of a symbol: `sect * 2^64 + value`.
 pub fn position(symbol: &PlacedSymbol<'_>) -> u128
     ensures value { result ≡ position (placed_shown symbol.now) }
     ensures address { symbol.now.value < 2 ^ 64 }
@@ -42,7 +44,7 @@ fn keys_of(alloc: Global, symbols: &[PlacedSymbol<'_>]) -> Result<Vec<Key>, NoMe
     Ok(keys)
 }
 
-/// Returns the keys of symbols, sorted by position, and those of one position in symbol order.
+/// Returns the keys of symbols, sorted by position. Keys with the same position are in symbol order.
 pub fn index_of(alloc: Global, symbols: &[PlacedSymbol<'_>]) -> Result<Vec<Key>, NoMemory>
     requires { length symbols.now < 2 ^ 32 }
     ensures index { IfOk result (λ v. IsIndex (map placed_shown symbols.now) v.items) }

@@ -1,4 +1,4 @@
-//! The symbols that take part in the spans.
+//! The symbols that take part in the search for spans.
 
 ghost use Rattle.std.specs.Prelude.{◌≡◌, ℕ, List, true, ◌+◌, ◌≤◌, ◌<◌, ◌^◌, ◌++◌, ◌∷◌, [], IfOk, MatchResult, OnOk, Ok, Err, length, map, if◌then◌else◌};
 ghost use Rattle.macho_records.specs.Header.{HasHeader};
@@ -67,7 +67,8 @@ fn push_if_taking_part<'a>(
     Ok(())
 }
 
-/// Returns the symbols of a table that take part, in table order. Each symbol of the table is read.
+/// Returns the symbols of a table that take part, in table order. Each symbol of the table is read. Bad is the fault
+/// of the first symbol with one (NameOutside).
 #[tactic(auto, using(crate::proofs::NameLemmas::none_named, crate::proofs::TakenLemmas::taken_for_bad, crate::proofs::TakenLemmas::taken_next, crate::proofs::TakenLemmas::taken_bad, crate::proofs::TakenLemmas::taken_end, crate::proofs::TakenLemmas::taken_none, crate::proofs::TakenLemmas::few_more))]
 pub fn symbols_taking_part<'a>(
     alloc: Global,

@@ -21,13 +21,12 @@ use byte_cursor::Encoding;
 use size_core::NoMemory;
 use std::alloc::Global;
 
-/// The address range of a symbol, which starts at its value, with the file offset of its name. Symbols that share a name
-/// have the same offset.
+/// The address range of a symbol, which starts at its value, with a file offset of its name.
 #[derive(Clone, Copy, Debug)]
 pub struct NamedSpan<'a> {
     /// The symbol's name.
     pub name: &'a [u8],
-    /// The file offset of the name.
+    /// A file offset at which the text, up to the next zero byte, is the name.
     pub name_place: u64,
     /// Its value, which is a virtual address.
     pub start: u64,
@@ -55,7 +54,7 @@ fn is_first(symbols: &[PlacedSymbol<'_>], keys: &[Key], i: usize, symbol: &Place
     keys[first].number as usize == i
 }
 
-/// Returns the smallest of the greater values in the section of a symbol.
+/// Returns the next greater value of a symbol in the same section. `None` if there is none.
 fn next_value(symbols: &[PlacedSymbol<'_>], keys: &[Key], symbol: &PlacedSymbol<'_>) -> Option<u64>
     requires index { IsIndex (map placed_shown symbols.now) keys.now }
     requires addresses { AreAddresses (map placed_shown symbols.now) }

@@ -171,7 +171,8 @@ pub fn symbol_of<'a>(
     requires header { HasHeader file.now encoding }
     requires table { HasTable file.now table }
     requires number { k < table.nsyms }
-    ensures { Gives placed_shown result (symbol_of file.now table k) }
+    ensures symbol { Gives placed_shown result (symbol_of file.now table k) }
+    ensures name { IfOk result (λ s. s.name_place ≡ place_of_name file.now table s.place) }
 {
     let place = table.symoff as u64 + k as u64 * encoding.pick(NLIST_LEN);
     let name = symbol_name(file, encoding, table, place)?;
@@ -179,6 +180,7 @@ pub fn symbol_of<'a>(
 }
 
 /// Returns symbol `k` of a table, with the file offset of its name. A long name that was read before isn't read again.
+/// Bad is the fault of `symbol_of`.
 #[tactic(auto, unfolding(crate::specs::Symbols::symbol_of), using(crate::proofs::SymbolLemmas::symbol_within, crate::proofs::SymbolLemmas::name_placed, crate::proofs::SymbolLemmas::symbol_bad))]
 pub fn next_symbol<'a>(
     file: &[u8],

@@ -1,11 +1,11 @@
 -- Counts that rise. A count is a u64 that stops at 2^64 - 1.
 use Rattle.std.specs.Prelude.{ℕ, ◌+◌, ◌-◌, ◌^◌, ◌≤◌, min}
 
--- A count after n more.
+-- A count that was raised by n. It stops at 2^64 - 1.
 abbrev pub raised_by : ℕ → ℕ → ℕ
 raised_by n count = min (count + n) (2 ^ 64 - 1)
 
--- A count after one more.
+-- A count that was raised by 1.
 abbrev pub raised : ℕ → ℕ
 raised count = raised_by 1 count
 

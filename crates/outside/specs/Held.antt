@@ -28,7 +28,7 @@ abbrev pub IsTakenAtLeast : Option Pairs → ℕ → ℕ → ℕ → Type 0
 IsTakenAtLeast None count before now = RoseBy count before now
 IsTakenAtLeast (Some pairs) count before now = ⊤
 
--- Reads that returned this many bytes read no others.
+-- Reads that returned `count` bytes read no other bytes.
 --
 -- least: All of them were counted, if the contents of the files aren't known.
 -- most: No more were counted.

@@ -55,6 +55,9 @@ pub trait Files {
     ghost gave: { Self → Pairs };
 
     /// Returns the bytes of a file, if they are at most `limit`. Reads at most one byte more than the limit.
+    ///
+    /// `Failed` if the file can't be read: the count of failures rises, or has reached its maximum. `TooLong` if the
+    /// file has more bytes than the limit. `NoMemory` if memory runs out.
     fn read(&mut self, alloc: Global, name: &str, limit: u64) -> Result<Vec<u8>, FileAnswer>
         ensures asked { asked self.new ≡ asked self.old ++ name.now ∷ [] }
         ensures gave { IfOk result (λ v.

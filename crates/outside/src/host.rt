@@ -23,7 +23,8 @@ use std::marker::Model;
 use std::mem::replace;
 use std::{fs, io, rt};
 
-/// A writer of std, flushed after each write. Contracts know the bytes that the writer took and then flushed.
+/// A sink over a writer of std, which is flushed after each write. Contracts know the bytes that the writer took and
+/// then flushed.
 #[derive(Drop)]
 pub struct HostSink<W: Write + Drop> {
     writer: W,
@@ -143,8 +144,9 @@ impl<'r, R: rt::Files> Files for HostFiles<'r, R> {
 
     ghost gave = { λ f. f.gave };
 
-    /// Reads at most one byte more than the limit. Each turn but the last takes at least one byte, and none
-    /// takes more than 2^18. A failed read counts as a fault, and nothing else does.
+    /// Reads at most one byte more than the limit, in turns: a turn is one call of `read` on the open file. Each turn
+    /// but the last takes at least one byte, and none takes more than 2^18. Only an answer `Failed` counts as a
+    /// fault.
     fn read(&mut self, alloc: Global, name: &str, limit: u64) -> Result<Vec<u8>, FileAnswer>
         ensures asked { self.new.asked ≡ self.old.asked ++ name.now ∷ [] }
         ensures gave { IfOk result (λ v.
@@ -206,7 +208,7 @@ fn read_file<F: Read + Drop>(
     (file, bytes, outcome)
 }
 
-// Returns the answer for an error. Out of memory is no fault.
+// Returns the answer for an error of the host. Running out of memory doesn't count as a fault.
 fn answer(faults: &mut u64, e: &io::Error) -> FileAnswer
     ensures counted { (result ≡ FileAnswer.Failed) → faults.new ≡ raised faults.old }
     ensures not_counted { (result ≢ FileAnswer.Failed) → faults.new ≡ faults.old }

@@ -213,7 +213,7 @@ impl Files for MemFiles {
 
     ghost gave = { λ f. f.gave };
 
-    /// Fails exactly if the read is listed as failing, unless there is no memory to keep its name.
+    /// Returns `Failed` exactly if the read is listed as failing, unless there is no memory to keep its name.
     fn read(&mut self, alloc: Global, name: &str, limit: u64) -> Result<Vec<u8>, FileAnswer>
         ensures asked { self.new.asked ≡ self.old.asked ++ name.now ∷ [] }
         ensures gave { IfOk result (λ v.
@@ -291,6 +291,8 @@ impl Files for NoFaultFiles {
 
     ghost gave = { λ f. f.gave };
 
+    /// Returns the bytes of a file. `TooLong` if they are more than `limit`, and `NoMemory` if memory runs out. Never
+    /// `Failed`.
     fn read(&mut self, alloc: Global, name: &str, limit: u64) -> Result<Vec<u8>, FileAnswer> {
         self.asked.add(name.as_bytes());
         let bytes = copy_of(alloc, find(&self.pairs, name), limit)?;

@@ -51,7 +51,7 @@ impl<F: Read + Drop> Model for TurnReader<F> {
 }
 
 impl<F: Read + Drop> TurnReader<F> {
-    /// Returns a reader whose turns are noted after these, with no failed turn.
+    /// Returns a reader that notes its turns after these. No turn has failed yet.
     pub fn new(file: F, turns: Turns) -> TurnReader<F>
         ensures { result ≡ record { file = file; turns = turns; failures = 0 } }
     {
@@ -62,7 +62,7 @@ impl<F: Read + Drop> TurnReader<F> {
         }
     }
 
-    /// Returns the reader, and the turns with those that were there at the start.
+    /// Returns the inner reader, and all turns, including those that were passed to `new`.
     pub fn into_parts(self) -> (F, Turns)
         ensures { result ≡ (self.file, self.turns) }
     {
@@ -80,6 +80,7 @@ impl<F: Read + Drop> TurnReader<F> {
 impl<F: Read + Drop> Read for TurnReader<F> {
     ghost remaining = { λ r. F.remaining r.file };
 
+    /// Reads once, and notes the turn. A failed turn took no bytes, and is counted.
     fn read(&mut self, buf: &mut [u8]) -> io::Result<usize>
         ensures bound { ReadsAtMost result buf.new }
         ensures bytes { ReadConsumes (F.remaining self.old.file) (F.remaining self.new.file)

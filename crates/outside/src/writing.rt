@@ -6,7 +6,8 @@ ghost use Rattle.outside.specs.Writes.{Writes};
 
 use crate::sink::{Failed, Sink};
 
-/// Writes all the bytes. After a write that fails, no other is tried.
+/// Writes all the bytes. After a write that fails, no other is tried, and some of the first bytes may have been
+/// written.
 pub fn write_whole<S: Sink>(sink: &mut S, bytes: &[u8]) -> Result<(), Failed>
     ensures writes { Writes S.Sink result bytes.now sink.old sink.new }
 {
@@ -17,7 +18,8 @@ pub fn write_whole<S: Sink>(sink: &mut S, bytes: &[u8]) -> Result<(), Failed>
     Ok(())
 }
 
-/// Writes the pieces in order, each completely. After a write that fails, no other is tried.
+/// Writes the pieces in order, each completely. After a write that fails, no other is tried, and some of the first
+/// bytes may have been written.
 pub fn write_pieces<S: Sink>(sink: &mut S, pieces: &[&[u8]]) -> Result<(), Failed>
     ensures writes { Writes S.Sink result (joined pieces.now) sink.old sink.new }
 {

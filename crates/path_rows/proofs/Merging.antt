@@ -21,11 +21,11 @@ use Rattle.path_rows.proofs.Paths.{path_total, same_path}
 abbrev pub Strict : List RollupRow → Type 0
 Strict rows = IsStrictlySortedBy row_cmp rows
 
--- the order of two rows the other way round
+-- The order of two rows the other way round.
 pub turned : (q r : RollupRow) (o : Ordering) → row_cmp q r ≡ o → row_cmp r q ≡ ordering_reverse o
 turned q r o e = path_total.antisymm r.path q.path ∙ ap ordering_reverse e
 
--- a row below one that is not above a third
+-- A row that is below another one, which is not above a third, is below the third.
 pub below_then : (q s r : RollupRow) → row_cmp q s ≡ Less → is_le (row_cmp s r) ≡ true → row_cmp q r ≡ Less
 below_then q s r first second = by_order (row_cmp s r) refl second
   where
@@ -34,7 +34,7 @@ below_then q s r first second = by_order (row_cmp s r) refl second
     by_order Equal e h = sym (ap (path_cmp q.path) (same_path s.path r.path (ap is_eq e))) ∙ first
     by_order Greater e h = cc
 
--- not above, by two tests
+-- Two tests of whether a row is not above another one agree.
 not_above : (q r : RollupRow) → is_lt (row_cmp r q) ≡ false → is_le (row_cmp q r) ≡ true
 not_above q r h = by_order (row_cmp q r) refl
   where
@@ -61,7 +61,7 @@ greater_is Less h = cc
 greater_is Equal h = cc
 greater_is Greater h = refl
 
--- what holds of rows holds of them with one more
+-- What holds of rows and of one more row holds of the rows with this one inserted.
 all_with : (P : RollupRow → Type 0) → ((q r : RollupRow) → P q → P (larger q r)) → (rows : List RollupRow) (r : RollupRow) → AllByRecursion P rows → P r → AllByRecursion P (with_row rows r)
 all_with P keeps [] r h p = (p, tt)
 all_with P keeps (q ∷ qs) r h p = by_order (row_cmp q r) (all_with P keeps qs r h.1 p)
@@ -79,7 +79,7 @@ pub all_merged : (P : RollupRow → Type 0) → ((q r : RollupRow) → P q → P
 all_merged P keeps rows others merged m h k =
     subst (All P) (sym m.is) (All-from_recursion P (with_rows rows m.order) (all_rows P keeps m.order rows (recursion_from_All P rows h) (recursion_from_All P m.order (All-permutation P others m.order m.same k))))
 
--- they stay in order
+-- The rows stay in order.
 pub all_below : (r q : RollupRow) (rows : List RollupRow) → row_cmp r q ≡ Less → AllByRecursion (λ y. row_cmp q y ≡ Less) rows → AllByRecursion (λ y. row_cmp r y ≡ Less) rows
 all_below r q [] lt h = tt
 all_below r q (s ∷ rows) lt h = (path_total.trans r.path q.path s.path lt h.0, all_below r q rows lt h.1)
@@ -101,7 +101,7 @@ strict_rows (r ∷ rs) rows t = strict_rows rs (with_row rows r) (strict_with ro
 pub strict_merged : (rows others merged : List RollupRow) → AreMerged rows others merged → Strict rows → Strict merged
 strict_merged rows others merged m t = subst Strict (sym m.is) (strict_rows m.order rows t)
 
--- the sizes of the rows of whose path a test holds
+-- The sizes of the rows whose paths pass a test.
 module _ (test : List (List ℕ) → Bool) (f : RollupRow → ℕ) (adds : (q r : RollupRow) → f (larger q r) ≡ f q + f r) where
   abbrev size_at : RollupRow → ℕ
   size_at r = cond (test r.path) (f r) 0
@@ -130,23 +130,23 @@ module _ (test : List (List ℕ) → Bool) (f : RollupRow → ℕ) (adds : (q r 
   pub sum_merged : (rows others merged : List RollupRow) → AreMerged rows others merged → sum_by size_at merged ≡ sum_by size_at rows + sum_by size_at others
   sum_merged rows others merged m = ap (sum_by size_at) m.is ∙ omega (arith, sum_rows m.order rows, sum_by-IsPermutation size_at others m.order m.same)
 
--- the first row is above a row
+-- The first of these rows, if there are any, is above row `r`.
 abbrev pub BeginsAbove : List RollupRow → RollupRow → Type 0
 BeginsAbove [] r = Unit {0}
 BeginsAbove (y ∷ ys) r = row_cmp y r ≡ Greater
 
--- a row that comes first
+-- A row that is below all rows is inserted before them.
 pub with_first : (ys : List RollupRow) (r : RollupRow) → BeginsAbove ys r → with_row ys r ≡ r ∷ ys
 with_first [] r h = refl
 with_first (y ∷ ys) r h = ap (λ o. with_row_by o y r ys (with_row ys r)) h
 
--- rows before the last one, which is not above a row, are below it
+-- If the last row is not above row `r`, the rows before the last one are below `r`.
 under : (q s : RollupRow) (qs : List RollupRow) (r : RollupRow) → Strict (q ∷ s ∷ qs) → EndsUpto (s ∷ qs) r → row_cmp q r ≡ Less
 unfolding IsStrictlySortedBy
 under q s [] r t h = below_then q s r t.0.0 (not_above s r h)
 under q s (u ∷ qs) r t h = path_total.trans q.path s.path r.path t.0.0 (under s u qs r t.1 h)
 
--- a row between rows that are not above it and rows that are
+-- A row is inserted between the rows that are not above it and those that are.
 with_middle : (xs ys : List RollupRow) (r : RollupRow) → Strict xs → EndsUpto xs r → BeginsAbove ys r → with_row (xs ++ ys) r ≡ pushed xs r ++ ys
 unfolding IsStrictlySortedBy
 with_middle [] ys r t h k = with_first ys r k
@@ -164,7 +164,7 @@ with_middle (q ∷ s ∷ qs) ys r t h k =
     by_join true = refl
     by_join false = refl
 
--- the end of rows to which one is added
+-- If row `r` is added at the end, the last row is not above a row that `r` is not above.
 upto_push : (rows : List RollupRow) (r s : RollupRow) → is_lt (row_cmp s r) ≡ false → EndsUpto (rows ++ r ∷ []) s
 upto_push [] r s h = h
 upto_push (q ∷ []) r s h = h
@@ -195,7 +195,7 @@ length-pushed rows r = by_join (joins_last rows r.path)
     by_join true = omega (arith, length-enlarged rows r)
     by_join false = omega (arith, length-append rows (r ∷ []))
 
--- the last row, as `last` gives it
+-- The last row, as `last` returns it.
 pub joins_last-get : (rows : List RollupRow) (p : List (List ℕ)) (d : RollupRow) (n : ℕ) → length rows ≡ suc n → joins_last rows p ≡ is_path (get_or rows n d).path p
 joins_last-get [] p d n e = absurd (omega arith)
 joins_last-get (q ∷ []) p d zero e = refl
@@ -215,7 +215,7 @@ set_larger (q ∷ []) r d (suc n) e = absurd (omega arith)
 set_larger (q ∷ s ∷ qs) r d zero e = absurd (omega arith)
 set_larger (q ∷ s ∷ qs) r d (suc n) e = ap (λ l. q ∷ l) (set_larger (s ∷ qs) r d n (omega arith))
 
--- the first rows of ordered ones
+-- What holds of all rows holds of the first ones. The first rows of rows in order are in order.
 pub front_all : (P : RollupRow → Type 0) (xs ys : List RollupRow) → AllByRecursion P (xs ++ ys) → AllByRecursion P xs
 front_all P [] ys h = tt
 front_all P (x ∷ xs) ys h = (h.0, front_all P xs ys h.1)
@@ -225,7 +225,7 @@ unfolding IsStrictlySortedBy
 strict_front [] ys t = tt
 strict_front (x ∷ xs) ys t = (front_all (λ y. row_cmp x y ≡ Less) xs ys t.0, strict_front xs ys t.1)
 
--- rows that end up to a row, by all of them
+-- If none of the rows is above row `r`, the last one is not.
 pub ends_all : (xs : List RollupRow) (r : RollupRow) → All (λ (q : RollupRow). is_le (path_cmp q.path r.path) ≡ true) xs → EndsUpto xs r
 ends_all [] r h = tt
 ends_all (q ∷ []) r h = not_less q r (h 0 q (omega arith))
@@ -235,7 +235,7 @@ begins_all : (ys : List RollupRow) (r : RollupRow) → All (λ (q : RollupRow). 
 begins_all [] r h = tt
 begins_all (y ∷ ys) r h = greater_is (row_cmp y r) (h 0 y (omega arith))
 
--- what a search among rising rows asks, and one among those above, the greatest first
+-- The requirements of a binary search in rows that ascend, and of one in rows with the greatest first.
 pub rising_parts : (rows : List RollupRow) (r : RollupRow) → Strict rows → IsPartitionedBy (λ (q : RollupRow). is_le (path_cmp q.path r.path)) rows
 rising_parts rows r t i j d le lt h = by_index (cases_eq i j)
   where
@@ -262,7 +262,7 @@ falling_parts rows above r t i j d le lt h = by_index (cases_eq i j)
         let far = turned (get_or above j d) r Greater (greater_is (row_cmp (get_or above j d) r) h) in
         ap is_gt (turned r (get_or above i d) Less (path_total.trans r.path (get_or above j d).path (get_or above i d).path far (above_falls rows above i j d t (omega arith) lt)))
 
--- rows taken from the end and put after others, and back
+-- If the last items of a list are moved to the end of another list in reverse, both lists together are the same.
 pub moved_same : {X : Type 0} (rows above : List X) (kept : ℕ) → (rows ++ reverse (drop kept above)) ++ reverse (take kept above) ≡ rows ++ reverse above
 moved_same rows above kept =
     append_assoc rows (reverse (drop kept above)) (reverse (take kept above))
@@ -299,7 +299,7 @@ module _ (rows above : List RollupRow) (r : RollupRow) (kept : ℕ) (t : Strict 
       let front = strict_front (rows ++ reverse (drop kept above)) (reverse (take kept above)) (subst Strict (sym (moved_same rows above kept)) t) in
       sym (with_middle (rows ++ reverse (drop kept above)) (reverse (take kept above)) r front ends_back begins_kept) ∙ ap (λ l. with_row l r) (moved_same rows above kept)
 
--- rows that are inserted one after the other
+-- Rows of which none is above the next one, by their indices.
 climbs_from : (rows : List RollupRow) → ((k : ℕ) (d : RollupRow) → k + 1 < length rows → is_lt (row_cmp (get_or rows (k + 1) d) (get_or rows k d)) ≡ false) → Climbs rows
 climbs_from [] h = tt
 climbs_from (r ∷ []) h = tt
@@ -310,7 +310,7 @@ climbs_from (r ∷ s ∷ rows) h = (
       subst (λ j. is_lt (row_cmp (get_or (r ∷ s ∷ rows) j d) (get_or (s ∷ rows) k d)) ≡ false) next (h (suc k) d (omega arith))),
 )
 
--- what falls from the first row on climbs from the last one on
+-- Rows that descend from the first one on ascend from the last one on.
 pub climbs_back : (rows : List RollupRow) → IsSorted falling rows → Climbs (reverse rows)
 climbs_back rows s = climbs_from (reverse rows) (λ k d lt.
     let count : length (reverse rows) ≡ length rows = length-reverse rows in
@@ -361,14 +361,14 @@ first_fits new rest rows r e h = record {
   file = omega (arith, ap (sum_by (λ (q : RollupRow). q.file)) e, sum_by_push (λ (q : RollupRow). q.file) rest r, sum_by-cons (λ (q : RollupRow). q.file) r [], h.file);
 }
 
--- the first of two parts fits if both do
+-- If two parts together fit with other rows, the first part does.
 pub front_fits : (xs ys all others : List RollupRow) → xs ++ ys ≡ all → FitTogether all others → FitTogether xs others
 front_fits xs ys all others e h = record {
   vm = omega (arith, sum_by-append (λ (q : RollupRow). q.vm) xs ys, ap (sum_by (λ (q : RollupRow). q.vm)) e, h.vm);
   file = omega (arith, sum_by-append (λ (q : RollupRow). q.file) xs ys, ap (sum_by (λ (q : RollupRow). q.file)) e, h.file);
 }
 
--- the least new row is the last one
+-- The last of the new rows is the first one in reverse.
 pub last_first : (rows new : List RollupRow) (r : RollupRow) → slice_get new (length new - 1) ≡ Some r → EndsUpto rows r → EndsUptoFirst rows (reverse new)
 last_first rows new r at h = by_list (reverse new) refl
   where
@@ -384,7 +384,7 @@ pub none_first : (rows new : List RollupRow) → slice_get new (length new - 1) 
 none_first rows [] e = tt
 none_first rows (r ∷ new) e = absurd (let some = slice_get-get_or (r ∷ new) (length (r ∷ new) - 1) r (omega arith) in cc)
 
--- what is known of rows into which others were merged
+-- What is known of rows into which others were merged.
 larger_some : (q r : RollupRow) → ((0 < q.vm) ⊎ (0 < q.file)) → ((0 < (larger q r).vm) ⊎ (0 < (larger q r).file))
 larger_some q r (inl h) = inl (omega arith)
 larger_some q r (inr h) = inr (omega arith)

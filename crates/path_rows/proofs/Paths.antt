@@ -11,11 +11,11 @@ use Rattle.std.proofs.lemmas.List.{drop_more, length-drop}
 use Rattle.std.proofs.lemmas.Option.{get_or_from_slice_get, slice_get_within}
 use Rattle.path_rows.specs.Paths.{is_path, path_cmp}
 
--- a path from a label on
+-- A path from a label on is the label and the rest.
 rest_from : (p : List (List ℕ)) (i : ℕ) (x : List ℕ) → slice_get p i ≡ Some x → drop i p ≡ x ∷ drop (i + 1) p
 rest_from p i x here = drop_more p i x (slice_get_within p i x here) ∙ ap (λ y. y ∷ drop (i + 1) p) (get_or_from_slice_get p i x x here)
 
--- the comparison of paths from a label on
+-- Paths compare by their next labels, and then by the rest.
 pub compare_from : (a b : List (List ℕ)) (i : ℕ) (x y : List ℕ) → slice_get a i ≡ Some x → slice_get b i ≡ Some y
     → path_cmp (drop i a) (drop i b) ≡ ordering_then (slice_cmp nat_cmp x y) (path_cmp (drop (i + 1) a) (drop (i + 1) b))
 compare_from a b i x y at_a at_b = ap (λ xs. path_cmp xs (drop i b)) (rest_from a i x at_a) ∙ ap (λ ys. path_cmp (x ∷ drop (i + 1) a) ys) (rest_from b i y at_b)
@@ -29,7 +29,7 @@ nat_same m n e = grind (arith, nat_tests)
 pub nat_greater : (m n : ℕ) → n < m → nat_cmp m n ≡ Greater
 nat_greater m n lt = grind (arith, nat_tests)
 
--- if one of them ends, their lengths decide
+-- If one of two paths ends, their lengths decide.
 pub compare_ends : (a b : List (List ℕ)) (i : ℕ) → i ≡ min (length a) (length b) → path_cmp (drop i a) (drop i b) ≡ nat_cmp (length a) (length b)
 compare_ends a b i e = by_rest (drop i a) (drop i b) (length-drop i a) (length-drop i b)
   where
@@ -44,7 +44,7 @@ then_other Less rest h = refl
 then_other Equal rest h = absurd (h refl)
 then_other Greater rest h = refl
 
--- paths that compare equal are one
+-- Paths that compare as equal are equal.
 pub same_list : {X : Type 0} (R : X → X → Ordering) → ((x y : X) → R x y ≡ Equal → x ≡ y) → (xs ys : List X) → slice_cmp R xs ys ≡ Equal → xs ≡ ys
 same_list R same [] [] e = refl
 same_list R same [] (y ∷ ys) e = cc

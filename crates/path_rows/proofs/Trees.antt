@@ -25,7 +25,7 @@ unfolding IsStrictlySortedBy
 high_strict [] q ys t = t.1
 high_strict (x ∷ xs) q ys t = high_strict xs q ys t.1
 
--- rows below a row that is not above another one are below that
+-- A row that is not below a row in the middle of others is inserted among the rows from that one on.
 past : (xs : List RollupRow) (q : RollupRow) (ys : List RollupRow) (r : RollupRow) (rest : List RollupRow) → Strict (xs ++ q ∷ ys) → is_le (row_cmp q r) ≡ true
     → with_row (q ∷ ys) r ≡ rest → with_row (xs ++ q ∷ ys) r ≡ xs ++ rest
 unfolding IsStrictlySortedBy
@@ -59,24 +59,24 @@ length-with_row (q ∷ qs) r = by_order (row_cmp q r) (length-with_row qs r)
     by_order Equal h = omega arith
     by_order Greater h = omega arith
 
--- the sizes of a part fit if all fit
+-- The sizes of rows are the sum of the sizes of their parts.
 pub part_sum : (f : RollupRow → ℕ) (xs : List RollupRow) (q : RollupRow) (ys : List RollupRow) → sum_by f (xs ++ q ∷ ys) ≡ sum_by f xs + (f q + sum_by f ys)
 part_sum f xs q ys = omega (arith, sum_by-append f xs (q ∷ ys), sum_by-cons f q ys)
 
--- the last of rows in order are in order
+-- The last rows of rows in order are in order.
 pub back_strict : (xs ys : List RollupRow) → Strict (xs ++ ys) → Strict ys
 unfolding IsStrictlySortedBy
 back_strict [] ys t = t
 back_strict (x ∷ xs) ys t = back_strict xs ys t.1
 
--- the first item of a list, and the others
+-- Equal lists have equal first items and equal rests.
 cons_first : {V : Type 0} {a b : V} {xs ys : List V} → a ∷ xs ≡ b ∷ ys → a ≡ b
 cons_first e = cc
 
 cons_rest : {V : Type 0} {a b : V} {xs ys : List V} → a ∷ xs ≡ b ∷ ys → xs ≡ ys
 cons_rest e = cc
 
--- a branch alone is made of its row
+-- Branches without other rows are made of their rows.
 pub alone_each : {B : Type 0} (value : B → Parts) (branches : List B) (rows : List RollupRow) → map value branches ≡ map alone rows
     → (map value branches ≡ map (λ b. alone (value b).row) branches) × (map (λ b. (value b).row) branches ≡ rows)
 alone_each value [] [] e = (refl, refl)
@@ -98,6 +98,6 @@ pub length-with_rows : (rs rows : List RollupRow) → length (with_rows rows rs)
 length-with_rows [] rows = omega arith
 length-with_rows (r ∷ rs) rows = omega (arith, length-with_rows rs (with_row rows r), length-with_row rows r)
 
--- new rows that were inserted, the last one first
+-- New rows were inserted, the last one first.
 pub merged_back : (rows new merged : List RollupRow) → Strict rows → merged ≡ with_rows rows (reverse new) → Merges rows new merged
 merged_back rows new merged t e = merges_of rows new merged t (record { order = reverse new; same = IsPermutation-reverse new; is = e })

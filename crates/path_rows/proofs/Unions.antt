@@ -31,7 +31,7 @@ all_map : (P Q : RollupRow → Type 0) → ((x : RollupRow) → P x → Q x) →
 all_map P Q f [] h = tt
 all_map P Q f (x ∷ xs) h = (f x h.0, all_map P Q f xs h.1)
 
--- rows on both sides of one among rows in order
+-- Among rows in order, the rows before a row are below it, and those after it are above it.
 below_middle : (xs : List RollupRow) (q : RollupRow) (ys : List RollupRow) → Strict (xs ++ q ∷ ys) → AllByRecursion (λ x. row_cmp x q ≡ Less) xs
 unfolding IsStrictlySortedBy
 below_middle [] q ys t = tt
@@ -42,7 +42,7 @@ unfolding IsStrictlySortedBy
 above_middle [] q ys t = t.0
 above_middle (x ∷ xs) q ys t = above_middle xs q ys t.1
 
--- rows that are split, of which one is above, at, or below the row at which they are split
+-- Rows are split at row `q`. Row `m`, which is in the middle of them, is above `q`, has its path, or is below it.
 module _ (q grown m : RollupRow) (low high : List RollupRow) (t : Strict (low ++ m ∷ high)) where
   pub split_less : (below above : List RollupRow) → row_cmp q m ≡ Less → IsSplit q grown low below above → IsSplit q grown (low ++ m ∷ high) below (above ++ m ∷ high)
   split_less below above lt s = record {
@@ -79,7 +79,7 @@ module _ (q grown m : RollupRow) (low high : List RollupRow) (t : Strict (low ++
         same = inr (record { row = m; parts = refl; equal = e; sum = made });
       }
 
--- a part of rows that fit with others
+-- If rows fit together with others, so does each part of the others.
 pub part_low_fits : (rows xs : List RollupRow) (q : RollupRow) (ys : List RollupRow) → FitTogether rows (xs ++ q ∷ ys) → FitTogether rows xs
 part_low_fits rows xs q ys h = record {
   vm = omega (arith, part_sum (λ (r : RollupRow). r.vm) xs q ys, h.vm);
@@ -92,7 +92,7 @@ part_high_fits rows xs q ys h = record {
   file = omega (arith, part_sum (λ (r : RollupRow). r.file) xs q ys, h.file);
 }
 
--- what holds of both parts of rows that were split
+-- What holds of both parts into which rows were split.
 module _ (q grown : RollupRow) (rows low high : List RollupRow) (s : IsSplit q grown rows low high) where
   pub split_sum : (f : RollupRow → ℕ) → sum_by f low + sum_by f high ≤ sum_by f rows
   split_sum f = by_parts s.same
@@ -138,7 +138,7 @@ with_rows-append : (xs ys rows : List RollupRow) → with_rows rows (xs ++ ys) �
 with_rows-append [] ys rows = refl
 with_rows-append (x ∷ xs) ys rows = with_rows-append xs ys (with_row rows x)
 
--- rows that are all below a middle one, or all above it
+-- Rows that are all below a middle row are inserted before it, and rows that are all above it after it.
 low_rows : (rs xs : List RollupRow) (q : RollupRow) (ys : List RollupRow) → AllByRecursion (λ r. row_cmp q r ≡ Greater) rs → with_rows (xs ++ q ∷ ys) rs ≡ with_rows xs rs ++ q ∷ ys
 low_rows [] xs q ys h = refl
 low_rows (r ∷ rs) xs q ys h = ap (λ l. with_rows l rs) (with_low xs q ys r h.0) ∙ low_rows rs (with_row xs r) q ys h.1
@@ -149,7 +149,7 @@ high_rows (r ∷ rs) xs q ys t h =
     let one : with_row (xs ++ q ∷ ys) r ≡ xs ++ q ∷ with_row ys r = with_high xs q ys r t h.0 in
     ap (λ l. with_rows l rs) one ∙ high_rows rs xs q (with_row ys r) (subst Strict one (strict_with (xs ++ q ∷ ys) r t)) h.1
 
--- rows that were split at a row in the middle of others go to both sides of it
+-- If rows are split at a row in the middle of others, the lower part goes before it and the upper part after it.
 pub united : (xs ys rows low high : List RollupRow) (q grown : RollupRow) → Strict (xs ++ q ∷ ys) → IsSplit q grown rows low high → with_rows (xs ++ q ∷ ys) rows ≡ with_rows xs low ++ grown ∷ with_rows ys high
 united xs ys rows low high q grown t s = by_parts s.same
   where
@@ -172,7 +172,7 @@ united xs ys rows low high q grown t s = by_parts s.same
         ∙ (ap (λ l. with_rows l (h.row ∷ high)) front
         ∙ (ap (λ l. with_rows l high) one ∙ (high_rows high (with_rows xs low) (larger q h.row) ys next s.above ∙ ap (λ r. with_rows xs low ++ r ∷ with_rows ys high) (sym h.sum)))))
 
--- rows in order that come after others
+-- Rows in order that come after others are inserted at the end.
 last_row : (xs : List RollupRow) (r : RollupRow) (rs : List RollupRow) → Strict (xs ++ r ∷ rs) → with_row xs r ≡ xs ++ r ∷ []
 unfolding IsStrictlySortedBy
 last_row [] r rs t = refl
@@ -184,7 +184,7 @@ appended (r ∷ rs) xs t =
     let on : (xs ++ r ∷ []) ++ rs ≡ xs ++ r ∷ rs = append_assoc xs (r ∷ []) rs in
     ap (λ l. with_rows l rs) (last_row xs r rs t) ∙ (appended rs (xs ++ r ∷ []) (subst Strict (sym on) t) ∙ on)
 
--- the last rows of a list, each above the next one, are a run from the last one on
+-- If each of the last rows of a list is above the next one, these rows are in order from the last one on.
 rising_from : (rows front run : List RollupRow) (d : RollupRow) → rows ≡ front ++ reverse run → RisesFrom rows (length rows - length run) → Strict run
 rising_from rows front run d e h = sorted_from_all_adjacent row_total run d (λ k lt.
     let j : ℕ = length front + (length run - 1 - (k + 1)) in
@@ -199,7 +199,7 @@ unfolding IsStrictlySortedBy
 rising_strict rows front [] e h = tt
 rising_strict rows front (r ∷ rest) e h = rising_from rows front (r ∷ rest) r e h
 
--- new rows with a run at the end
+-- New rows whose last ones are a run in order.
 module _ (rows left run : List RollupRow) (e : rows ≡ left ++ reverse run) where
   both : (f : RollupRow → ℕ) → sum_by f rows ≡ sum_by f left + sum_by f run
   both f = ap (sum_by f) e ∙ omega (arith, sum_by-append f left (reverse run), sum_by-IsPermutation f run (reverse run) (IsPermutation-reverse run))
@@ -213,7 +213,7 @@ module _ (rows left run : List RollupRow) (e : rows ≡ left ++ reverse run) whe
   back : reverse rows ≡ run ++ reverse left
   back = ap reverse e ∙ (reverse-append left (reverse run) ∙ ap (λ l. l ++ reverse left) (reverse-reverse run))
 
-  -- the run was inserted
+  -- The run was inserted, and the other new rows follow.
   module _ (before after : List RollupRow) (made : after ≡ with_rows before run) where
     pub run_same : (all : List RollupRow) → with_rows before (reverse rows) ≡ all → with_rows after (reverse left) ≡ all
     run_same all so_far = ap (λ l. with_rows l (reverse left)) made ∙ (sym (with_rows-append run (reverse left) before) ∙ (ap (with_rows before) (sym back) ∙ so_far))

@@ -9,7 +9,7 @@ use Rattle.path_rows.specs.Paths.{path_cmp}
 use Rattle.path_rows.specs.Words.{word_after, word_of}
 use Rattle.path_rows.proofs.Paths.{nat_greater, nat_less, nat_same, path_total}
 
--- the next digit, and what comes after it
+-- The next digit, and what comes after it.
 abbrev digit : Bool → ℕ → ℕ
 digit true x = x
 digit false x = 255
@@ -26,7 +26,7 @@ small : (b : Bool) (x : ℕ) → nat_lt x 255 ≡ b → digit b x ≤ 255
 small true x e = grind (arith, nat_tests)
 small false x e = omega arith
 
--- the lesser number has the lesser word, whatever comes after it
+-- The lesser number has the lesser word, whatever bytes come after it.
 rises : (n v w : ℕ) (xs ys : List ℕ) → v < w → word_after v n xs < word_after w n ys
 rises zero v w xs ys lt = lt
 rises (suc n) v w [] [] lt = rises n (v * 256) (w * 256) [] [] (omega arith)
@@ -49,11 +49,11 @@ head_less x y xs ys lt = ap (λ o. ordering_then o (slice_cmp nat_cmp xs ys)) (n
 head_same : (x y : ℕ) (xs ys : List ℕ) → x ≡ y → slice_cmp nat_cmp (x ∷ xs) (y ∷ ys) ≡ slice_cmp nat_cmp xs ys
 head_same x y xs ys e = ap (λ o. ordering_then o (slice_cmp nat_cmp xs ys)) (nat_same x y e)
 
--- what is known of a shorter list
+-- What is known of a shorter list: if its word is less than that of another list, the list is less.
 abbrev Again : ℕ → List ℕ → Type 0
 Again n xs = (w : ℕ) (ys : List ℕ) → word_after w n xs < word_after w n ys → slice_cmp nat_cmp xs ys ≡ Less
 
--- of two lists after one number the one with the lesser word is less
+-- Of two lists after the same number, the one with the lesser word is less.
 pub less_after : (n w : ℕ) (xs ys : List ℕ) → word_after w n xs < word_after w n ys → slice_cmp nat_cmp xs ys ≡ Less
 less_after zero w xs ys lt = absurd (omega (arith, lt))
 less_after (suc n) w [] [] lt = absurd (omega (arith, lt))
@@ -103,7 +103,7 @@ less_words [] (l ∷ q) lt = refl
 less_words (k ∷ p) [] lt = absurd (omega (arith, lt))
 less_words (k ∷ p) (l ∷ q) lt = ap (λ o. ordering_then o (path_cmp p q)) (less_after 8 0 k l lt)
 
--- two words that differ decide
+-- If the words of two paths differ, they compare as the paths do.
 pub words_decide : (p q : List (List ℕ)) (v w : ℕ) → v ≡ word_of p → w ≡ word_of q → (nat_cmp v w ≡ Equal → ⊥) → nat_cmp v w ≡ path_cmp p q
 words_decide p q v w first second differ = by_order (Rattle.std.proofs.lemmas.Bool.cases_order v w)
   where
@@ -112,7 +112,7 @@ words_decide p q v w first second differ = by_order (Rattle.std.proofs.lemmas.Bo
     by_order (inr (inl less)) = nat_less v w less ∙ sym (less_words p q (omega (arith, first, second, less)))
     by_order (inr (inr more)) = nat_greater v w more ∙ sym (path_total.antisymm p q ∙ ap ordering_reverse (less_words q p (omega (arith, first, second, more))))
 
--- one step of a word
+-- One step of a word: it reads the next byte, or there is none.
 pub after_none : (w n : ℕ) → 0 < n → word_after (w * 256) (n - 1) [] ≡ word_after w n []
 after_none w zero some = absurd (omega arith)
 after_none w (suc n) some = let back : suc n - 1 ≡ n = omega arith in ap (λ k. word_after (w * 256) k []) back
@@ -131,7 +131,7 @@ after_end w (suc n) x xs some le =
     let no : nat_lt x 255 ≡ false = grind (arith, nat_tests) in
     ap (λ k. word_after (w * 256 + 255) k []) back ∙ sym (step (nat_lt x 255) w n x xs ∙ ap (λ b. word_after (w * 256 + digit b x) n (later b xs)) no)
 
--- eight digits fit
+-- With its next digit, a word of at most eight digits fits a u64.
 pub record Holds (w n : ℕ) : Type 0 where
   pub fits : w * 256 + 255 < 2 ^ 64
   pub next : w * 256 + 255 < 256 ^ (8 - (n - 1))

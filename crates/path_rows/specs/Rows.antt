@@ -52,9 +52,10 @@ pub record AreMerged (rows others merged : List RollupRow) : Type 0 where
   pub same : IsPermutation others order
   pub is : merged ≡ with_rows rows order
 
--- What is known of rows into which others were merged. They are exactly the rows with the others inserted. They ascend by
--- path, each path once. The sizes of the paths that pass a test are those of both lists added up. If all paths of both
--- lists have so many labels, so have all merged ones. If each row of both lists has a size above 0, so has each merged one.
+-- What is known of rows into which others were merged. They are exactly the rows with the others inserted. They
+-- ascend by path, each path once. For each test of paths, the sizes of the rows that pass it are those of both lists
+-- added up. If all paths of both lists have the same number of labels, the merged ones have this number, too. If each
+-- row of both lists has a size above 0, so has each merged one.
 pub record Merges (rows others merged : List RollupRow) : Type 0 where
   pub exact : AreMerged rows others merged
   pub ordered : IsStrictlySortedBy row_cmp merged
@@ -79,50 +80,51 @@ enlarged (q ∷ s ∷ qs) r = q ∷ enlarged (s ∷ qs) r
 abbrev pub pushed : List RollupRow → RollupRow → List RollupRow
 pushed out r = if joins_last out r.path then enlarged out r else out ++ r ∷ []
 
--- the last row is not above a row
+-- The last of these rows is not above row `r`. This holds if there are no rows.
 abbrev pub EndsUpto : List RollupRow → RollupRow → Type 0
 EndsUpto [] r = Unit {0}
 EndsUpto (q ∷ []) r = is_lt (row_cmp r q) ≡ false
 EndsUpto (q ∷ s ∷ qs) r = EndsUpto (s ∷ qs) r
 
--- nor above the first of others
+-- The last of these rows is not above the first of the other rows, if there are any.
 abbrev pub EndsUptoFirst : List RollupRow → List RollupRow → Type 0
 EndsUptoFirst rows [] = Unit {0}
 EndsUptoFirst rows (r ∷ rs) = EndsUpto rows r
 
--- no row is above the next one
+-- No row is above the next one.
 abbrev pub Climbs : List RollupRow → Type 0
 Climbs [] = Unit {0}
 Climbs (r ∷ []) = Unit {0}
 Climbs (r ∷ s ∷ rs) = (is_lt (row_cmp s r) ≡ false) × Climbs (s ∷ rs)
 
--- the sizes of both lists add up to a number that fits
+-- The VM sizes of both lists add up to at most 2^63 - 1, and so do the file sizes.
 pub record FitTogether (rows others : List RollupRow) : Type 0 where
   pub vm : sum_by (λ (r : RollupRow). r.vm) rows + sum_by (λ (r : RollupRow). r.vm) others ≤ 2 ^ 63 - 1
   pub file : sum_by (λ (r : RollupRow). r.file) rows + sum_by (λ (r : RollupRow). r.file) others ≤ 2 ^ 63 - 1
 
--- rows are those below a row q and those above it; the row stays as it is
+-- The rows are those of `low` and then those of `high`, and `grown` is `q`.
 pub record Misses (q grown : RollupRow) (rows low high : List RollupRow) : Type 0 where
   pub parts : rows ≡ low ++ high
   pub kept : grown ≡ q
 
--- between them is a row with the path of q, whose sizes are added to it
+-- Between the rows of `low` and `high` is one with the path of `q`, and `grown` is `q` with its sizes added.
 pub record Meets (q grown : RollupRow) (rows low high : List RollupRow) : Type 0 where
   pub row : RollupRow
   pub parts : rows ≡ low ++ row ∷ high
   pub equal : row_cmp q row ≡ Equal
   pub sum : grown ≡ larger q row
 
--- rows are split at a row q
+-- The rows are split at the path of `q`, into the rows below it and those above it. If there is a row with this path,
+-- its sizes are added to those of `q`.
 pub record IsSplit (q grown : RollupRow) (rows low high : List RollupRow) : Type 0 where
   pub below : AllByRecursion (λ r. row_cmp q r ≡ Greater) low
   pub above : AllByRecursion (λ r. row_cmp q r ≡ Less) high
   pub same : Misses q grown rows low high ⊎ Meets q grown rows low high
 
--- a row is above the next one
+-- Row `k` is above the next one.
 abbrev pub RisesAt : List RollupRow → ℕ → Type 0
 RisesAt rows k = (d : RollupRow) → row_cmp (slice_index_or rows (k + 1) d) (slice_index_or rows k d) ≡ Less
 
--- each row from an index on is above the next one
+-- Each row from index `n` on, except for the last one, is above the next one.
 abbrev pub RisesFrom : List RollupRow → ℕ → Type 0
 RisesFrom rows n = (k : ℕ) → n ≤ k → k + 1 < length rows → RisesAt rows k

@@ -4,8 +4,9 @@ use Rattle.std.specs.Cmp.Lexicographic.{slice_cmp}
 use Rattle.std.specs.Ordering.{nat_cmp}
 use Rattle.std.specs.declared.cmp.Ordering.TheVariants.{Less}
 
--- A number, followed by so many bytes as digits to the base 256. Missing bytes are zeros. After a byte of 255, which
--- UTF-8 never has, all digits are zeros: so a list of any numbers with a lesser word is less, without a bound on them.
+-- A number, followed by this many bytes as digits to the base 256. Missing bytes are zeros. After a byte of 255,
+-- which UTF-8 never has, all digits are zeros. So of two lists the one with the lesser word is less, even if their
+-- numbers have no bound.
 abbrev pub word_after : ℕ → ℕ → List ℕ → ℕ
 word_after word zero xs = word
 word_after word (suc n) [] = word_after (word * 256) n []

@@ -2,10 +2,13 @@
 
 use size_core::Path;
 
-/// A path of labels, one for each data source asked, and how many mapped addresses and file bytes have it.
+/// A path of labels with its sizes.
 #[derive(Debug, Drop)]
 pub struct RollupRow {
+    /// A label for each data source.
     pub path: Path,
+    /// How many mapped addresses have this path.
     pub vm: u64,
+    /// How many bytes of the files have this path.
     pub file: u64,
 }

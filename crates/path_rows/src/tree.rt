@@ -28,11 +28,13 @@ pub struct Branch {
     high: Tree,
 }
 
-/// No rows, or those of a branch.
+/// Rows in the order of their paths.
 #[cycle(tree)]
 #[derive(Debug, Drop)]
 pub enum Tree {
+    /// No rows.
     Leaf,
+    /// The rows of a branch.
     Fork(Box<Branch>),
 }
 
@@ -186,13 +188,13 @@ impl Branch {
         self.row.file += row.file;
     }
 
-    // Whether the rows above this one are three times as many as those below it.
+    // Whether the rows above this one are more than three times as many as all other rows.
     fn leans_high(&self) -> bool {
         let high = self.high.len();
         high / 3 > self.len.saturating_sub(high)
     }
 
-    // Whether the rows below this one are three times as many as those above it.
+    // Whether the rows below this one are more than three times as many as all other rows.
     fn leans_low(&self) -> bool {
         let low = self.low.len();
         low / 3 > self.len.saturating_sub(low)

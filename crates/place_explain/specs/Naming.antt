@@ -12,11 +12,11 @@ pub record IsNumber (claims : List Claim) (n : ℕ) : Type 0 where
   pub above : 0 < n
   pub within : n ≤ length claims
 
--- The span without a byte.
+-- An empty span.
 abbrev pub no_span : Span
 no_span = record { space = 0; start = 0; len = 0 }
 
--- The claim without a byte.
+-- An empty claim, for a number that no claim has.
 abbrev pub no_claim : Claim
 no_claim = record { side = Both; vm = no_span; file = no_span; label = 0 }
 

@@ -16,43 +16,52 @@ use std::alloc::Global;
 /// The numbers of claims, counted from 1.
 pub type Numbers = List<u64>;
 
-/// A claim: its number in the list of its data source, counted from 1, its side, and its label before any
-/// rewrite.
+/// A claim with its number and its label.
 #[derive(Debug, Drop)]
 pub struct NamedClaim {
+    /// The claim's number in the list of its data source, counted from 1.
     pub number: u64,
+    /// The claim's side.
     pub side: Side,
+    /// The claim's label before any rewrite.
     pub label: Bytes,
 }
 
 /// Claims with their numbers.
 pub type NamedClaims = List<NamedClaim>;
 
-/// The explanation of a byte by a data source, before labels are rewritten: the label, the claims that cover the byte,
-/// and the number of further claims that a limit leaves out.
+/// The explanation of a byte by a data source, before labels are rewritten.
 #[derive(Debug, Drop)]
 pub struct Explained {
+    /// The label of the byte.
     pub label: Bytes,
+    /// The claims that cover the byte. The first one gives the label.
     pub claims: NamedClaims,
+    /// The number of further claims that a limit leaves out.
     pub more: u64,
 }
 
-/// The explanation of a byte by the data source with this name: its label, rewritten by the data source's rewrites; the
-/// claims that cover it, the first of which gives the label; and the number of further claims that a limit leaves out.
+/// The explanation of a byte by a data source, with the data source's name.
 #[derive(Debug, Drop)]
 pub struct PlaceSource {
+    /// The name of the data source.
     pub name: Text,
+    /// The label of the byte, rewritten by the data source's rewrites.
     pub label: Bytes,
+    /// The claims that cover the byte. The first one gives the label.
     pub claims: NamedClaims,
+    /// The number of further claims that a limit leaves out.
     pub more: u64,
 }
 
-/// The claims of a data source. The labels of the claims are numbers in the pool, and `unmapped` is the number of the
-/// label for uncovered bytes.
+/// The claims of a data source. Their labels are numbers in a pool.
 #[derive(Clone, Copy)]
 pub struct NumberedClaims<'c, 'p> {
+    /// The claims in order. The first claim that covers a byte gives its label.
     pub claims: &'c [Claim],
+    /// The pool of the labels.
     pub pool: &'p LabelPool,
+    /// The number of the label for bytes that no claim covers.
     pub unmapped: usize,
 }
 

@@ -13,8 +13,11 @@ use size_core::{Claim, Place, Side, Span};
 /// A byte with its file offset and its virtual address, as far as it has them.
 #[derive(Clone, Copy)]
 pub struct Spot {
+    /// The location that was given: a file offset or an address.
     pub place: Place,
+    /// The file offset. `None` if the byte isn't in the file.
     pub offset: Option<u64>,
+    /// The address space and the virtual address. `None` if the byte isn't mapped.
     pub address: Option<(u32, u64)>,
 }
 

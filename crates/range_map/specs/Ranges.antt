@@ -17,7 +17,7 @@ EndsBy at (p ∷ ps) = (end_of p ≤ at) × EndsBy at ps
 abbrev pub KeepsPlaces : List Piece → List Piece → Type 0
 KeepsPlaces ranges ps = (x : ℕ) → IsTrue (is_place ps x) → IsTrue (is_place ranges x)
 
--- The pieces new result from adding the ranges to the pieces old, one after another.
+-- The pieces `new` result from adding the ranges to the pieces `old`, one after another.
 abbrev pub IsAddedTo : List Piece → List Piece → List Piece → Type 0
 IsAddedTo old [] new = old ≡ new
 IsAddedTo old (r ∷ rs) new = (next : List Piece) × IsLaid (old ++ r ∷ []) next × IsAddedTo next rs new

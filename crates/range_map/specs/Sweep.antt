@@ -8,7 +8,7 @@ use Rattle.size_model.specs.declared.piece.Piece.{Piece}
 use Rattle.size_model.specs.Cut.{end_of, label_in, IsTidy}
 use Rattle.range_map.specs.Ranges.{EndsBy}
 
--- The piece without a position.
+-- An empty piece, for a number that no range has.
 abbrev pub no_piece : Piece
 no_piece = record { start = 0; len = 0; label = 0 }
 
@@ -37,25 +37,25 @@ start_at starts i = (get_or starts i (2 ^ 97, 0)).0
 abbrev pub number_at : List (ℕ × ℕ) → ℕ → ℕ
 number_at starts i = (get_or starts i (0, 0)).1
 
--- A number in the heap: its range has started at or before the position from.
+-- A number in the heap: its range has started at or before the position `from`.
 pub record IsStarted (claims : List Piece) (from : ℕ) (r : Reverse ℕ) : Type 0 where
   pub within : r.0 < length claims
   pub started : (at claims r.0).start ≤ from
 
--- The open ranges: a heap of ranges that have started at or before the position from.
+-- The open ranges: a heap of ranges that have started at or before the position `from`.
 pub record IsOpen (claims : List Piece) (from : ℕ) (opened : List (Reverse ℕ)) : Type 0 where
   pub heap : IsHeap lowest_first opened
   pub alive : All (IsStarted claims from) opened
 
--- Each range that contains a position between from and to is open.
+-- Each range that contains a position between `from` and `to` is open.
 pub record Holds (claims : List Piece) (from to : ℕ) (opened : List (Reverse ℕ)) : Type 0 where
   pub held : (k : ℕ) → k < length claims → (at claims k).start < to → from < end_of (at claims k) → Contains opened (numbered k)
 
--- Each of the first starts whose range reaches past the position from is open.
+-- Each of the first `next` starts whose range reaches past the position `from` is open.
 pub record HoldsFirst (claims : List Piece) (starts : List (ℕ × ℕ)) (next from : ℕ) (opened : List (Reverse ℕ)) : Type 0 where
   pub held : (j : ℕ) → j < next → from < end_of (at claims (number_at starts j)) → Contains opened (numbered (number_at starts j))
 
--- Each range that was open and reaches past the position to is still open.
+-- Each range that was open and reaches past the position `to` is still open.
 pub record Keeps (claims : List Piece) (to : ℕ) (old new : List (Reverse ℕ)) : Type 0 where
   pub kept : (k : ℕ) → to < end_of (at claims k) → Contains old (numbered k) → Contains new (numbered k)
 

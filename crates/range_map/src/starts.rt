@@ -18,8 +18,9 @@ const NUMBERS: u128 = 1 << 32;
 /// The starts of ranges with the ranges' numbers, sorted by start.
 #[derive(Drop)]
 pub enum Starts {
-    // `start * 2^32 + number`, which sorts fast. The numbers of up to 2^32 ranges fit.
+    /// Each as one number, `start * 2^32 + number`, which sorts fast. The numbers of up to 2^32 ranges fit.
     Packed(Vec<u128>),
+    /// Each start with the number of its range.
     Pairs(Vec<(u128, usize)>),
 }
 

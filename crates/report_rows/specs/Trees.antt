@@ -18,9 +18,9 @@ abbrev pub is_others : RowKind → Bool
 is_others (Others count) = true
 is_others (Label label) = false
 
--- The levels of these rows form a tree. The first is at most a highest level, and each other is at most one
--- more than the level before it. Each is below the depth. The rows without children are the Others rows and
--- those of the last level.
+-- The levels of these rows form a tree. The level of the first row is at most `highest`. The level of each other row
+-- is at most one more than that of the row before it. Each level is below the depth. The rows without children are
+-- the Others rows and the rows of the last level.
 abbrev pub AreLevels : ℕ → ℕ → List Row → Type 0
 AreLevels depth highest [] = ⊤
 AreLevels depth highest (r ∷ rows) =

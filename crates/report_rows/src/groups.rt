@@ -31,11 +31,17 @@ pub enum Kind {
 /// label, which is the order of the rows.
 #[derive(Clone, Copy, PartialEq, Eq, PartialOrd, Ord, Debug)]
 pub struct Group {
+    /// The sort key: the shown size that rows are sorted by.
     pub key: Reverse<u64>,
+    /// The index of the first row.
     pub from: usize,
+    /// The index after the last row.
     pub to: usize,
+    /// Whether this is one label, or the labels that a limit leaves out.
     pub kind: Kind,
+    /// The sum of the VM sizes in bytes.
     pub vm: u64,
+    /// The sum of the file sizes in bytes.
     pub file: u64,
 }
 

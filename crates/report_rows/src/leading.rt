@@ -33,11 +33,14 @@ pub fn has_small_limit(options: &RowOptions) -> bool
     options.limit <= SMALL_LIMIT
 }
 
-/// Groups that a limit leaves out: their number, and the sums of their sizes in bytes.
+/// Groups that a limit leaves out.
 #[derive(Clone, Copy)]
 pub struct LeftOut {
+    /// How many groups there are.
     pub count: u64,
+    /// The sum of their VM sizes in bytes.
     pub vm: u64,
+    /// The sum of their file sizes in bytes.
     pub file: u64,
 }
 

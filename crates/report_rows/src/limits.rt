@@ -11,10 +11,13 @@ use size_core::NoMemory;
 
 /// An item of a level: a label, or labels that are left out. The larger key comes first.
 pub trait Grouped: Copy {
+    /// The sort key.
     ghost key: { Self → ℕ };
 
+    /// The sums of the sizes of these groups fit their types.
     ghost fits: { List Self → Type 0 };
 
+    /// One group for these groups, which a limit leaves out.
     ghost together: { RowOptions → List Self → Self };
 
     /// The sort key: the shown size that rows are sorted by.

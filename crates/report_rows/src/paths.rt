@@ -7,8 +7,10 @@ use size_core::Path;
 
 /// An item with a path of labels.
 pub trait HasPath {
+    /// The path of labels.
     ghost path: { Self → List (List ℕ) };
 
+    /// The path of labels.
     fn path(&self) -> &Path
         ensures { result.now ≡ path self.now };
 }

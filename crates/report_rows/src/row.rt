@@ -27,10 +27,11 @@ pub enum RowKind {
 pub struct Row {
     /// The row's level. The first level is 0.
     pub level: u32,
+    /// The row's label, or how many labels it stands for.
     pub kind: RowKind,
     /// The VM size: the number of mapped addresses.
     pub vm: u64,
-    /// The file size.
+    /// The file size: the number of file bytes.
     pub file: u64,
 }
 
@@ -46,5 +47,6 @@ pub struct RowTree {
     pub vm: u64,
     /// The total file size.
     pub file: u64,
+    /// The rows of all levels.
     pub rows: Rows,
 }

@@ -28,8 +28,8 @@ same_path p q = pointwise bytes_eq p q
 abbrev pub times_path : Path → List Path → ℕ
 times_path path paths = sum_by (λ (p : Path). if same_path p path then 1 else 0) paths
 
--- Whether the sizes of a path and of each path that it begins with pass a test. Without a limit these are the paths with a
--- row.
+-- Whether the sizes of a path and of each shorter path that it begins with pass a test, down to the path of one
+-- label. Without a limit, the paths whose sizes pass the test of a report in this way are those with a row.
 abbrev pub along : {S : Type 0} → (S → Bool) → (Path → S) → Path → Bool
 along test sizes [] = true
 along test sizes (label ∷ path) = test (sizes (label ∷ [])) && along test (λ p. sizes (label ∷ p)) path
@@ -76,19 +76,19 @@ abbrev pub shown_growths : Domain → GrowthSizes → Fields
 shown_growths domain s =
     vm_first domain (signed_decimal (growth s.new_vm s.base_vm)) (signed_decimal (growth s.new_file s.base_file))
 
--- What was read is the records of the full paths that have changed, with each path that they begin with.
+-- What was read is the records of the full paths that have changed and whose prefixes have all changed.
 abbrev pub ReadsGrowths : RowOptions → (Path → GrowthSizes) → ℕ → List (List ℕ) → Option (List Fields) → Type 0
 ReadsGrowths o sizes depth sources read = ReadsPaths o.domain sources depth (along (has_changed o) sizes)
     (λ path. shown_growths o.domain (sizes path)) read
 
--- The CSV and the TSV of a tree of growth have the records of the full paths that have changed.
+-- The CSV and the TSV of a tree of growth have these records.
 pub record HaveGrowths (o : RowOptions) (sizes : Path → GrowthSizes) (depth : ℕ) (tree : GrowthTree)
     (sources : List (List ℕ)) : Type 0 where
   pub csv : ReadsGrowths o sizes depth sources (read_csv (growth_csv_text tree o.domain sources))
   pub tsv : ReadsGrowths o sizes depth sources (read_tsv (growth_tsv_text tree o.domain sources))
 
--- Without a limit, the CSV and the TSV of a report of growth have one record for each full path that has changed with each
--- path that it begins with, and no other record. This is the contract of `each_growth_has_a_record`.
+-- Without a limit, the CSV and the TSV of a report of growth have one record for each full path that has changed and
+-- whose prefixes have all changed, and no other record. This is the contract of `each_growth_has_a_record`.
 abbrev pub EachGrowthHasARecord : Type 0
 EachGrowthHasARecord = (o : RowOptions) (sizes : Path → GrowthSizes) (depth : ℕ) (tree : GrowthTree) (sources : List (List ℕ))
     → o.limit ≡ 0 → 0 < depth → IsGrowthTree depth tree.rows → IsTreeOfGrowths o sizes depth tree

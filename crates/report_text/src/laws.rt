@@ -26,8 +26,9 @@ pub fn each_path_has_a_record()
     ensures { EachPathHasARecord }
 {}
 
-/// Without a limit, reading the CSV or the TSV of a report of growth gives the names of the columns and then one record for
-/// each full path that has changed, with each path that it begins with, and no other record. It has the shown growths.
+/// Without a limit, reading the CSV or the TSV of a report of growth gives the names of the columns and then one
+/// record for each full path that has changed and whose prefixes have all changed, and no other record. The record
+/// has the shown growths. A path has changed if a shown size of it has.
 pub fn each_growth_has_a_record()
     ensures { EachGrowthHasARecord }
 {}

@@ -55,10 +55,13 @@ pub trait ReportTree {
     /// The width of a column, without the two spaces after it.
     const PLACES: usize;
 
+    /// The width of a column.
     ghost PLACES: { ℕ };
 
+    /// The number of levels.
     ghost depth: { Self → ℕ };
 
+    /// The rows of all levels.
     ghost rows: { Self → List Self.Entry };
 
     /// The columns of a row's shown sizes.

@@ -145,8 +145,8 @@ impl ReportTree for RowTree {
 }
 
 /// Appends the text report of a tree: a title line, a line for each row, and a line for the total. Each size of
-/// `domain` has a column. A label of more than 60 bytes is shortened unless `wide`. If memory runs out, `out` is
-/// unchanged.
+/// `domain` has a column, the file size first. Sizes and percentages are rounded down. A control byte of a label is
+/// written as `\xNN`. A label of more than 60 bytes is shortened unless `wide`. If memory runs out, `out` is unchanged.
 #[tactic(auto, unfolding(crate::specs::Lines::report_text))]
 pub fn text(
     alloc: Global,

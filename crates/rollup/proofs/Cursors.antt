@@ -29,7 +29,7 @@ none_within [] k e = omega arith
 none_within (p ∷ ps) zero e = cc
 none_within (p ∷ ps) (suc k) e = let later : length ps ≤ k = none_within ps k e in omega arith
 
--- the current label, from the pieces that are left
+-- The current label, by the pieces that are left.
 none_left : (ps : List Piece) (at x start label : ℕ) → ps ≡ [] → at < start → label_in ps x ≡ cond (leb start at) (Some label) None
 none_left ps at x start label e lt =
     let late : leb start at ≡ false = grind (arith, nat_tests) in
@@ -51,7 +51,7 @@ piece_left ps qs p at x e t low high =
           label_at_head p qs x (omega arith) (omega arith) ∙ sym (ap (λ b. cond b (Some p.label) None) late)
     ]
 
--- each position before the next change has the current label
+-- Each position before the next change has the current label.
 pub at_hand : (ps : List Piece) (at x : ℕ) (c : Cursor) → IsAt ps at c → at ≤ x → x < stop_of at c → label_in ps x ≡ cond (leb c.start at) (Some c.label) None
 at_hand ps at x c h low high = h.reached.rest x low ∙ by_piece (slice_get ps c.passed) refl
   where
@@ -73,7 +73,7 @@ at_hand ps at x c h low high = h.reached.rest x low ∙ by_piece (slice_get ps c
         piece_left (drop c.passed ps) (drop (suc c.passed) ps) p at x split tidy low high'
         ∙ (ap (λ s. cond (leb s at) (Some p.label) None) (sym start) ∙ ap (λ l. cond (leb c.start at) (Some l) None) (sym label))
 
--- a cursor that is read after the pieces before it
+-- A cursor that is read after the first `k` pieces.
 pub make_at : (ps : List Piece) (k at : ℕ) → IsTidy ps → k ≤ length ps → ((x : ℕ) → at ≤ x → label_in ps x ≡ label_in (drop k ps) x) → StartsFrom at (drop k ps) → at < 2 ^ 128 - 1
     → IsAt ps at (cursor_of ps k)
 make_at ps k at t within rest from fits =
@@ -103,7 +103,7 @@ first_at ps t = make_at ps 0 0 t (omega arith) (λ x low. refl) (from ps) (omega
     from [] = tt
     from (p ∷ ps) = omega arith
 
--- the next piece is read if the current one ends
+-- If the current piece ends, there is a next piece to read.
 pub passed_within : (ps : List Piece) (to : ℕ) (c : Cursor) → IsReached ps to c → c.end ≤ to → to ≤ 2 ^ 97 → c.passed < length ps
 passed_within ps to c h ends fits = by_piece (slice_get ps c.passed) refl
   where
@@ -132,7 +132,7 @@ next_at ps to c h ends fits = by_piece (slice_get ps c.passed) refl
         (λ x low. h.rest x low ∙ (ap (λ qs. label_in qs x) split ∙ (label_past_head p (drop (suc c.passed) ps) x (omega arith) ∙ ap (λ j. label_in (drop j ps) x) one)))
         (subst (λ j. StartsFrom to (drop j ps)) one starts) (omega arith)
 
--- the current label is that of a piece
+-- The current label is that of a piece.
 pub label-below : (ps : List Piece) (at n : ℕ) (c : Cursor) → IsAt ps at c → leb c.start at ≡ true → All (λ (p : Piece). p.label < n) ps → c.label < n
 label-below ps at n c h started all = by_piece (slice_get ps c.passed) refl
   where

@@ -23,7 +23,7 @@ then_assoc Less b c = refl
 then_assoc Equal b c = refl
 then_assoc Greater b c = refl
 
--- one digit more
+-- With one more digit, numbers compare by the digits before it, and then by this one.
 next_digit : (base m n x y : ℕ) → x < base → y < base → nat_cmp (m * base + x) (n * base + y) ≡ ordering_then (nat_cmp m n) (nat_cmp x y)
 next_digit base m n x y lx ly = by_order (Rattle.std.proofs.lemmas.Bool.cases_order m n) (Rattle.std.proofs.lemmas.Bool.cases_order x y)
   where

@@ -21,7 +21,7 @@ pub grown-entry : (part : Part) (size : ℕ) (n : List ℕ) (s : Sizes) → entr
 grown-entry File size n s = refl
 grown-entry Vm size n s = refl
 
--- what an entry weighs
+-- The size of an entry if its numbers pass a test, and else 0.
 abbrev weigh : Part → (List ℕ → Bool) → Entry → ℕ
 weigh part test e = cond (test e.numbers) (size_in part e) 0
 
@@ -74,7 +74,7 @@ weight-other part test numbers size old new (inl (i, h)) =
 weight-other part test numbers size old new (inr h) =
     ap (weight (other part) test) h ∙ omega (arith, sum_by_push (weigh (other part) test) old (entry_of numbers (sizes_of part size)), weigh-new_other part test size numbers)
 
--- no entry weighs more than all
+-- No entry has a larger size than all entries together.
 pub size-le : (part : Part) (es : List Entry) (i : ℕ) → size_in part (get_or es i no_entry) ≤ weight part (λ _. true) es
 size-le File [] i = omega arith
 size-le Vm [] i = omega arith
@@ -89,7 +89,7 @@ some-new : (part : Part) (size k n : ℕ) (numbers : List ℕ) → 0 < size → 
 some-new File size k n numbers lt deep below = record { deep = deep; below = below; some = inr lt }
 some-new Vm size k n numbers lt deep below = record { deep = deep; below = below; some = inl lt }
 
--- each entry stays one
+-- After one of them has grown, the entries have the same properties.
 pub entries-grown : (part : Part) (numbers : List ℕ) (size k n : ℕ) (old new : List Entry) → 0 < size → length numbers ≡ k → All (λ m. m < n) numbers → IsGrown part numbers size old new → All (IsEntry k n) old → All (IsEntry k n) new
 entries-grown part numbers size k n old new lt deep below (inl (i, h)) all =
     let e = get_or old i no_entry in
@@ -115,7 +115,7 @@ pub entries-grown_if : (b : Bool) (part : Part) (numbers : List ℕ) (size k n :
 entries-grown_if true part numbers size k n old new lt deep below h all = entries-grown part numbers size k n old new lt deep (below refl) h all
 entries-grown_if false part numbers size k n old new lt deep below h all = subst (All (IsEntry k n)) (sym h) all
 
--- the sizes of an entry's row are the entry's
+-- The row of an entry has the sizes of the entry.
 sum_rows : (f : RollupRow → ℕ) (g : Entry → ℕ) (pool : List (List ℕ)) → ((e : Entry) → f (row_of pool e) ≡ g e) → (es : List Entry) → sum_by f (map (row_of pool) es) ≡ sum_by g es
 sum_rows f g pool same [] = refl
 sum_rows f g pool same (e ∷ es) = omega (arith, sum_by-cons f (row_of pool e) (map (row_of pool) es), sum_by-cons g e es, same e, sum_rows f g pool same es)
@@ -131,7 +131,7 @@ vm-fits pool old es h k d lt = omega (arith, one-le (λ (e : Entry). e.vm) es k 
 pub file-fits : (pool : List (List ℕ)) (old : List RollupRow) (es : List Entry) → FitTogether old (map (row_of pool) es) → All (λ (e : Entry). e.file < 2 ^ 64) es
 file-fits pool old es h k d lt = omega (arith, one-le (λ (e : Entry). e.file) es k d lt, sum_rows (λ (r : RollupRow). r.file) (λ (e : Entry). e.file) pool (λ e. refl) es, h.file)
 
--- the rows of entries weigh what the entries do
+-- The rows of entries have the same sums of sizes as the entries.
 pub rows-weigh : (part : Part) (f : RollupRow → ℕ) (pool : List (List ℕ)) (test : List (List ℕ) → Bool) → ((e : Entry) → f (row_of pool e) ≡ size_in part e) → (es : List Entry)
     → sum_by (λ (r : RollupRow). cond (test r.path) (f r) 0) (map (row_of pool) es) ≡ weight part (λ ns. test (map (text_of pool) ns)) es
 rows-weigh part f pool test same es =

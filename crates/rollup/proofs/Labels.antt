@@ -15,12 +15,12 @@ grown-item part size items i x s within is larger =
     map-set entry_of_label items i (record { label = x.label; sizes = s })
     ∙ ap (set (map entry_of_label items) i) (ap (entry_of numbers) larger ∙ (grown-entry part size numbers x.sizes ∙ ap (grown part size) (sym here)))
 
--- what fits each entry fits the later ones
+-- If a size can be added to each entry, it can be added to each later one.
 pub fits-later : (part : Part) (size : ℕ) (xs ys : List Entry) → ((i : ℕ) → size_in part (get_or (xs ++ ys) i no_entry) + size < 2 ^ 128)
     → (i : ℕ) → size_in part (get_or ys i no_entry) + size < 2 ^ 128
 fits-later part size xs ys fits i = omega (arith, fits (length xs + i), ap (size_in part) (get_or-append-add xs ys i no_entry))
 
--- an entry before others grows
+-- An entry before others grows.
 pub grows-before : (part : Part) (numbers : List ℕ) (size : ℕ) (xs ys new : List Entry) (i : ℕ) → IsIndexOf numbers xs i → new ≡ set xs i (grown part size (get_or xs i no_entry))
     → IsGrown part numbers size (xs ++ ys) (new ++ ys)
 grows-before part numbers size xs ys new i found made =
@@ -35,7 +35,7 @@ grows-before part numbers size xs ys new i found made =
       },
     )
 
--- and one after others
+-- An entry after others grows.
 pub grows-after : (part : Part) (numbers : List ℕ) (size : ℕ) (xs ys new : List Entry) → IsGrown part numbers size ys new → IsGrown part numbers size (xs ++ ys) (xs ++ new)
 grows-after part numbers size xs ys new (inl (i, at)) =
     let here : get_or (xs ++ ys) (length xs + i) no_entry ≡ get_or ys i no_entry = get_or-append-add xs ys i no_entry in

@@ -9,7 +9,7 @@ use Rattle.rollup.specs.declared.sizes.Sizes.{Sizes}
 use Rattle.rollup.specs.Sizes.{entry_of, entry_of_list, grown, grown_sizes, no_entry}
 use Rattle.rollup.proofs.Gathered.{grown-entry}
 
--- each list is within so many numbers
+-- Each list is within the first `n` numbers.
 abbrev pub Within : ℕ → List ListSize → Type 0
 Within n items = All (λ (s : ListSize). s.first + s.len ≤ n) items
 
@@ -32,7 +32,7 @@ all_kept ns xs [] h = refl
 all_kept ns xs (s ∷ items) h =
     ap (λ e. e ∷ map (entry_of_list (ns ++ xs)) items) (kept ns xs s (h 0 s (omega arith))) ∙ ap (λ l. entry_of_list ns s ∷ l) (all_kept ns xs items (λ k d lt. h (suc k) d (omega arith)))
 
--- a list more, whose numbers come after all others
+-- One more list, whose numbers come after all others.
 module _ (ns xs : List ℕ) (items : List ListSize) (s : Sizes) (h : Within (length ns) items) where
   abbrev new : ListSize
   new = record { first = length ns; len = length xs; sizes = s }

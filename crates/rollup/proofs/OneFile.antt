@@ -16,7 +16,7 @@ use Rattle.rollup.specs.Adding.{numbers_at, passes, piece_count}
 use Rattle.rollup.specs.Counted.{counted, file_counted, vm_counted, vm_limit, is_covered, is_counted_at}
 use Rattle.rollup.specs.Walk.{layers, pieces_of, piece_total}
 
--- maps that have labels at the same positions
+-- If each map has a label at a position, it is covered. If the first map has none there, it is not.
 covered : (part : Part) (maps : List Maps) (x : ℕ) → All (λ (m : Maps). is_some (label_in (pieces_of part m) x) ≡ true) maps → is_covered (layers part maps) x ≡ true
 covered part [] x all = refl
 covered part (m ∷ ms) x all = ap (λ b. b && is_covered (layers part ms) x) (all 0 m (omega arith)) ∙ covered part ms x (λ k d lt. all (suc k) d (omega arith))
@@ -30,7 +30,7 @@ offsets-counted layout maps test marks over =
     ap (λ b. b && (passes marks (numbers_at (layers File maps) o) && test (numbers_at (layers File maps) o)))
     (covered File maps o (λ k d lt. (over k d lt).offsets o ∙ (let below : nat_lt o layout.len ≡ true = grind (arith, nat_tests) in below))))
 
--- the maps show whether a position is mapped
+-- All maps have a label at a position if and only if it is mapped.
 told : (layout : Layout) (m : Maps) (ms : List Maps) (p : ℕ) → All (IsOver layout) (m ∷ ms) → (b : Bool) → is_mapped layout.loads p ≡ b → is_covered (layers Vm (m ∷ ms)) p ≡ b
 told layout m ms p over true e = covered Vm (m ∷ ms) p (λ k d lt. (over k d lt).positions p ∙ e)
 told layout m ms p over false e = bare Vm m ms p ((over 0 m (omega arith)).positions p ∙ e)
@@ -43,7 +43,7 @@ and_true : (b : Bool) → (b && true) ≡ b
 and_true true = refl
 and_true false = refl
 
--- a test that is the same everywhere
+-- A test with the same result at each position counts all mapped positions or none.
 mapped_alike : (loads : List Load) (b : Bool) → cond b (mapped_count loads) 0 ≡ count_from (λ p. is_mapped loads p && b) 0 (2 ^ 96)
 mapped_alike loads true = sym (count-same (λ p. is_mapped loads p && true) (is_mapped loads) 0 (2 ^ 96) (λ p low high. and_true (is_mapped loads p)))
 mapped_alike loads false = sym (count-none (λ p. is_mapped loads p && false) 0 (2 ^ 96) (λ p low high. and_false (is_mapped loads p)))
@@ -64,7 +64,7 @@ pieces-add [] = refl
 pieces-add (m ∷ ms) =
     omega (arith, sum_by-cons (λ (n : Maps). length n.file + length n.vm) m ms, sum_by-cons length m.file (layers File ms), sum_by-cons length m.vm (layers Vm ms), pieces-add ms)
 
--- no more is counted than there is
+-- No more offsets are counted than the file has, and no more positions than are mapped.
 pub file-le : (test : List ℕ → Bool) (marks : Option (List Bool)) (maps : List Maps) (len : ℕ) → file_counted test marks maps len ≤ len
 file-le test marks maps len = count-le-length (λ o. passes marks (numbers_at (map (λ (m : Maps). m.file) maps) o) && test (numbers_at (map (λ (m : Maps). m.file) maps) o)) 0 len
 

@@ -29,7 +29,7 @@ use Rattle.path_rows.specs.Paths.{path_cmp}
 use Rattle.rollup.proofs.Digits.{digits_cmp}
 use Rattle.path_rows.proofs.Paths.{same_number}
 
--- one number more
+-- One more number in a row of consecutive numbers.
 suc_more : (a n : ℕ) → range_with_len a (suc n) ≡ range_with_len a n ++ (a + n) ∷ []
 suc_more a zero = let same : a ≡ a + zero = omega arith in ap (λ x. x ∷ []) same
 suc_more a (suc n) =
@@ -52,7 +52,7 @@ label_total pool = record {
   congr = λ x y z. nat_list_cmp_total.congr (text_of pool x) (text_of pool y) (text_of pool z);
 }
 
--- all numbers below one, in some order
+-- All numbers below `n`, in some order.
 module _ (n : ℕ) (numbers : List ℕ) (all : IsPermutation (range_with_len 0 n) numbers) where
   pub numbers_length : length numbers ≡ n
   numbers_length = length_permutation (range_with_len 0 n) numbers all ∙ length-range_with_len 0 n
@@ -82,7 +82,7 @@ module _ (n : ℕ) (numbers : List ℕ) (all : IsPermutation (range_with_len 0 n
       by_index : ((k : ℕ) × (k < length numbers) × (get_or numbers k a ≡ a)) → (k : ℕ) × (k < length numbers) × (get_or numbers k 0 ≡ a)
       by_index (k, within, is) = (k, within, get_or_from_slice_get numbers k (get_or numbers k a) 0 (slice_get-get_or numbers k a within) ∙ is)
 
--- one more of the numbers has its index
+-- One more of the numbers gets its index.
 pub index_more : (numbers indices : List ℕ) (i : ℕ) → IsPermutation (range_with_len 0 (length numbers)) numbers → length indices ≡ length numbers → i < length numbers
     → ((k : ℕ) → k < i → rank_in indices (get_or numbers k 0) ≡ k) → (k : ℕ) → k < i + 1 → rank_in (set indices (get_or numbers i 0) i) (get_or numbers k 0) ≡ k
 index_more numbers indices i all count lt so_far k within = by_index (cases_eq k i)
@@ -98,7 +98,7 @@ index_more numbers indices i all count lt so_far k within = by_index (cases_eq k
         let other = unlike (get_or numbers k 0) (get_or numbers i 0) (numbers_differ (length numbers) numbers all k i 0 (omega arith) lt) in
         get_or-set_other indices (get_or numbers i 0) (get_or numbers k 0) i 0 other ∙ so_far k (omega arith)
 
--- labels differ, so that those in order ascend
+-- Labels of a pool differ, so labels in order ascend strictly.
 module _ (pool : List (List ℕ)) (numbers : List ℕ) (all : IsPermutation (range_with_len 0 (length pool)) numbers) where
   labels_differ : (a b : ℕ) → IsDistinct bytes_eq pool → a < b → b < length pool → label_cmp pool a b ≡ Equal → ⊥
   labels_differ a b distinct lt within e =
@@ -157,7 +157,7 @@ module _ (pool : List (List ℕ)) (numbers : List ℕ) (all : IsPermutation (ran
           let rank_b : rank_in indices b ≡ j = subst (λ x. rank_in indices x ≡ j) bj (h.index j lj) in
           ap (λ x. nat_cmp x (rank_in indices b)) rank_a ∙ (ap (nat_cmp i) rank_b ∙ (at_indices i j strict li lj ∙ (ap (λ x. label_cmp pool x (get_or numbers j 0)) ai ∙ ap (label_cmp pool a) bj)))
 
--- paths compare as the ranks of their labels do
+-- Paths compare as the ranks of their labels do.
 module _ (pool : List (List ℕ)) (ranks : List ℕ) (h : RankLabels pool ranks) where
   path_by_ranks : (xs ys : List ℕ) → All (λ n. n < length pool) xs → All (λ n. n < length pool) ys → path_cmp (map (text_of pool) xs) (map (text_of pool) ys) ≡ slice_cmp nat_cmp (map (rank_in ranks) xs) (map (rank_in ranks) ys)
   path_by_ranks [] [] hx hy = refl
@@ -208,7 +208,7 @@ map_map : {X Y Z : Type 0} (f : X → Y) (g : Y → Z) (xs : List X) → map (λ
 map_map f g [] = refl
 map_map f g (x ∷ xs) = ap (λ l. g (f x) ∷ l) (map_map f g xs)
 
--- the rows of all entries, in another order
+-- The rows of all entries, in another order.
 entry_rows : {R : Type 0} (entry : R → ℕ) (pool : List (List ℕ)) (es : List Entry) (ranked sorted : List R) → map entry ranked ≡ range_with_len 0 (length es) → IsPermutation ranked sorted
     → IsPermutation (map (row_of pool) es) (map (λ r. row_of pool (get_or es (entry r) no_entry)) sorted)
 entry_rows {R} entry pool es ranked sorted numbered moved =

@@ -14,7 +14,7 @@ use Rattle.rollup.specs.Sizes.{Entry, IsEntry, no_entry, row_of, weight}
 use Rattle.rollup.specs.Totals.{IsTotals}
 use Rattle.rollup.proofs.Gathered.{rows-weigh}
 
--- new rows that come in another order
+-- New rows in another order fit as well.
 pub moved_fits : (rows others moved : List RollupRow) → IsPermutation others moved → FitTogether rows others → FitTogether rows moved
 moved_fits rows others moved p h = record {
   vm = omega (arith, sum_by-IsPermutation (λ (q : RollupRow). q.vm) others moved p, h.vm);
@@ -34,7 +34,7 @@ merges_moved rows others moved merged p m = record {
   some = λ before each. m.some before (All-permutation (λ (r : RollupRow). (0 < r.vm) ⊎ (0 < r.file)) others moved p each);
 }
 
--- the rows of before, and those of a file
+-- The old rows, and those of a file.
 module _ (pool : List (List ℕ)) (old : List RollupRow) (es : List Entry) where
   abbrev fresh : List RollupRow
   fresh = map (row_of pool) es
@@ -52,7 +52,7 @@ module _ (pool : List (List ℕ)) (old : List RollupRow) (es : List Entry) where
     file = omega (arith, file_all, file, t.file, len_fits);
   }
 
-  -- the sizes of old rows and of a file's
+  -- The sizes after a merge are those of the old rows and of the file's entries.
   pub file_added : (test : List (List ℕ) → Bool) (new : List RollupRow) → Merges old fresh new → file_where test new ≡ file_where test old + weight File (λ ns. test (map (text_of pool) ns)) es
   file_added test new m = m.file test ∙ ap (λ k. file_where test old + k) (rows-weigh File (λ (r : RollupRow). r.file) pool test (λ e. refl) es)
 

@@ -44,7 +44,8 @@ reads-le [] cs = omega arith
 reads-le (ps ∷ pss) [] = omega arith
 reads-le (ps ∷ pss) (c ∷ cs) = omega (arith, sum_by-cons length ps pss, reads-le pss cs)
 
--- each position up to the next stop
+-- At a position before the next stop, all maps have a label if they all have one at `at`, and these labels are the
+-- same.
 record IsSteady (pss : List (List Piece)) (cs : List Cursor) (at x : ℕ) : Type 0 where
   covered : is_covered pss x ≡ all_started at cs
   numbers : all_started at cs ≡ true → numbers_at pss x ≡ labels_of cs
@@ -88,14 +89,14 @@ steady (ps ∷ pss) (c ∷ cs) at x to h stops low high =
           (later.numbers (and_right (leb c.start at) (all_started at cs) e));
     }
 
--- whether one of these positions counts
+-- Whether a position counts, by the current labels.
 counts_one : (test : List ℕ → Bool) (marks : Option (List Bool)) (covered started : Bool) (numbers labels : List ℕ) → covered ≡ started → (started ≡ true → numbers ≡ labels)
     → (covered && (passes marks numbers && test numbers)) ≡ ((started && passes marks labels) && test labels)
 counts_one test marks covered true numbers labels e n =
     ap (λ b. b && (passes marks numbers && test numbers)) e ∙ ap (λ ns. passes marks ns && test ns) (n refl)
 counts_one test marks covered false numbers labels e n = ap (λ b. b && (passes marks numbers && test numbers)) e
 
--- a step counts all of its positions or none
+-- A step counts all of its positions or none.
 pub counted-step : (test : List ℕ → Bool) (marks : Option (List Bool)) (pss : List (List Piece)) (cs : List Cursor) (at to : ℕ) → Each (λ ps c. IsAt ps at c) pss cs
     → ((i : ℕ) → i < length cs → to ≤ stop_of at (get_or cs i no_cursor)) → at ≤ to
     → counted test marks pss to ≡ counted test marks pss at + cond (is_counted marks at cs && test (labels_of cs)) (to - at) 0
@@ -109,13 +110,13 @@ counted-step test marks pss cs at to h stops le =
     counts_one test marks (is_covered pss x) (all_started at cs) (numbers_at pss x) (labels_of cs) s.covered s.numbers) in
     ap (count_from f 0) whole ∙ (count-append f 0 at (to - at) ∙ (ap (λ a. count_from f 0 at + count_from f a (to - at)) zero_first ∙ ap (λ k. count_from f 0 at + k) part))
 
--- the first cursors have reached a position, and the others' pieces reach up to it
+-- The first `i` cursors are at the position `to`, and the others have reached it.
 pub record IsMoving (pss : List (List Piece)) (to i : ℕ) (cs : List Cursor) : Type 0 where
   pub len : length cs ≡ length pss
   pub done : (j : ℕ) → j < i → j < length pss → IsAt (get_or pss j []) to (get_or cs j no_cursor)
   pub left : (j : ℕ) → i ≤ j → j < length pss → IsReached (get_or pss j []) to (get_or cs j no_cursor)
 
--- the first maps have cursors at their first pieces
+-- The first `i` maps have cursors at their first pieces.
 pub record IsStarting (pss : List (List Piece)) (i : ℕ) (cs : List Cursor) : Type 0 where
   pub len : length cs ≡ i
   pub done : (j : ℕ) → j < i → IsAt (get_or pss j []) 0 (get_or cs j no_cursor)
@@ -148,7 +149,7 @@ starting-step pss i cs ps c e h s =
       ];
     }
 
--- what a read costs
+-- How one read changes the number of pieces read.
 pub reads-next : (pss : List (List Piece)) (cs : List Cursor) (i : ℕ) (ps : List Piece) (c : Cursor) → length cs ≡ length pss → i < length pss → get_or pss i [] ≡ ps → reads pss (set cs i c) + reads_of ps (get_or cs i no_cursor) ≡ reads pss cs + reads_of ps c
 reads-next pss cs i ps c len lt e =
     subst (λ qs. reads pss (set cs i c) + reads_of qs (get_or cs i no_cursor) ≡ reads pss cs + reads_of qs c) e (reads-set pss cs i c (omega arith) lt)
@@ -170,7 +171,7 @@ pieces-below : (part : Part) (n : ℕ) (m : Maps) → LabelsBelow n m → All (�
 pieces-below File n m h = h.file
 pieces-below Vm n m h = h.vm
 
--- the current labels are those of pieces
+-- The current labels are those of pieces.
 pub labels-below : (part : Part) (maps : List Maps) (cs : List Cursor) (at n : ℕ) → Each (λ ps c. IsAt ps at c) (layers part maps) cs → all_started at cs ≡ true → All (LabelsBelow n) maps → All (λ m. m < n) (labels_of cs)
 labels-below part maps cs at n h started below k d lt =
     let within : k < length cs = omega (arith, length-map cs (λ (c : Cursor). c.label)) in

@@ -12,7 +12,7 @@ use Rattle.path_rows.proofs.Paths.{nat_greater, nat_less, nat_same}
 use Rattle.rollup.specs.declared.order.WordedLabel.{WordedLabel}
 use Rattle.rollup.specs.Order.{IsWorded, label_cmp, worded_cmp}
 
--- labels with their words compare as the labels do
+-- Labels with their words compare as the labels do.
 pub by_words : (pool : List (List ℕ)) (a b : WordedLabel) → IsWorded pool a → IsWorded pool b → worded_cmp pool a b ≡ label_cmp pool a.number b.number
 by_words pool a b first second = by_order (Rattle.std.proofs.lemmas.Bool.cases_order a.word b.word)
   where

@@ -9,28 +9,28 @@ use Rattle.size_model.specs.Loads.{is_mapped, mapped_count}
 use Rattle.dual_map.specs.Layout.{Maps}
 use Rattle.rollup.specs.Adding.{numbers_at, passes}
 
--- each map has a label at a position
+-- Each map has a label at a position.
 abbrev pub is_covered : List (List Piece) → ℕ → Bool
 is_covered pss x = list_all (λ (ps : List Piece). is_some (label_in ps x)) pss
 
--- the labels of a position pass, and a test holds of their numbers
+-- A position counts: each map has a label there, the labels pass, and a test holds of their numbers.
 abbrev pub is_counted_at : (List ℕ → Bool) → Option (List Bool) → List (List Piece) → ℕ → Bool
 is_counted_at test marks pss x = is_covered pss x && (passes marks (numbers_at pss x) && test (numbers_at pss x))
 
--- how many positions below a limit
+-- How many positions below a limit count.
 abbrev pub counted : (List ℕ → Bool) → Option (List Bool) → List (List Piece) → ℕ → ℕ
 counted test marks pss limit = count_from (is_counted_at test marks pss) 0 limit
 
--- how many offsets and how many mapped positions have labels that pass, and of whose numbers a test holds
+-- The number of offsets whose labels pass the filter and, by their numbers, a test.
 abbrev pub file_counted : (List ℕ → Bool) → Option (List Bool) → List Maps → ℕ → ℕ
 file_counted test marks maps len = count_from (λ o. passes marks (numbers_at (map (λ (m : Maps). m.file) maps) o) && test (numbers_at (map (λ (m : Maps). m.file) maps) o)) 0 len
 
--- The number of mapped addresses that the filter passes and whose labels, by their numbers, pass a test.
+-- The number of mapped positions whose labels pass the filter and, by their numbers, a test.
 abbrev pub vm_counted : (List ℕ → Bool) → Option (List Bool) → List Maps → List Load → ℕ
 vm_counted test marks maps loads =
     count_from (λ p. is_mapped loads p && (passes marks (numbers_at (map (λ (m : Maps). m.vm) maps) p) && test (numbers_at (map (λ (m : Maps). m.vm) maps) p))) 0 (2 ^ 96)
 
--- up to where positions are walked
+-- The end of the positions that are walked: the number of mapped positions if there are no maps, and else 2^96.
 abbrev pub vm_limit : List Load → List Maps → ℕ
 vm_limit loads [] = mapped_count loads
 vm_limit loads (m ∷ ms) = 2 ^ 96

@@ -11,15 +11,15 @@ use Rattle.path_rows.specs.declared.row.RollupRow.{RollupRow}
 use Rattle.path_rows.specs.Words.{IsLessByWord, word_after}
 use Rattle.rollup.specs.Sizes.{Entry, no_entry, row_of}
 
--- the labels of two numbers, byte by byte
+-- The order of the labels of two numbers, byte by byte.
 abbrev pub label_cmp : List (List ℕ) → ℕ → ℕ → Ordering
 label_cmp pool a b = slice_cmp nat_cmp (text_of pool a) (text_of pool b)
 
--- the label of a number after its first bytes as one number
+-- A list whose order is that of worded labels: the word, and then the bytes of the label.
 abbrev pub worded_key : List (List ℕ) → WordedLabel → List ℕ
 worded_key pool w = w.word ∷ text_of pool w.number
 
--- labels compare by their first bytes, and then by all of them
+-- The order of labels by their words, and for equal words by their bytes.
 abbrev pub worded_cmp : List (List ℕ) → WordedLabel → WordedLabel → Ordering
 worded_cmp pool a b = slice_cmp nat_cmp (worded_key pool a) (worded_key pool b)
 
@@ -32,16 +32,16 @@ pub record IsWorded (pool : List (List ℕ)) (w : WordedLabel) : Type 0 where
 abbrev pub rank_in : List ℕ → ℕ → ℕ
 rank_in ranks n = slice_index_or ranks n 0
 
--- at each number is its index in a list
+-- `indices` has, at each number of the list `numbers`, the index of this number in the list.
 pub record AreIndices (numbers indices : List ℕ) : Type 0 where
   pub count : length indices ≡ length numbers
   pub index : (k : ℕ) → k < length numbers → rank_in indices (slice_index_or numbers k 0) ≡ k
 
--- the ranks of labels compare as the labels do
+-- The ranks of labels compare as the labels do.
 pub record RankLabels (pool : List (List ℕ)) (ranks : List ℕ) : Type 0 where
   pub same : (a b : ℕ) → a < length pool → b < length pool → nat_cmp (rank_in ranks a) (rank_in ranks b) ≡ label_cmp pool a b
 
--- an entry with the ranks of its numbers
+-- `r` has the index of an entry and the ranks of its labels.
 pub record IsRanked (ranks : List ℕ) (es : List Entry) (r : Ranked) : Type 0 where
   pub within : r.entry < length es
   pub along : r.ranks.items ≡ map (rank_in ranks) (slice_index_or es r.entry no_entry).numbers
@@ -54,22 +54,23 @@ falling_ranks a b = slice_cmp nat_cmp b.ranks.items a.ranks.items
 abbrev pub ranked_row : List (List ℕ) → List Entry → Ranked → RollupRow
 ranked_row pool es r = row_of pool (slice_index_or es r.entry no_entry)
 
--- numbers as digits to a base, after a number
+-- A number `n`, followed by these digits to a base.
 abbrev pub digits_after : ℕ → ℕ → List ℕ → ℕ
 digits_after base n [] = n
 digits_after base n (x ∷ xs) = digits_after base (n * base + x) xs
 
--- an entry of so many numbers, whose ranks are the digits of its key; there are no digits but those below the base
+-- `k` has the index of an entry with `depth` labels, and a key whose digits are the ranks of these labels. Each digit
+-- is below the base, which is the number of ranks.
 pub record IsKeyed (ranks : List ℕ) (depth : ℕ) (es : List Entry) (k : Keyed) : Type 0 where
   pub within : k.entry < length es
   pub deep : length (slice_index_or es k.entry no_entry).numbers ≡ depth
   pub below : All (λ r. r < length ranks) (map (rank_in ranks) (slice_index_or es k.entry no_entry).numbers)
   pub key : k.key ≡ digits_after (length ranks) 0 (map (rank_in ranks) (slice_index_or es k.entry no_entry).numbers)
 
--- the greater key comes first
+-- The order by keys, the greatest first.
 abbrev pub falling_keys : Keyed → Keyed → Ordering
 falling_keys a b = nat_cmp b.key a.key
 
--- the row of a keyed entry
+-- The row of a keyed entry.
 abbrev pub keyed_row : List (List ℕ) → List Entry → Keyed → RollupRow
 keyed_row pool es k = row_of pool (slice_index_or es k.entry no_entry)

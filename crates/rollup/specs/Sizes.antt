@@ -11,7 +11,7 @@ use Rattle.rollup.specs.declared.sizes.Sizes.{Sizes}
 use Rattle.path_rows.specs.declared.row.RollupRow.{RollupRow}
 use Rattle.rollup.specs.Adding.{passes}
 
--- numbers of labels, and how many positions of each kind have them
+-- The numbers of labels, and how many mapped positions and how many offsets have these labels.
 pub record Entry : Type 0 where
   pub numbers : List ℕ
   pub vm : ℕ
@@ -25,20 +25,20 @@ no_entry = record { numbers = []; vm = 0; file = 0 }
 abbrev pub entry_of : List ℕ → Sizes → Entry
 entry_of numbers s = record { numbers = numbers; vm = s.vm; file = s.file }
 
--- the entry of a list of one number
+-- The entry of a list of one number.
 abbrev pub entry_of_label : LabelSize → Entry
 entry_of_label s = entry_of (s.label ∷ []) s.sizes
 
--- the entry of a list, which is a part of the numbers of all lists
+-- The entry of a list. `ns` has the numbers of all lists, one after the other.
 abbrev pub entry_of_list : List ℕ → ListSize → Entry
 entry_of_list ns s = entry_of (take s.len (drop s.first ns)) s.sizes
 
--- the sizes of a list are at this index
+-- The entry at this index is that of these numbers.
 pub record IsIndexOf (numbers : List ℕ) (es : List Entry) (i : ℕ) : Type 0 where
   pub within : i < length es
   pub there : (slice_index_or es i no_entry).numbers ≡ numbers
 
--- one of the two sizes
+-- One of the two sizes of an entry.
 abbrev pub size_in : Part → Entry → ℕ
 size_in File e = e.file
 size_in Vm e = e.vm
@@ -68,11 +68,11 @@ abbrev pub grown : Part → ℕ → Entry → Entry
 grown File size e = record { numbers = e.numbers; vm = e.vm; file = e.file + size }
 grown Vm size e = record { numbers = e.numbers; vm = e.vm + size; file = e.file }
 
--- the sizes of the entries of whose numbers a test holds, added up
+-- The sum of one size over the entries whose numbers pass a test.
 abbrev pub weight : Part → (List ℕ → Bool) → List Entry → ℕ
 weight part test es = sum_by (λ (e : Entry). if test e.numbers then size_in part e else 0) es
 
--- the entry of the numbers grew
+-- One size of the entry at index `i`, which is that of these numbers, grew by `size`. Nothing else changed.
 pub record IsGrownAt (part : Part) (numbers : List ℕ) (size : ℕ) (old new : List Entry) (i : ℕ) : Type 0 where
   pub within : i < length old
   pub there : (slice_index_or old i no_entry).numbers ≡ numbers
@@ -87,7 +87,7 @@ abbrev pub IsGrownIf : Bool → Part → List ℕ → ℕ → List Entry → Lis
 IsGrownIf true part numbers size old new = IsGrown part numbers size old new
 IsGrownIf false part numbers size old new = new ≡ old
 
--- each map has a label at a position
+-- The next piece of each map starts at or before a position.
 abbrev pub all_started : ℕ → List Cursor → Bool
 all_started at cs = list_all (λ (c : Cursor). nat_le c.start at) cs
 
@@ -95,16 +95,16 @@ all_started at cs = list_all (λ (c : Cursor). nat_le c.start at) cs
 abbrev pub labels_of : List Cursor → List ℕ
 labels_of cs = map (λ (c : Cursor). c.label) cs
 
--- whether a position counts
+-- Whether a position counts: the next piece of each map starts at or before it, and the labels pass the filter.
 abbrev pub is_counted : Option (List Bool) → ℕ → List Cursor → Bool
 is_counted marks at cs = all_started at cs && passes marks (labels_of cs)
 
--- so many numbers, each below a limit, and a size that isn't 0
+-- An entry has `depth` numbers, each below a limit, and a size that isn't 0.
 pub record IsEntry (depth limit : ℕ) (e : Entry) : Type 0 where
   pub deep : length e.numbers ≡ depth
   pub below : All (λ n. n < limit) e.numbers
   pub some : (0 < e.vm) ⊎ (0 < e.file)
 
--- the row of an entry
+-- The row of an entry.
 abbrev pub row_of : List (List ℕ) → Entry → RollupRow
 row_of pool e = record { path = map (text_of pool) e.numbers; vm = e.vm; file = e.file }

@@ -5,7 +5,8 @@ use Rattle.std.specs.List.Sorted.{IsStrictlySortedBy}
 use Rattle.path_rows.specs.declared.row.RollupRow.{RollupRow}
 use Rattle.path_rows.specs.Paths.{row_cmp}
 
--- what contracts see of a rollup
+-- What contracts see of a rollup: the number of labels of each path, the rows, and the sums of the lengths and of the
+-- mapped sizes of the files, in bytes.
 pub record Totals : Type 0 where
   pub depth : ℕ
   pub rows : List RollupRow

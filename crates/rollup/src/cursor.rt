@@ -12,7 +12,9 @@ use std::sync::ledger::Ledger;
 /// One of the two maps of a data source.
 #[derive(Clone, Copy, Debug)]
 pub enum Part {
+    /// The map of file offsets.
     File,
+    /// The map of positions of the address spaces.
     Vm,
 }
 
@@ -33,9 +35,13 @@ impl Part {
 /// greatest number.
 #[derive(Clone, Copy, Debug)]
 pub struct Cursor {
+    /// How many pieces the walk has passed.
     pub passed: usize,
+    /// The first position of the next piece.
     pub start: u128,
+    /// The position after the next piece.
     pub end: u128,
+    /// The number of its label.
     pub label: usize,
 }
 

@@ -18,14 +18,18 @@ use std::alloc::{AllocError, Global};
 /// An entry of a file's sizes, and the ranks of its labels.
 #[derive(Drop)]
 pub struct Ranked {
+    /// The ranks of its labels in their order.
     pub ranks: Vec<usize>,
+    /// The index of the entry.
     pub entry: usize,
 }
 
 /// An entry, and the ranks of its labels as the digits of one number.
 #[derive(Clone, Copy)]
 pub struct Keyed {
+    /// The number whose digits are the ranks.
     pub key: usize,
+    /// The index of the entry.
     pub entry: usize,
 }
 

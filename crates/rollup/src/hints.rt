@@ -1,10 +1,11 @@
-//! If the sizes of a list of numbers may be, by a hash of the list.
+//! Where the sizes of a list of numbers may be: a hash table of indices.
 
 use size_core::NoMemory;
 use std::alloc::Global;
 
-/// How many slots are read for a list. After them it counts as missing: lists to which a hostile file gives one hash then
-/// have several entries, which a merge of rows adds up, and cost no more than others.
+/// How many slots are read for a list. If none of them leads to the list, it counts as missing. So lists of a hostile
+/// file that all have one hash take no more time than others. Such a list may have several entries, whose sizes are
+/// added up later, when rows are merged.
 pub const PROBES: usize = 16;
 
 const MULTIPLIER: usize = 0x9e37_79b9_7f4a_7c15;
@@ -23,7 +24,7 @@ pub fn hash_of(numbers: &[usize]) -> usize {
 /// compares what is at it.
 #[derive(Drop)]
 pub struct Hints {
-    // One more than an index, or 0. There is a power of two of slots.
+    // Each slot is 0 if it is empty, or else one more than an index. The number of slots is a power of two.
     slots: Vec<usize>,
     hashes: Vec<usize>,
     next: usize,
@@ -49,13 +50,14 @@ impl Hints {
         self.next = found.saturating_add(1);
     }
 
-    // The number of a slot of a hash. The distances from the first one are triangular numbers.
+    // The number of the slot that is read for a hash after `probe` others. The distances from the first one are
+    // triangular numbers.
     fn slot(&self, hash: usize, probe: usize) -> usize {
         let distance = probe.wrapping_mul(probe.wrapping_add(1)) / 2;
         hash.wrapping_add(distance) & self.slots.len().saturating_sub(1)
     }
 
-    /// The index in a slot of a hash. `None` if the slot is empty.
+    /// The index in the slot that is read for a hash after `probe` others. `None` if the slot is empty.
     pub fn get(&self, hash: usize, probe: usize) -> Option<usize> {
         let slot = *self.slots.get(self.slot(hash, probe))?;
         slot.checked_sub(1)
@@ -78,7 +80,7 @@ impl Hints {
         }
     }
 
-    // Doubles the number of slots.
+    // Doubles the number of slots, and fills them again.
     fn enlarge(&mut self) -> Result<(), NoMemory> {
         let count = self.slots.len().saturating_mul(2).max(64);
         self.slots.clear();
@@ -90,7 +92,7 @@ impl Hints {
         Ok(())
     }
 
-    /// Adds a hint at the next list.
+    /// Adds a hint for the next list, which has this hash.
     pub fn push(&mut self, hash: usize) -> Result<(), NoMemory> {
         let index = self.hashes.len();
         if index >= self.slots.len() / 2 {

@@ -32,7 +32,9 @@ fn compare_numbers(pool: &LabelPool, a: usize, b: usize) -> Ordering
 /// The number of a label, and its first bytes.
 #[derive(Clone, Copy)]
 pub struct WordedLabel {
+    /// The first eight bytes of the label as a number.
     pub word: u64,
+    /// The label's number in the pool.
     pub number: usize,
 }
 

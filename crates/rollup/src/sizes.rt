@@ -11,10 +11,12 @@ use std::alloc::Global;
 use std::marker::Model;
 use std::slice::from_ref;
 
-/// How many mapped positions, and how many offsets.
+/// The two sizes of a list of labels.
 #[derive(Clone, Copy, Debug)]
 pub struct Sizes {
+    /// How many mapped positions have these labels.
     pub vm: u128,
+    /// How many file offsets have these labels.
     pub file: u128,
 }
 
@@ -208,7 +210,7 @@ impl ListSizes {
         there == numbers
     }
 
-    // The index of a list, if there is a hint at it.
+    // The index of a list, if a hint leads to it.
     fn find(&self, numbers: &[usize], hash: usize) -> Option<usize>
         ensures { ForSome result (IsIndexOf numbers.now self.now) }
     {

@@ -89,7 +89,7 @@ impl Rollup {
     /// # Errors
     ///
     /// `TooManyBytes` if the lengths of all files added exceed 2^63 - 1, and `MappedTooLarge` if they don't and the
-    /// mapped sizes do. After an error the rollup is unchanged.
+    /// mapped sizes do. `NoMemory` may come otherwise. After an error the rollup is unchanged.
     pub fn add_file<L: Ledger>(
         &mut self,
         base: &Base,

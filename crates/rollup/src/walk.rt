@@ -20,8 +20,11 @@ use std::sync::ledger::Ledger;
 /// of its labels is marked true.
 #[derive(Clone, Copy)]
 pub struct Walked<'m, 'f> {
+    /// The maps of the data sources in their order.
     pub maps: &'m [DualMap],
+    /// Which map of each data source is walked.
     pub part: Part,
+    /// For each number of a label, whether the filter passes the label.
     pub marks: Option<&'f [bool]>,
 }
 

@@ -47,7 +47,7 @@ file_line asked i text = codes "bloaty: " ++ file_name asked i ++ codes ": " ++ 
 abbrev pub pattern_line : ℕ → List ℕ → List ℕ
 pattern_line i text = codes "bloaty: pattern " ++ decimal i ++ codes ": " ++ text ++ codes "\n"
 
--- The line for an outcome. asked are the options, or the usage error of the arguments.
+-- The line for an outcome. `asked` is the options, or the usage error of the arguments.
 abbrev pub line_of : Result Options UsageKind → Outcome → List ℕ
 line_of asked Done = []
 line_of asked (Usage kind) = codes "bloaty: usage: " ++ usage_text kind ++ codes "\n"

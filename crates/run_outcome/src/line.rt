@@ -185,7 +185,7 @@ fn tell_pattern<E: Sink>(err: &mut E, number: usize, text: &[u8]) -> Result<(), 
     write_pattern(err, number, text)
 }
 
-/// Writes the line for arguments that are misused.
+/// Writes the line for arguments that are misused. Returns `Failed` if a write failed.
 pub fn tell_usage<E: Sink>(err: &mut E, kind: UsageKind) -> Result<(), Failed>
     ensures writes { let line = codes "bloaty: usage: " ++ usage_text kind ++ codes "\n" in
         Writes E.Sink result line err.old err.new }
@@ -196,14 +196,15 @@ pub fn tell_usage<E: Sink>(err: &mut E, kind: UsageKind) -> Result<(), Failed>
     )
 }
 
-/// Writes the line for running out of memory.
+/// Writes the line for running out of memory. Returns `Failed` if a write failed.
 pub fn tell_no_memory<E: Sink>(err: &mut E) -> Result<(), Failed>
     ensures writes { Writes E.Sink result (codes "bloaty: out of memory\n") err.old err.new }
 {
     write_pieces(err, &[b"bloaty: out of memory\n"])
 }
 
-/// Writes the line for an outcome of a run with these options, and nothing if the run is done. It allocates no memory.
+/// Writes the line for an outcome of a run with these options, and nothing if the run is done. Returns `Failed` if a
+/// write failed. It allocates no memory.
 pub fn tell<E: Sink>(err: &mut E, options: &Options, outcome: &Outcome) -> Result<(), Failed>
     ensures writes { Writes E.Sink result (line_of (Ok options.now) outcome.now) err.old err.new }
     ensures silent { outcome.now ≡ Done → E.written err.new ≡ E.written err.old }

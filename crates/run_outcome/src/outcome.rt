@@ -6,7 +6,9 @@ use config_text::ConfigKind;
 use size_core::{Fault, NoMemory};
 use size_options::UsageKind;
 
-/// How a run ends. Files are numbered: 0 is the configuration, and the files follow from 1 on, in the order of the command line.
+/// How a run ends. Files are numbered: 0 is the configuration, and the files follow from 1 on, in the order of the
+/// command line. Then come the debug file or the base files. A `usize` is the number of a file, unless its variant
+/// says otherwise.
 #[derive(Clone, Copy, Debug, PartialEq, Eq, Hash)]
 pub enum Outcome {
     /// The whole report was written.
@@ -15,17 +17,19 @@ pub enum Outcome {
     Usage(UsageKind),
     /// The file couldn't be read.
     ReadFailed(usize),
-    /// The file, or all files up to it together, are longer than the limit.
+    /// The file is longer than the limit for a file, or all files up to it together are longer than the limit for a
+    /// run.
     TooLong(usize),
     /// The configuration has a fault, at an offset in bytes.
     Config(ConfigKind, u64),
-    /// A name in `-d` is that of no data source. The names are numbered from 1.
+    /// The name with this number in `-d` is that of no data source. The names are numbered from 1.
     UnknownSource(usize),
-    /// A pattern is no regular expression, or is nested too deeply. The filter is pattern 0, and rewrites are numbered from 1.
+    /// The pattern with this number is no regular expression, or is nested too deeply. The filter is pattern 0, and
+    /// rewrites are numbered from 1.
     PatternSyntax(usize),
-    /// A pattern was refused for its size.
+    /// The pattern with this number was refused for its size. Patterns are numbered as in `PatternSyntax`.
     PatternTooBig(usize),
-    /// The file has a fault, at a file offset.
+    /// The file with number `file` has this fault, at this file offset in bytes.
     Bad {
         file: usize,
         fault: Fault,
@@ -33,7 +37,7 @@ pub enum Outcome {
     },
     /// The data sources in `-d` make more claims on the file than the limit.
     TooManyClaims(usize),
-    /// The mapped sizes of the files exceed 2^63 - 1.
+    /// The mapped sizes of the files add up to more than 2^63 - 1, or those of the base files do.
     MappedTooLarge,
     /// The identifiers of the file and its debug file differ, or one has none.
     NoMatch,

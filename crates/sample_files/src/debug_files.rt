@@ -13,7 +13,7 @@ use std::alloc::{AllocError, Global};
 // Where the code of all these files but those of lines begins.
 const CODE: u64 = 0x401000;
 
-// Folders or files of a line program. DWARF 2 to 4 don't name the first.
+// Folders or files of a line program. Before DWARF 5 the first one isn't in the list.
 fn numbered<T>(version: u16, names: &[T]) -> &[T] {
     if version < 5 {
         names.get(1..).unwrap_or(&[])
@@ -61,7 +61,7 @@ const RANGES: [Entry; 5] = [
     Entry::EndOfList,
 ];
 
-// What two units name: strings and ranges, and from DWARF 5 on by indexes.
+// What the two units refer to: strings, ranges, and from DWARF 5 on the tables for indexes.
 fn add_tables(debug: &mut Debug, version: u16) {
     debug.strings(&[b"a.c", b"b.c"]);
     if version < 5 {
@@ -84,7 +84,7 @@ fn add_units(debug: &mut Debug, version: u16) -> u32 {
             (DW_AT_STMT_LIST, offset_value(version, 0)),
         ],
     );
-    // An end, and from DWARF 4 on a length.
+    // The address after the code, and from DWARF 4 on its length.
     let high = if version < 4 {
         Value::Addr(CODE + 0x18)
     } else {
@@ -100,7 +100,7 @@ fn add_units(debug: &mut Debug, version: u16) -> u32 {
     )
 }
 
-// The files of a line program, of which DWARF 5 alone names the first.
+// The files of a line program. Only DWARF 5 has the first one in the list.
 const TWO_FILES: [(&[u8], u8); 2] = [(b"a.c", 0), (b"a.c", 0)];
 
 // One row of `a.c`, of 16 bytes.
@@ -112,8 +112,9 @@ const STEPS: [Step; 5] = [
     Step::EndSequence,
 ];
 
-// The units `a.c`, with 24 bytes of code in two ranges, one at 0 and a line program, and `b.c`, with 8 bytes of code;
-// a set that gives `b.c` the first 16 bytes and 8 of those that no unit has, and one of no unit with 8 more.
+// Unit `a.c` has 24 bytes of code in two ranges, one more range at address 0, and a line program. Unit `b.c` has 8
+// bytes of code. One set gives `b.c` the first 16 bytes of code and 8 bytes that no unit has. Another set is for an
+// offset at which there is no unit, and has 8 more bytes.
 fn two_units_of(alloc: Global, version: u16) -> Debug {
     let mut debug = Debug::new(alloc, Class::Bits64);
     add_tables(&mut debug, version);
@@ -250,7 +251,7 @@ pub fn compressed_units(alloc: Global, marked: bool) -> Result<Vec<u8>, AllocErr
     with_code(alloc, CODE, &sections)
 }
 
-/// Two units without a name: one has none, and one an empty one.
+/// Two units without a name: one has no name, and one has an empty name.
 pub fn unnamed_units(alloc: Global) -> Result<Vec<u8>, AllocError> {
     let mut debug = Debug::new(alloc, Class::Bits64);
     debug.unit(

@@ -5,27 +5,39 @@ use crate::lines::Program;
 use crate::numbers::{Class, Numbers, Order};
 use std::alloc::{AllocError, Global};
 
-/// Attributes of a unit's root (DWARF 5, section 7.5.4).
+/// The attribute DW_AT_name of a unit's root (DWARF 5, section 7.5.4).
 pub const DW_AT_NAME: u8 = 0x03;
 
+/// The attribute DW_AT_stmt_list of a unit's root.
 pub const DW_AT_STMT_LIST: u8 = 0x10;
 
+/// The attribute DW_AT_low_pc of a unit's root.
 pub const DW_AT_LOW_PC: u8 = 0x11;
 
+/// The attribute DW_AT_high_pc of a unit's root.
 pub const DW_AT_HIGH_PC: u8 = 0x12;
 
+/// The attribute DW_AT_ranges of a unit's root.
 pub const DW_AT_RANGES: u8 = 0x55;
 
-/// A value in the form of its name (DWARF 5, section 7.5.5).
+/// The value of an attribute. The variant is its form (DWARF 5, section 7.5.5).
 #[derive(Clone, Copy)]
 pub enum Value<'a> {
+    /// DW_FORM_addr: an address.
     Addr(u64),
+    /// DW_FORM_data4: a number of 4 bytes.
     Data4(u32),
+    /// DW_FORM_string: a string in the entry itself.
     Text(&'a [u8]),
+    /// DW_FORM_strp: an offset in `.debug_str`.
     Strp(u32),
+    /// DW_FORM_sec_offset: an offset in another section.
     SecOffset(u32),
+    /// DW_FORM_addrx: the index of an address. It is below 128.
     Addrx(u8),
+    /// DW_FORM_rnglistx: the index of a range list. It is below 128.
     Rnglistx(u8),
+    /// DW_FORM_strx1: the index of a string.
     Strx1(u8),
 }
 
@@ -90,13 +102,18 @@ pub fn ranges_value(version: u16) -> Value<'static> {
     }
 }
 
-/// An entry of a range list (DWARF 5, section 7.25), whose numbers are below 128.
+/// An entry of a range list (DWARF 5, section 7.25), whose indexes, offsets and lengths are below 128.
 #[derive(Clone, Copy)]
 pub enum Entry {
+    /// DW_RLE_base_addressx: the index of the base address.
     BaseAddressx(u8),
+    /// DW_RLE_startx_length: the index of the first address, and the length.
     StartxLength(u8, u8),
+    /// DW_RLE_offset_pair: the first offset from the base address, and the offset after the last one.
     OffsetPair(u8, u8),
+    /// DW_RLE_start_length: the first address, and the length.
     StartLength(u64, u8),
+    /// DW_RLE_end_of_list.
     EndOfList,
 }
 
@@ -145,6 +162,7 @@ fn put_entry(list: &mut Numbers, entry: Entry) {
 }
 
 impl Debug {
+    /// Debug sections without a byte.
     pub fn new(alloc: Global, class: Class) -> Debug {
         Debug {
             alloc,
@@ -168,7 +186,7 @@ impl Debug {
         table
     }
 
-    /// A unit with these values at its root, whose table of abbreviations is its own. It gives the unit's offset.
+    /// Adds a unit with these values at its root, whose table of abbreviations is its own. Returns the unit's offset.
     pub fn unit(&mut self, version: u16, root: &[(u8, Value<'_>)]) -> u32 {
         let offset = self.info.len();
         let mut unit = self.table(version);
@@ -189,7 +207,7 @@ impl Debug {
         offset
     }
 
-    /// A set of addresses, each with a length, of the unit at an offset.
+    /// Adds a set to `.debug_aranges`: addresses, each with a length, of the unit at an offset.
     pub fn set(&mut self, unit: u32, tuples: &[(u64, u64)]) {
         let mut set = self.table(2);
         set.word(unit);
@@ -199,14 +217,14 @@ impl Debug {
         self.sets.counted(&set);
     }
 
-    /// Strings one after the other.
+    /// Adds strings, one after the other.
     pub fn strings(&mut self, strings: &[&[u8]]) {
         for string in strings {
             self.strings.name(string);
         }
     }
 
-    /// A table of the offsets of strings.
+    /// Adds a table of the offsets of strings.
     pub fn string_offsets(&mut self, offsets: &[u32]) {
         let mut table = self.table(5);
         table.half(0);
@@ -214,7 +232,7 @@ impl Debug {
         self.str_offsets.counted(&table);
     }
 
-    /// A table of addresses.
+    /// Adds a table of addresses.
     pub fn addresses(&mut self, addresses: &[u64]) {
         let mut table = self.table(5);
         table.text(&[self.class.address_size(), 0]);
@@ -222,13 +240,13 @@ impl Debug {
         self.addresses.counted(&table);
     }
 
-    /// Pairs of addresses, which (0, 0) ends.
+    /// Adds a range list before DWARF 5: pairs of addresses, which (0, 0) ends.
     pub fn pairs(&mut self, pairs: &[(u64, u64)]) {
         self.ranges.pairs(pairs);
         self.ranges.addresses(&[0, 0]);
     }
 
-    /// A range list, after a table whose one offset is its own.
+    /// Adds a range list of DWARF 5, after a table whose only offset is that of the list.
     pub fn list(&mut self, entries: &[Entry]) {
         let mut list = self.table(5);
         list.text(&[self.class.address_size(), 0]);
@@ -239,7 +257,7 @@ impl Debug {
         self.rnglists.counted(&list);
     }
 
-    /// A line program.
+    /// Adds a line program.
     pub fn program(&mut self, program: &Program<'_>) {
         self.lines.counted(&program.numbers(self.alloc, self.class));
     }

@@ -125,7 +125,7 @@ fn symbol_names(alloc: Global) -> Result<Vec<u8>, AllocError> {
     names.finish()
 }
 
-// A source file and a section.
+// The symbols of a source file and of a section.
 const FIRST_SYMBOLS: [Symbol; 2] = [
     Symbol {
         name: 1,
@@ -141,7 +141,7 @@ const FIRST_SYMBOLS: [Symbol; 2] = [
     },
 ];
 
-// A source file, a section, and the functions.
+// The symbols of a source file, of a section and of the functions.
 fn symbol_table(alloc: Global) -> Result<Vec<u8>, AllocError> {
     let mut table = Vec::new(alloc);
     table.extend_from_slice(&FIRST_SYMBOLS)?;

@@ -5,13 +5,16 @@ ghost use Rattle.std.specs.Prelude.{◌≡◌, ◌+◌, ◌≤◌, length};
 use crate::numbers::{Class, Numbers, Order};
 use std::alloc::{AllocError, Global};
 
-/// What the file's header says.
+/// Fields of the file header.
 #[derive(Clone, Copy)]
 pub struct Head {
+    /// The class.
     pub class: Class,
+    /// The byte order.
     pub order: Order,
-    /// ET_REL is 1, ET_EXEC is 2.
+    /// e_type: ET_REL is 1, ET_EXEC is 2.
     pub kind: u16,
+    /// e_machine: EM_X86_64 is 62.
     pub machine: u16,
 }
 
@@ -26,25 +29,36 @@ pub const EXECUTABLE: Head = Head {
 /// A program header.
 #[derive(Clone, Copy)]
 pub struct Segment {
-    /// PT_LOAD is 1.
+    /// p_type: PT_LOAD is 1.
     pub kind: u32,
+    /// p_flags: PF_X is 1, PF_W is 2, PF_R is 4.
     pub flags: u32,
+    /// p_offset, in bytes.
     pub offset: u64,
+    /// p_vaddr.
     pub vaddr: u64,
+    /// p_filesz, in bytes.
     pub filesz: u64,
+    /// p_memsz, in bytes.
     pub memsz: u64,
 }
 
-/// A section, with its bytes. That of the names of sections is `.shstrtab`, and gets its bytes here.
+/// A section, with its bytes. The section name table is `.shstrtab`, and `file` makes its bytes.
 #[derive(Clone, Copy)]
 pub struct Section<'a> {
+    /// The name itself. `file` adds it to the section name table.
     pub name: &'a [u8],
+    /// sh_type: SHT_NOBITS is 8.
     pub kind: u32,
+    /// sh_flags: SHF_WRITE is 1, SHF_ALLOC is 2, SHF_EXECINSTR is 4.
     pub flags: u64,
+    /// sh_addr.
     pub addr: u64,
+    /// The bytes of the section in the file.
     pub bytes: &'a [u8],
-    /// The size of a section of type SHT_NOBITS.
+    /// The size of a section of type SHT_NOBITS, in bytes.
     pub empty: u64,
+    /// sh_link: the number of another section.
     pub link: u32,
 }
 
@@ -76,14 +90,18 @@ pub fn part<'a>(name: &'a [u8], bytes: &'a [u8]) -> Section<'a> {
     }
 }
 
-/// A symbol with a name at an offset of its names.
+/// A symbol.
 #[derive(Clone, Copy)]
 pub struct Symbol {
+    /// st_name: the offset of its name in the string table.
     pub name: u32,
-    /// STT_FUNC is 2, STT_SECTION is 3, STT_FILE is 4.
+    /// st_info: STT_FUNC is 2, STT_SECTION is 3, STT_FILE is 4.
     pub kind: u8,
+    /// st_value.
     pub value: u64,
+    /// st_size, in bytes.
     pub size: u64,
+    /// st_shndx: the number of its section.
     pub section: u16,
 }
 
@@ -147,7 +165,7 @@ fn put_symbol(image: &mut Numbers, class: Class, s: &Symbol) {
     }
 }
 
-/// A table of symbols, the first of which is the null symbol.
+/// A symbol table: the null symbol, and then these symbols.
 pub fn symbols(alloc: Global, head: Head, symbols: &[Symbol]) -> Result<Vec<u8>, AllocError> {
     let mut image = Numbers::new(alloc, head.class, head.order);
     image.zeros(match head.class {
@@ -169,7 +187,7 @@ pub const FUNCTION: Symbol = Symbol {
     section: 1,
 };
 
-// The names of sections, of which an empty one is at 0.
+// The section name table: an empty name at offset 0, and then the names of these sections.
 fn names_of(alloc: Global, head: Head, sections: &[Section<'_>]) -> Numbers {
     let mut names = Numbers::new(alloc, head.class, head.order);
     names.text(&[0]);
@@ -300,7 +318,7 @@ pub fn plain_file(alloc: Global) -> Result<Vec<u8>, AllocError> {
     file(alloc, EXECUTABLE, &[LOAD], &[NULL, TEXT, NAMES])
 }
 
-/// The plain file with 65,280 sections, all but three of them SHT_NULL. Their number is in section 0.
+/// The plain file with 65,280 sections, all but two of them SHT_NULL. Their number is in section 0.
 pub fn many_sections(alloc: Global) -> Result<Vec<u8>, AllocError> {
     let mut bytes = patched(plain_file(alloc)?, 60, &[0, 0]);
     bytes = patched(bytes, 160 + 32, &65_280u64.to_le_bytes());

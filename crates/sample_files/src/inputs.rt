@@ -34,7 +34,7 @@ pub fn symbol_table<'a>(bytes: &'a [u8], names: u32) -> Section<'a> {
     }
 }
 
-/// An object, whose addresses aren't settled.
+/// A relocatable object, whose sections have no addresses yet.
 pub const RELOCATABLE: Head = Head {
     kind: 1,
     ..EXECUTABLE
@@ -181,7 +181,7 @@ fn mapped(alloc: Global, memsz: u64) -> Result<Vec<u8>, AllocError> {
     file(alloc, EXECUTABLE, &[load], &[NULL, TEXT, NAMES])
 }
 
-// The plain file whose load ends so many bytes above the address 2^64 - 4096.
+// The plain file with `memsz` bytes in memory, from the address 2^64 - 4096 on.
 fn at_the_top(alloc: Global, memsz: u64) -> Result<Vec<u8>, AllocError> {
     let load = Segment {
         vaddr: u64::MAX - 4095,
@@ -191,7 +191,7 @@ fn at_the_top(alloc: Global, memsz: u64) -> Result<Vec<u8>, AllocError> {
     file(alloc, EXECUTABLE, &[load], &[NULL, TEXT, NAMES])
 }
 
-// The plain file with a table of symbols that names itself.
+// The plain file with a symbol table whose link is its own number.
 fn own_names(alloc: Global) -> Result<Vec<u8>, AllocError> {
     let table = symbol_table(&[0; 48], 2);
     file(alloc, EXECUTABLE, &[LOAD], &[NULL, TEXT, table, NAMES])
@@ -235,7 +235,7 @@ fn long_names(alloc: Global) -> Result<Vec<u8>, AllocError> {
     file(alloc, EXECUTABLE, &[], &sections)
 }
 
-// Zeros of sizes about the first two units.
+// Sections of zeros, with sizes just below and at 1024 and 1024^2 bytes, where the unit of a size changes.
 fn about_units(alloc: Global) -> Result<Vec<u8>, AllocError> {
     let sections = [
         NULL,
@@ -251,55 +251,78 @@ fn about_units(alloc: Global) -> Result<Vec<u8>, AllocError> {
 /// A file of a worked run.
 #[derive(Clone, Copy)]
 pub enum Input {
+    /// The plain file: an executable with one load and the section `.text`.
     Plain,
     /// The plain file with this size in memory.
     Mapped(u64),
-    /// The plain file with this size in memory, from 4096 below the end of all addresses on.
+    /// The plain file with this size in memory, from the address 2^64 - 4096 on.
     AtTheTop(u64),
-    /// The plain file with so many bytes alone.
+    /// The first bytes of the plain file, this many.
     Cut(usize),
+    /// The plain file with 2^40 addresses of zeros after its code.
     LargeBss,
+    /// A file whose thread-local `.tbss` has the addresses of `.init_array`.
     ThreadLocal,
+    /// A file whose first bytes are loaded at two addresses.
     LoadedTwice,
+    /// The plain file with 65,280 sections.
     ManySections,
+    /// A file with the functions `a` and `b`, which begin at one address.
     TwoFunctions,
-    /// Two functions in a file of 32 bits, the greatest byte of a number first.
+    /// A file of 32 bits with two functions, the most significant byte of a number first.
     BigEndian,
+    /// The plain file with a symbol table whose link is its own number.
     OwnNames,
+    /// A file with a section that is named as an Others row is.
     NamedAsOthers,
+    /// A file whose sections are named as source files are.
     SourceNames,
+    /// A file with section names of 60 and 61 bytes, and one of two lines.
     LongNames,
+    /// A file whose sections have sizes about those at which the unit of a size changes.
     AboutUnits,
+    /// An object with two sections of code and one of zeros.
     Object,
+    /// An object whose two sections of code are one function each.
     ObjectFunctions,
-    /// Two units, by a version of DWARF.
+    /// Two compile units, in this version of DWARF.
     Units(u16),
-    /// Two units in a Mach-O file.
+    /// Two compile units in a Mach-O file.
     MachoUnits,
-    /// Two units whose entries are compressed: whether a flag says so, and else the section's name.
+    /// Two compile units whose `.debug_info` is marked as compressed: by its flag if true, or else by its name.
     Compressed(bool),
+    /// Two compile units without a name.
     UnnamedUnits,
-    /// Lines of instructions of two operations, by a version of DWARF.
+    /// A line program with two operations in each instruction, in this version of DWARF.
     Operations(u16),
-    /// Lines of two rows at one address; whether the last instruction has no end.
+    /// A line program with two rows at one address. If true, the operand of its last instruction is cut short.
     TwoRows(bool),
-    /// Lines of files in folders, by a version of DWARF.
+    /// A line program for files in folders, in this version of DWARF.
     Folders(u16),
-    /// A position-independent executable, with a version of DWARF.
+    /// A position-independent executable, in this version of DWARF.
     Executable(u16),
+    /// A Mach-O program with a segment without access, code and symbols.
     MachoProgram,
+    /// A Mach-O file whose only segment has no access.
     MachoWithoutAccess,
+    /// A Mach-O program of this class and byte order.
     MachoOf(Class, Order),
+    /// A Mach-O object.
     MachoObject,
+    /// A Mach-O library whose last link-edit part passes the end of the file.
     MachoLibrary,
+    /// A Mach-O file of debug information.
     MachoDebugFile,
     /// A file without symbols, with this size in memory.
     Stripped(u64),
-    /// Its debug file, by the last byte of the build ID and the section of the symbols' names, which is 4.
+    /// A debug file. Its build ID ends in this byte, and the names of its symbols are in the section with this
+    /// number. It is the debug file of `Stripped` if they are 0xdd and 4.
     DebugFile(u8, u32),
+    /// A Mach-O program without symbols.
     MachoStripped,
-    /// Its debug file, by the bytes of the UUID, which are 7.
+    /// A Mach-O debug file, by the value of each byte of its UUID. It is that of `MachoStripped` if this is 7.
     MachoSymbols(u8),
+    /// These bytes.
     Text(&'static [u8]),
 }
 

@@ -6,13 +6,21 @@ use std::alloc::Global;
 /// An instruction, whose operands are below 64.
 #[derive(Clone, Copy)]
 pub enum Step {
+    /// DW_LNE_set_address.
     SetAddress(u64),
+    /// DW_LNS_copy.
     Copy,
+    /// DW_LNS_advance_pc.
     AdvancePc(u8),
+    /// DW_LNS_advance_line.
     AdvanceLine(u8),
+    /// DW_LNS_set_file.
     SetFile(u8),
+    /// DW_LNS_const_add_pc.
     ConstAddPc,
+    /// A special opcode, from 13 on.
     Special(u8),
+    /// DW_LNE_end_sequence.
     EndSequence,
     /// DW_LNS_fixed_advance_pc with the first byte of its operand alone.
     CutAdvance,
@@ -21,16 +29,21 @@ pub enum Step {
 /// A line program whose opcodes from 13 on are special.
 #[derive(Clone, Copy)]
 pub struct Program<'a> {
+    /// The version of DWARF.
     pub version: u16,
+    /// minimum_instruction_length, in bytes.
     pub min_inst: u8,
+    /// maximum_operations_per_instruction.
     pub max_ops: u8,
-    /// A signed number.
+    /// line_base, a signed number.
     pub line_base: u8,
+    /// line_range.
     pub line_range: u8,
-    /// From DWARF 5 on the first is the folder of the compilation, and before that one it isn't among them.
+    /// From DWARF 5 on the first is the folder of the compilation. Before DWARF 5 that folder isn't among them.
     pub folders: &'a [&'a [u8]],
-    /// Names with the numbers of their folders. From DWARF 5 on the first one has the number 0, and before 1.
+    /// Names with the numbers of their folders. The first file has number 0 from DWARF 5 on, and 1 before.
     pub files: &'a [(&'a [u8], u8)],
+    /// The instructions.
     pub steps: &'a [Step],
 }
 

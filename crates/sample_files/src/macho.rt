@@ -4,22 +4,29 @@ use crate::image::put_all;
 use crate::numbers::{Class, Numbers, Order};
 use std::alloc::{AllocError, Global};
 
-/// The class, the byte order and the file type of a Mach-O header.
+/// Fields of a Mach-O header.
 #[derive(Clone, Copy)]
 pub struct MachoHead {
+    /// The class.
     pub class: Class,
+    /// The byte order.
     pub order: Order,
-    /// MH_OBJECT is 1, MH_EXECUTE 2, MH_DYLIB 6, MH_DSYM 10.
+    /// The file type: MH_OBJECT is 1, MH_EXECUTE 2, MH_DYLIB 6, MH_DSYM 10.
     pub kind: u32,
 }
 
-/// A section, with the names of its segment and its own.
+/// A section.
 #[derive(Clone, Copy)]
 pub struct MachoSection<'a> {
+    /// The name of its segment.
     pub segment: &'a [u8],
+    /// Its own name.
     pub name: &'a [u8],
+    /// Its virtual address.
     pub addr: u64,
+    /// Its size in bytes.
     pub size: u64,
+    /// Its file offset.
     pub offset: u32,
     /// S_ZEROFILL is 1.
     pub flags: u32,
@@ -28,18 +35,26 @@ pub struct MachoSection<'a> {
 /// A segment, with its sections.
 #[derive(Clone, Copy)]
 pub struct MachoSegment<'a> {
+    /// Its name.
     pub name: &'a [u8],
+    /// Its virtual address.
     pub vaddr: u64,
+    /// Its size in memory, in bytes.
     pub memsz: u64,
+    /// Its file offset.
     pub offset: u64,
+    /// Its size in the file, in bytes.
     pub filesz: u64,
+    /// Its maximum and its initial protection. VM_PROT_READ is 1, VM_PROT_WRITE is 2, VM_PROT_EXECUTE is 4.
     pub access: u32,
+    /// Its sections.
     pub sections: &'a [MachoSection<'a>],
 }
 
 /// A load command.
 #[derive(Clone, Copy)]
 pub enum Command<'a> {
+    /// LC_SEGMENT or LC_SEGMENT_64, by the class.
     Segment(MachoSegment<'a>),
     /// LC_SYMTAB: offset and count of the symbols, offset and size of the strings.
     Symbols([u32; 4]),
@@ -49,7 +64,7 @@ pub enum Command<'a> {
     DyldInfo([u32; 10]),
     /// LC_CODE_SIGNATURE: offset and size.
     Signature([u32; 2]),
-    /// LC_UUID: each of its bytes.
+    /// LC_UUID: the value of each of the 16 bytes.
     Uuid(u8),
 }
 
@@ -146,7 +161,7 @@ fn header(alloc: Global, head: MachoHead, count: usize, commands: &Numbers) -> N
     header
 }
 
-/// A file of so many bytes: its header, the commands, and zeros after them, with these bytes at these offsets.
+/// A file of `len` bytes: its header, the commands, and zeros after them, with these bytes at these offsets.
 pub fn macho_file(
     alloc: Global,
     head: MachoHead,

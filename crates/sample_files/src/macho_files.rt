@@ -25,7 +25,7 @@ const ZERO: MachoSegment<'static> = MachoSegment {
 };
 
 /// A program of 64 bits, 4,152 bytes: a segment without access, one with 16 bytes of code at 2048, one for the link
-/// editor, and three symbols at 4096, of which the first is for a debugger.
+/// editor, and three symbols at 4096. The first symbol is for a debugger.
 pub fn macho_program(alloc: Global) -> Result<Vec<u8>, AllocError> {
     const TEXT: u64 = 0x1_0000_0000;
     const CODE: [MachoSection<'static>; 1] = [MachoSection {
@@ -166,7 +166,7 @@ pub fn macho_object(alloc: Global) -> Result<Vec<u8>, AllocError> {
     macho_file(alloc, head, &[Command::Segment(segment)], 272, &[])
 }
 
-/// A library of 256 bytes: its link-edit parts, the last of which passes the file's end.
+/// A library of 256 bytes with link-edit parts. The last part passes the file's end.
 pub fn macho_library(alloc: Global) -> Result<Vec<u8>, AllocError> {
     let commands = [
         Command::DyldInfo([176, 8, 184, 8, 0, 0, 192, 8, 200, 8]),

@@ -5,7 +5,9 @@ use std::alloc::{AllocError, Global};
 /// The width of a file's addresses.
 #[derive(Clone, Copy, PartialEq, Eq)]
 pub enum Class {
+    /// 32 bits.
     Bits32,
+    /// 64 bits.
     Bits64,
 }
 
@@ -19,10 +21,12 @@ impl Class {
     }
 }
 
-/// Which byte of a number comes first: the least or the greatest.
+/// The byte order.
 #[derive(Clone, Copy, PartialEq, Eq)]
 pub enum Order {
+    /// The least significant byte comes first.
     Little,
+    /// The most significant byte comes first.
     Big,
 }
 
@@ -36,6 +40,7 @@ pub struct Numbers {
 }
 
 impl Numbers {
+    /// No bytes yet. Numbers are written for this class and in this order.
     pub fn new(alloc: Global, class: Class, order: Order) -> Numbers {
         Numbers {
             class,
@@ -50,11 +55,12 @@ impl Numbers {
         u32::try_from(self.bytes.len()).unwrap_or(u32::MAX)
     }
 
+    /// Whether there are no bytes.
     pub fn is_empty(&self) -> bool {
         self.bytes.is_empty()
     }
 
-    /// The bytes, if each write got its memory.
+    /// The bytes. `AllocError` if a write got no memory.
     pub fn bytes(&self) -> Result<&[u8], AllocError> {
         if self.out_of_memory {
             return Err(AllocError);
@@ -62,7 +68,7 @@ impl Numbers {
         Ok(&self.bytes)
     }
 
-    /// The bytes, if each write got its memory.
+    /// The bytes. `AllocError` if a write got no memory.
     pub fn finish(self) -> Result<Vec<u8>, AllocError> {
         if self.out_of_memory {
             return Err(AllocError);
@@ -70,18 +76,20 @@ impl Numbers {
         Ok(self.bytes)
     }
 
+    /// Appends these bytes.
     pub fn text(&mut self, text: &[u8]) {
         if self.bytes.extend_from_slice(text).is_err() {
             self.out_of_memory = true;
         }
     }
 
-    /// A text with the zero byte that ends it.
+    /// Appends a text with the zero byte that ends it.
     pub fn name(&mut self, name: &[u8]) {
         self.text(name);
         self.text(&[0]);
     }
 
+    /// Appends `count` zero bytes.
     pub fn zeros(&mut self, count: usize) {
         for _ in 0..count {
             if self.bytes.push(0).is_err() {
@@ -90,7 +98,7 @@ impl Numbers {
         }
     }
 
-    /// A number of 2 bytes.
+    /// Appends a number of 2 bytes.
     pub fn half(&mut self, x: u16) {
         match self.order {
             Order::Little => self.text(&x.to_le_bytes()),
@@ -98,13 +106,14 @@ impl Numbers {
         }
     }
 
+    /// Appends numbers of 2 bytes.
     pub fn halves(&mut self, numbers: &[u16]) {
         for x in numbers {
             self.half(*x);
         }
     }
 
-    /// A number of 4 bytes.
+    /// Appends a number of 4 bytes.
     pub fn word(&mut self, x: u32) {
         match self.order {
             Order::Little => self.text(&x.to_le_bytes()),
@@ -112,6 +121,7 @@ impl Numbers {
         }
     }
 
+    /// Appends numbers of 4 bytes.
     pub fn words(&mut self, numbers: &[u32]) {
         for x in numbers {
             self.word(*x);
@@ -126,7 +136,7 @@ impl Numbers {
         }
     }
 
-    /// A number of 4 or 8 bytes, by the class.
+    /// Appends a number of 4 or 8 bytes, by the class.
     pub fn address(&mut self, x: u64) {
         match self.class {
             Class::Bits32 => self.word(u32::try_from(x).unwrap_or(u32::MAX)),
@@ -134,13 +144,14 @@ impl Numbers {
         }
     }
 
+    /// Appends numbers of 4 or 8 bytes, by the class.
     pub fn addresses(&mut self, numbers: &[u64]) {
         for x in numbers {
             self.address(*x);
         }
     }
 
-    /// Pairs of addresses.
+    /// Appends pairs of addresses.
     pub fn pairs(&mut self, pairs: &[(u64, u64)]) {
         for (first, second) in pairs {
             self.address(*first);
@@ -148,13 +159,13 @@ impl Numbers {
         }
     }
 
-    /// Other numbers.
+    /// Appends the bytes of other numbers.
     pub fn all(&mut self, others: &Numbers) {
         self.text(&others.bytes);
         self.out_of_memory = self.out_of_memory || others.out_of_memory;
     }
 
-    /// Other numbers after the count of their bytes.
+    /// Appends the length of other numbers in bytes, and then their bytes.
     pub fn counted(&mut self, others: &Numbers) {
         self.word(others.len());
         self.all(others);

@@ -10,7 +10,8 @@ use crate::macho::{
 use crate::numbers::{Class, Order};
 use std::alloc::{AllocError, Global};
 
-// A note of 20 bytes: the name `GNU`, the type NT_GNU_BUILD_ID, and a build ID of four bytes that ends so.
+// A note of 20 bytes: the name `GNU`, the type NT_GNU_BUILD_ID, and a build ID of four bytes, the last of which is
+// `last`.
 fn build_id(last: u8) -> [u8; 20] {
     let [a, b, c] = [0xaa, 0xbb, 0xcc];
     [
@@ -61,8 +62,8 @@ fn debug_sections<'a>(id: &'a [u8], symbols: &'a [u8], names: u32) -> [Section<'
     [NULL, EMPTY_TEXT, note(id), table, STRINGS, NAMES]
 }
 
-/// A debug file, whose build ID ends so, with a function `f` of 12 bytes where `.text` begins; the bytes of `.text` are
-/// in another file. The names of the symbols are those of section `names`, which is 4.
+/// A debug file, whose build ID ends in the byte `last`, with a function `f` of 12 bytes where `.text` begins. The
+/// bytes of `.text` are in another file. The names of the symbols are in section `names`. It is 4 in a sound file.
 pub fn debug_file(alloc: Global, last: u8, names: u32) -> Result<Vec<u8>, AllocError> {
     let f = Symbol {
         name: 1,

@@ -1,6 +1,6 @@
-//! One run of the whole tool over files and sinks in memory, and whether it ended and wrote as it should. It has no
-//! contracts: the tests say how the runs end. A library can't assert, since only tests may abort, so a test asserts
-//! `is_report` or `is_end` itself.
+//! One run of the whole tool over files and sinks in memory, and checks of how it ended and what it wrote. The crate
+//! has no contracts: each test states how its run ends. A library can't assert, since only tests may abort, so a test
+//! asserts `is_report` or `is_end` itself.
 #![tactic(auto)]
 
 mod runs;
@@ -12,15 +12,20 @@ pub use runs::{COMMAND, is_end, is_report};
 use size_core::{FULL, Limits, NoMemory};
 use std::alloc::Global;
 
-/// The devices of a run, and its limits: which reads fail, which patterns are refused for their size, how many bytes
-/// the output takes in a call, and which of its writes, and of those of the error line, fail.
+/// How the devices of a run fail, and the limits of the run. Calls are counted from 1.
 #[derive(Drop)]
 pub struct Devices {
+    /// The numbers of the reads that fail.
     pub failing_reads: Vec<u64>,
+    /// The numbers of the patterns that are refused for their size, in the order in which they are compiled.
     pub refused_patterns: Vec<u64>,
+    /// The most bytes that the output takes in a call.
     pub take: usize,
+    /// The numbers of the writes to the output that fail.
     pub failing_writes: Vec<u64>,
+    /// The numbers of the writes to the error output that fail.
     pub failing_lines: Vec<u64>,
+    /// The limits of the run.
     pub limits: Limits,
 }
 
@@ -42,8 +47,11 @@ pub fn sound(alloc: Global) -> Devices {
 /// How a run ended, and what it wrote.
 #[derive(Drop)]
 pub struct Ran {
+    /// The outcome.
     pub outcome: Outcome,
+    /// The bytes on the output.
     pub out: Vec<u8>,
+    /// The bytes on the error output.
     pub err: Vec<u8>,
 }
 

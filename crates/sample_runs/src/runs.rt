@@ -1,4 +1,4 @@
-//! The arguments that many runs share, and whether a run ended and wrote as it should.
+//! The arguments that many runs share, and checks of how a run ended and what it wrote.
 
 use crate::Ran;
 use bloaty_engine::Outcome;
@@ -34,7 +34,7 @@ pub fn is_report(ran: &Ran, lines: &[&str]) -> bool {
     ran.outcome == Outcome::Done && are_lines(&ran.out, lines) && ran.err.is_empty()
 }
 
-/// Whether the run ends so, with this status and this line, and wrote nothing.
+/// Whether the run ends with this outcome, this status and this line, and wrote nothing to the output.
 pub fn is_end(ran: &Ran, outcome: Outcome, status: u8, line: &str) -> bool {
     ran.outcome == outcome
         && ran.outcome.status() == status

@@ -29,7 +29,7 @@ both : (r s : Check) → (r >> s) ≡ Ok tt → (r ≡ Ok tt) × (s ≡ Ok tt)
 both (Ok x) s h = (refl, h)
 both (Err e) s h = cc
 
--- If all checks hold, each of them does.
+-- If the checks of count numbers hold together, the check of each of these numbers holds.
 pub each_at : (check : ℕ → Check) (count i k : ℕ) → each check i count ≡ Ok tt → i ≤ k → k < i + count → check k ≡ Ok tt
 unfolding each
 each_at check zero i k h low high = absurd (omega arith)

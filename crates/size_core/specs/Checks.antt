@@ -19,7 +19,7 @@ abbrev pub ◌>>◌ : {A B : Type 0} → Result A BadFile → Result B BadFile �
 abbrev pub bad : {X : Type 0} → Fault → ℕ → Result X BadFile
 bad fault offset = Err (record { fault = fault; offset = offset })
 
--- The function returned what the definition says, with its result seen through view.
+-- A function returned what its definition gives: the value, seen through `view`, or the fault.
 abbrev pub Gives : {X Y E : Type 0} → (X → Y) → Result X E → Result Y E → Type 0
 Gives view (Ok x) answer = answer ≡ Ok (view x)
 Gives view (Err e) answer = answer ≡ Err e

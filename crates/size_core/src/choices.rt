@@ -14,8 +14,11 @@ pub enum Sort {
 /// Which sizes a report shows.
 #[derive(Clone, Copy, Debug, PartialEq, Eq, Hash)]
 pub enum Domain {
+    /// The VM size only.
     Vm,
+    /// The file size only.
     File,
+    /// Both sizes.
     Both,
 }
 

@@ -11,16 +11,18 @@ pub enum Side {
     Both,
 }
 
-/// A range of `len` bytes that begins at `start`. `start` is a virtual address in the address space `space`, or
-/// a file offset, and then `space` is 0.
+/// A range of addresses or of file offsets.
 #[derive(Clone, Copy, Debug, PartialEq, Eq, Hash)]
 pub struct Span {
+    /// The address space of a virtual address. It is 0 for a file offset.
     pub space: u32,
+    /// The first virtual address, or the first file offset.
     pub start: u64,
+    /// The length in bytes.
     pub len: u64,
 }
 
-/// A claim: the label that a data source gives a range of bytes. A span that the side doesn't use is all zero.
+/// A claim: the label that a data source gives a range of bytes. A span that the side doesn't use has only zeros.
 #[derive(Clone, Copy, Debug, PartialEq, Eq, Hash)]
 pub struct Claim {
     /// Which of the two spans the claim names.
@@ -37,9 +39,14 @@ pub struct Claim {
 /// come from the file, from the offset `offset`.
 #[derive(Clone, Copy, Debug, PartialEq, Eq, Hash)]
 pub struct Load {
+    /// The address space of `vaddr`.
     pub space: u32,
+    /// The first virtual address.
     pub vaddr: u64,
+    /// The size in memory, in bytes.
     pub memsz: u64,
+    /// The file offset of the first byte.
     pub offset: u64,
+    /// The size in the file, in bytes.
     pub filesz: u64,
 }

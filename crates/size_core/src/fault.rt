@@ -29,19 +29,19 @@ pub enum Fault {
     RangeOverflow,
     /// A Mach-O load command has a wrong size.
     BadCommand,
-    /// A LEB128 number is too large.
+    /// A LEB128 number is too large, or has too many bytes.
     BadLeb,
-    /// A WebAssembly import or code entry can't be read.
+    /// An import or a code entry of a WebAssembly module, or their count, can't be read.
     BadWasm,
     /// The data source isn't available for this kind of file.
     SourceNotForFile,
     /// A debug section is compressed.
     CompressedDebugInfo,
-    /// A DWARF unit's length or header is wrong.
+    /// The header of a DWARF unit is wrong, or the length of a unit, an address set or a line program.
     BadUnit,
     /// A unit's root refers to an abbreviation that isn't declared.
     BadAbbrev,
-    /// A DWARF form is unknown.
+    /// A DWARF form is unknown, or isn't allowed where it is.
     UnknownForm,
     /// A DWARF offset or index is outside its section.
     OffsetOutside,

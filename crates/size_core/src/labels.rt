@@ -1,19 +1,40 @@
 //! A pool of labels, each with a number.
 
 ghost use Rattle.std.specs.Prelude.{◌≡◌, ◌<◌, [], Some, IfOk, OnErr, length, slice_get};
+ghost use Rattle.indexmap.specs.IndexSet.{IsUnchanged, IsUnique};
 ghost use Rattle.std.specs.List.{IsDistinct};
 ghost use Rattle.std.specs.Str.{bytes_eq};
 ghost use Rattle.size_core.specs.Labels.{with_label};
 
+use crate::label_hasher::LabelHasher;
 use crate::memory::NoMemory;
 use indexmap::IndexSet;
-use std::alloc::Global;
+use std::alloc::{AllocError, Global};
+use std::hash::BuildHasherDefault;
 use std::marker::Model;
+
+type Labels = IndexSet<Vec<u8>, BuildHasherDefault<LabelHasher>>;
+
+// A full set of fewer labels than this gets room for four times as many, so that labels are seldom hashed again. A larger
+// set doubles by itself.
+const FEW_LABELS: usize = 1 << 20;
+
+// Makes room in a full set of few labels.
+fn make_room(labels: &mut Labels) -> Result<(), AllocError>
+    ensures same { IsUnchanged labels.old labels.new }
+    ensures unique { IsUnique (λ x y. bytes_eq x.items y.items) labels.new }
+{
+    let len = labels.len();
+    if len < labels.capacity() || len >= FEW_LABELS {
+        return Ok(());
+    }
+    labels.reserve(3 * len + 1)
+}
 
 /// Distinct labels and their numbers, in the order of insertion.
 #[derive(Drop)]
 pub struct LabelPool {
-    labels: IndexSet<Vec<u8>>,
+    labels: Labels,
     alloc: Global,
 }
 
@@ -35,7 +56,7 @@ impl LabelPool {
         ensures { result ≡ [] }
     {
         LabelPool {
-            labels: IndexSet::new(alloc),
+            labels: IndexSet::with_hasher(alloc, BuildHasherDefault::new()),
             alloc,
         }
     }
@@ -55,6 +76,7 @@ impl LabelPool {
         ensures number { IfOk result (λ i. slice_get self.new i ≡ Some label.now) }
         ensures err { OnErr result (self.new ≡ self.old) }
     {
+        make_room(&mut self.labels)?;
         if let Some((index, _)) = self.labels.get_full(label) {
             return Ok(index);
         }

@@ -5,6 +5,7 @@
 mod choices;
 mod claim;
 mod fault;
+mod label_hasher;
 mod labels;
 mod limits;
 mod list;

@@ -5,12 +5,19 @@ ghost use Rattle.std.specs.Prelude.{◌≡◌};
 /// A built-in data source: it labels the bytes of a file.
 #[derive(Clone, Copy, Debug, PartialEq, Eq, Hash)]
 pub enum Source {
+    /// `segments`: the parts of the file that are loaded, or the sections of a WebAssembly module.
     Segments,
+    /// `sections`: the sections.
     Sections,
+    /// `symbols`: the symbols, or the functions of a WebAssembly module.
     Symbols,
+    /// `rawsymbols`: the same as `symbols`.
     RawSymbols,
+    /// `compileunits`: the compile units of the debug information.
     CompileUnits,
+    /// `inlines`: the source lines of the debug information.
     Inlines,
+    /// `inputfiles`: the name of the file.
     InputFiles,
 }
 

@@ -13,7 +13,9 @@ use std::cmp::Ordering;
 /// How many rows of each rollup have been processed.
 #[derive(Clone, Copy, Debug)]
 pub struct Processed {
+    /// How many rows of the new files.
     pub new: usize,
+    /// How many rows of the base files.
     pub base: usize,
 }
 

@@ -19,10 +19,15 @@ use std::cmp::Reverse;
 /// label, which is the order of the paths.
 #[derive(Clone, Copy, PartialEq, Eq, PartialOrd, Ord, Debug)]
 pub struct Group {
+    /// The sort key: the shown difference that rows are sorted by.
     pub key: Reverse<u64>,
+    /// The index of the first path.
     pub from: usize,
+    /// The index after the last path.
     pub to: usize,
+    /// Whether this is one label, or the labels that a limit leaves out.
     pub kind: Kind,
+    /// The sums of the sizes in bytes.
     pub sizes: GrowthSizes,
 }
 

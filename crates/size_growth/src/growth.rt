@@ -47,10 +47,12 @@ impl GrowthSizes {
     }
 }
 
-/// A path with its sizes. The path has one label for each requested data source.
+/// A path with its sizes.
 #[derive(Debug, Drop)]
 pub struct GrowthPath {
+    /// The path. It has one label for each requested data source.
     pub path: Path,
+    /// The sizes of the path in bytes.
     pub sizes: GrowthSizes,
 }
 

@@ -17,7 +17,9 @@ pub enum GrowthKind {
 pub struct GrowthRow {
     /// The row's level. The first level is 0.
     pub level: u32,
+    /// The row's label, or how many labels it stands for.
     pub kind: GrowthKind,
+    /// The row's sizes in the new files and in the base files.
     pub sizes: GrowthSizes,
 }
 
@@ -29,6 +31,8 @@ pub type GrowthRows = List<GrowthRow>;
 pub struct GrowthTree {
     /// The number of levels: one for each data source.
     pub depth: u32,
+    /// The total sizes of the new files and of the base files, in bytes.
     pub sizes: GrowthSizes,
+    /// The rows of all levels.
     pub rows: GrowthRows,
 }

@@ -1,4 +1,4 @@
--- The labels of tidy pieces, and that a labelling has exactly one list of tidy pieces.
+-- The labels of tidy pieces, and that a labelling has at most one list of tidy pieces.
 use Rattle.std.proofs.Common.{◌≡◌, ◌<◌, ◌≤◌, ℕ, zero, suc, Bool, true, false, cond, IsTrue, List, [], ◌∷◌, Option, None, Some, length, get_or, refl, sym, ap, ◌∙◌, inl, inr, ◌⊎◌, arith}
 use Rattle.std.specs.Prelude.{Any, Contains}
 use Rattle.std.proofs.lemmas.Bool.{cases_lt}

@@ -1,4 +1,4 @@
--- Labelled ranges of positions, and the one sorted list of pieces that a labelling has.
+-- Labelled ranges of positions, and the sorted list of pieces that a labelling has: its cut.
 use Rattle.std.specs.Prelude.{◌≡◌, ◌≢◌, ◌+◌, ◌<◌, ◌≤◌, ℕ, Bool, false, ◌&&◌, ◌||◌, ◌==◌, nat_le, nat_lt, if◌then◌else◌, List, [], ◌∷◌, Option, None, Some}
 use Rattle.size_model.specs.declared.piece.Piece.{Piece}
 use Rattle.size_model.specs.Count.{count_from}

@@ -9,7 +9,7 @@ use Rattle.size_model.specs.Cut.{has, IsTidy, IsCut, IsLaid, place_count}
 use Rattle.size_model.specs.Loads.{load_has_address, space_of, address_of, is_mapped, mapped_count}
 use Rattle.size_model.specs.Sizes.{label_of_offset, label_of_address, counts_for, file_size, vm_size, vm_size_in, with_rewriting}
 
--- A labelling has exactly one cut.
+-- A labelling has at most one cut: the contract of `cut_is_unique`.
 abbrev pub CutIsUnique : Type 0
 CutIsUnique = (labelling : ℕ → Option ℕ) (ps qs : List Piece) → IsCut labelling ps → IsCut labelling qs → ps ≡ qs
 
@@ -23,11 +23,11 @@ pub record HasLabels (labelling : ℕ → Option ℕ) (ps : List Piece) : Type 0
 abbrev pub CutHasLabels : Type 0
 CutHasLabels = (labelling : ℕ → Option ℕ) (ps : List Piece) → IsCut labelling ps → HasLabels labelling ps
 
--- When a range is added to tidy pieces, pieces begin or end at two more positions at most.
+-- Adding a range to tidy pieces adds at most two positions at which a piece begins or ends.
 abbrev pub RangeAddsTwoPlaces : Type 0
 RangeAddsTwoPlaces = (old new : List Piece) (range : Piece) (n : ℕ) → IsTidy old → IsLaid (old ++ range ∷ []) new → place_count new n ≤ place_count old n + 2
 
--- Two paths of the same length that count the same byte are the same path.
+-- If the path of a byte counts for two prefixes of the same length, they are the same prefix.
 abbrev pub EachByteCountsOnce : Type 0
 EachByteCountsOnce =
     (filter : Option (List ℕ → Bool)) (path p q : List (List ℕ)) → length p ≡ length q → IsTrue (counts_for filter p path) → IsTrue (counts_for filter q path) → p ≡ q
@@ -87,6 +87,6 @@ pub record RewritesLabels (rewritten : List ℕ → List ℕ) (f : FileView) (s 
   pub offset : (o : ℕ) → label_of_offset f o (with_rewriting rewritten s) ≡ rewritten (label_of_offset f o s)
   pub address : (space x : ℕ) → label_of_address f space x (with_rewriting rewritten s) ≡ rewritten (label_of_address f space x s)
 
--- Rewriting changes the labels of offsets and addresses: the contract of `rewriting_is_by_label`.
+-- Rewriting the labels of a data source rewrites the label of each byte: the contract of `rewriting_is_by_label`.
 abbrev pub RewritingIsByLabel : Type 0
 RewritingIsByLabel = (rewritten : List ℕ → List ℕ) (f : FileView) (s : SourceView) → RewritesLabels rewritten f s

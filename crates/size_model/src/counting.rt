@@ -1,4 +1,5 @@
-//! Paths and sizes in the plain program, which visits each offset and each mapped address.
+//! The part of the plain program (see `plain`) that finds paths and sizes. It visits each file offset and each mapped
+//! address.
 
 ghost use Rattle.std.specs.Prelude.{◌≡◌, ◌<◌, ◌&&◌, ℕ, not, Bool, List, Some, map, take, length, slice_get, option_map, IfOk};
 ghost use Rattle.std.specs.List.{list_any, starts_with};
@@ -144,7 +145,7 @@ fn counts_first<T: LabelTest>(
     Ok(counts_for(filter, prefix, &path))
 }
 
-// Returns how many addresses count for a prefix, of those that load `i` is the first to cover. Only
+// Returns how many addresses of load `i` count for a prefix. Addresses that an earlier load covers are left out. Only
 // addresses below 2^64 are visited, even if the load ends past it.
 fn size_of_load<T: LabelTest>(
     alloc: Global,

@@ -2,7 +2,8 @@
 
 ghost use Rattle.size_model.specs.Laws.{CutIsUnique, CutHasLabels, RangeAddsTwoPlaces, EachByteCountsOnce, SizesAddUp, TotalsAreWhole, TwiceCoveredCountsOnce, RewritingIsByLabel};
 
-/// A labelling has exactly one cut.
+/// A labelling has at most one cut: sorted and disjoint pieces that give each position its label, where touching
+/// pieces differ in label.
 pub fn cut_is_unique()
     ensures { CutIsUnique }
 {}
@@ -13,13 +14,12 @@ pub fn cut_has_labels()
     ensures { CutHasLabels }
 {}
 
-/// When a range is added to the pieces of a cut, pieces of the new cut begin or end at two more positions
-/// at most.
+/// Adding a range to the pieces of a cut adds at most two positions at which a piece begins or ends.
 pub fn range_adds_two_places()
     ensures { RangeAddsTwoPlaces }
 {}
 
-/// A byte counts for one path of each length. So two rows of the same level never count the same byte.
+/// A byte counts for at most one path of each length. So two rows of the same level never count the same byte.
 pub fn each_byte_counts_once()
     ensures { EachByteCountsOnce }
 {}

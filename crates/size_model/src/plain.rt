@@ -10,10 +10,12 @@ ghost use Rattle.size_model.specs.Sizes.{label_of_offset, label_of_address};
 use crate::view::{FileView, SourceView};
 use size_core::{Bytes, Claim, List, Load, Side, Span};
 
-/// The claims of a data source. The label of a byte that no claim covers has the number `unmapped`.
+/// A data source whose labels are numbers.
 #[derive(Clone, Copy)]
 pub struct NumberedSource<'c> {
+    /// The claims, in order.
     pub claims: &'c [Claim],
+    /// The number of the label of a byte that no claim covers.
     pub unmapped: usize,
 }
 
@@ -80,7 +82,7 @@ pub fn mapped(loads: &List<Load>, space: u32, address: u64) -> bool
 }
 
 /// Returns the space and the virtual address of an offset in a file of `len` bytes, by the first load that
-/// covers the offset. The address is 2^64 or more if the load ends past 2^64.
+/// covers the offset. `None` if no load covers it. The address can be 2^64 or more if the load ends past 2^64.
 pub fn addr(len: u64, loads: &List<Load>, offset: u64) -> Option<(u32, u128)>
     ensures { result ≡ addr len loads.now offset }
 {
@@ -97,7 +99,7 @@ pub fn addr(len: u64, loads: &List<Load>, offset: u64) -> Option<(u32, u128)>
 }
 
 /// Returns the file offset of an address of a space in a file of `len` bytes, by the first load that covers
-/// the address.
+/// the address. `None` if no load covers it, or if that load has no byte of the file there.
 pub fn place(len: u64, loads: &List<Load>, space: u32, address: u64) -> Option<u64>
     ensures { result ≡ place len loads.now space address }
 {

@@ -2,7 +2,7 @@
 
 use size_core::{Bytes, List, Load, Side, Span};
 
-/// A claim that has the bytes of its label and not a number.
+/// A claim with the bytes of its label instead of the label's number.
 #[derive(Debug, Drop)]
 pub struct LabelledClaim {
     /// Which of the two spans the claim names.
@@ -15,17 +15,22 @@ pub struct LabelledClaim {
     pub label: Bytes,
 }
 
-/// The claims of one data source in order, and the label of a byte that no claim covers.
+/// One data source on a file.
 #[derive(Debug, Drop)]
 pub struct SourceView {
+    /// Its claims, in order.
     pub claims: List<LabelledClaim>,
+    /// The label of a byte that no claim covers.
     pub unmapped: Bytes,
 }
 
-/// A file of `len` bytes: its loads in order, and the requested data sources in order.
+/// A file, as its sizes are counted.
 #[derive(Debug, Drop)]
 pub struct FileView {
+    /// The length of the file in bytes.
     pub len: u64,
+    /// Its loads, in order.
     pub loads: List<Load>,
+    /// The requested data sources, in order.
     pub sources: List<SourceView>,
 }

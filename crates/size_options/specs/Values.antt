@@ -94,7 +94,7 @@ abbrev pub value_or : {X : Type 0} → (Text → Option X) → X → Option Text
 value_or read otherwise None = otherwise
 value_or read otherwise (Some t) = unwrap_or (read t) otherwise
 
--- The names, with the byte c before the first one.
+-- The names, with this byte before the first one.
 abbrev pub begun_by : ℕ → List Text → List Text
 begun_by c [] = (c ∷ []) ∷ []
 begun_by c (name ∷ names) = (c ∷ name) ∷ names

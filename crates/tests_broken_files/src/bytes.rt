@@ -7,7 +7,7 @@ use std::alloc::Global;
 use std::process::Abort;
 use std::test::Fail;
 
-// Nothing, all ones, the highest bit alone, and the value of the next byte.
+// The values that a byte gets: 0, 255, 128, and the value of the byte after it.
 fn values(whole: &[u8], place: usize) -> [u8; 4] {
     let next = whole.get(place.wrapping_add(1)).copied().unwrap_or(0);
     [0, 0xff, 0x80, next]
@@ -39,7 +39,7 @@ fn assert_bytes(rt: &impl Abort, alloc: Global, subject: Subject) -> Result<(), 
 
 #[test]
 fn bytes_of_elf_files(rt: HostRuntime) -> Result<(), Fail> {
-    for subject in ELF {
+    for &subject in &ELF {
         assert_bytes(&rt, rt.alloc(), subject)?;
     }
     Ok(())
@@ -47,7 +47,7 @@ fn bytes_of_elf_files(rt: HostRuntime) -> Result<(), Fail> {
 
 #[test]
 fn bytes_of_macho_files(rt: HostRuntime) -> Result<(), Fail> {
-    for subject in MACHO {
+    for &subject in &MACHO {
         assert_bytes(&rt, rt.alloc(), subject)?;
     }
     Ok(())
@@ -55,7 +55,7 @@ fn bytes_of_macho_files(rt: HostRuntime) -> Result<(), Fail> {
 
 #[test]
 fn bytes_of_modules(rt: HostRuntime) -> Result<(), Fail> {
-    for subject in WASM {
+    for &subject in &WASM {
         assert_bytes(&rt, rt.alloc(), subject)?;
     }
     Ok(())
@@ -63,7 +63,7 @@ fn bytes_of_modules(rt: HostRuntime) -> Result<(), Fail> {
 
 #[test]
 fn bytes_of_older_units(rt: HostRuntime) -> Result<(), Fail> {
-    for subject in OLDER_UNITS {
+    for &subject in &OLDER_UNITS {
         assert_bytes(&rt, rt.alloc(), subject)?;
     }
     Ok(())
@@ -71,7 +71,7 @@ fn bytes_of_older_units(rt: HostRuntime) -> Result<(), Fail> {
 
 #[test]
 fn bytes_of_units_of_dwarf_5(rt: HostRuntime) -> Result<(), Fail> {
-    for subject in UNITS_OF_DWARF_5 {
+    for &subject in &UNITS_OF_DWARF_5 {
         assert_bytes(&rt, rt.alloc(), subject)?;
     }
     Ok(())
@@ -79,7 +79,7 @@ fn bytes_of_units_of_dwarf_5(rt: HostRuntime) -> Result<(), Fail> {
 
 #[test]
 fn bytes_of_units_in_macho_files(rt: HostRuntime) -> Result<(), Fail> {
-    for subject in UNITS_OF_MACHO {
+    for &subject in &UNITS_OF_MACHO {
         assert_bytes(&rt, rt.alloc(), subject)?;
     }
     Ok(())

@@ -19,7 +19,7 @@ fn assert_cuts(rt: &impl Abort, alloc: Global, subject: Subject) -> Result<(), F
 
 #[test]
 fn cut_elf_files(rt: HostRuntime) -> Result<(), Fail> {
-    for subject in ELF {
+    for &subject in &ELF {
         assert_cuts(&rt, rt.alloc(), subject)?;
     }
     Ok(())
@@ -27,7 +27,7 @@ fn cut_elf_files(rt: HostRuntime) -> Result<(), Fail> {
 
 #[test]
 fn cut_macho_files(rt: HostRuntime) -> Result<(), Fail> {
-    for subject in MACHO {
+    for &subject in &MACHO {
         assert_cuts(&rt, rt.alloc(), subject)?;
     }
     Ok(())
@@ -35,7 +35,7 @@ fn cut_macho_files(rt: HostRuntime) -> Result<(), Fail> {
 
 #[test]
 fn cut_modules(rt: HostRuntime) -> Result<(), Fail> {
-    for subject in WASM {
+    for &subject in &WASM {
         assert_cuts(&rt, rt.alloc(), subject)?;
     }
     Ok(())
@@ -43,13 +43,13 @@ fn cut_modules(rt: HostRuntime) -> Result<(), Fail> {
 
 #[test]
 fn cut_files_with_units(rt: HostRuntime) -> Result<(), Fail> {
-    for subject in OLDER_UNITS {
+    for &subject in &OLDER_UNITS {
         assert_cuts(&rt, rt.alloc(), subject)?;
     }
-    for subject in UNITS_OF_DWARF_5 {
+    for &subject in &UNITS_OF_DWARF_5 {
         assert_cuts(&rt, rt.alloc(), subject)?;
     }
-    for subject in UNITS_OF_MACHO {
+    for &subject in &UNITS_OF_MACHO {
         assert_cuts(&rt, rt.alloc(), subject)?;
     }
     Ok(())

@@ -49,8 +49,8 @@ fn assert_refused(rt: &impl Abort, ran: &Ran, status: u8, line: &str, harm: Harm
     assert!(rt; ran.err.as_slice() == line.as_bytes(), "{harm:?}");
 }
 
-// The run ends with the report of a file of so many bytes, with the one line of its fault, or with that of addresses
-// that are too many.
+// The run ends with the report of a file of `len` bytes, with the line of its fault, or with the line for a mapped
+// size that is too large.
 fn assert_ended(
     rt: &impl Abort,
     alloc: Global,
@@ -80,8 +80,8 @@ fn assert_same(rt: &impl Abort, ran: &Ran, again: &Ran, harm: Harm) {
     assert!(rt; again.err.as_slice() == ran.err.as_slice(), "{harm:?}");
 }
 
-/// Runs the data sources of a list over the harmed file twice, and gives the outcome. The first run ends as it should,
-/// and the second one does the same.
+/// Runs the data sources of a list over the harmed file twice, and returns the outcome. The first run ends with a
+/// report or with one line. The second run has the same outcome and the same output.
 pub fn assert_ends(
     rt: &impl Abort,
     alloc: Global,

@@ -1,6 +1,7 @@
 //! The sizes of a report, added up.
 
-/// Where a report is read: whether in a quoted label, the number of the field, and the sum of the lines before.
+/// The state after some bytes of a report: whether the next byte is in a quoted label, the number in the current
+/// field, and the sum over the lines before.
 #[derive(Clone, Copy)]
 struct Place {
     is_quoted: bool,
@@ -8,7 +9,7 @@ struct Place {
     sum: u64,
 }
 
-// What comes after a byte. The digits of a label make a number too, which its end drops.
+// The state after a byte. The digits of a label make a number too, which is dropped at the end of the label.
 fn after(place: Place, byte: u8) -> Place {
     match byte {
         b'"' => Place {

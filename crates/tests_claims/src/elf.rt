@@ -31,7 +31,7 @@ const PLAIN_FILE_BYTES: [(usize, &[u8]); 15] = [
     (400, b"\xa8\0\0\0\0\0\0\0\x09"),
 ];
 
-/// One load, the section `.text`, and a table of symbols whose second one, at 144, is the function `f`.
+/// One load, the section `.text`, and a symbol table whose second symbol, at 144, is the function `f`.
 fn plain_file() -> [u8; 440] {
     let mut file = [0; 440];
     put_all(&mut file, &PLAIN_FILE_BYTES);
@@ -127,12 +127,12 @@ fn claims_symbol(rt: &impl Abort, alloc: Global, at: usize, bytes: &[u8]) -> boo
 
 /// What is written over which bytes, and whether the function's symbol still claims bytes.
 const SYMBOLS: [(usize, &[u8], bool); 7] = [
-    // Of no type, of data, of a function that gives the one to call, and of a section.
+    // Of types STT_NOTYPE, STT_OBJECT, STT_GNU_IFUNC and STT_SECTION.
     (148, b"\x10", true),
     (148, b"\x11", true),
     (148, b"\x1a", true),
     (148, b"\x13", false),
-    // In a table of symbols that are bound at run time.
+    // In a table of type SHT_DYNSYM.
     (316, b"\x0b", true),
     // In the last section that isn't reserved, and in the first that is.
     (150, b"\xff\xfe", true),
@@ -142,7 +142,7 @@ const SYMBOLS: [(usize, &[u8], bool); 7] = [
 #[test]
 fn symbols_that_claim_bytes(rt: HostRuntime) {
     let alloc = rt.alloc();
-    for (at, bytes, is_claim) in SYMBOLS {
+    for &(at, bytes, is_claim) in &SYMBOLS {
         let claims = claims_symbol(&rt, alloc, at, bytes);
         assert_eq!(rt; claims, is_claim, "{bytes:?} at {at}");
     }
@@ -230,7 +230,7 @@ fn assert_not_read(rt: &impl Abort, alloc: Global, at: usize, bytes: &[u8], bad:
 
 /// What is written over which bytes, and the fault with its offset.
 const UNREAD: [(usize, &[u8], Fault, u64); 3] = [
-    // SHF_COMPRESSED, the name of old, and a relocatable file.
+    // SHF_COMPRESSED, the older name for a compressed section, and a relocatable file.
     (264, b"\0\x08", Fault::CompressedDebugInfo, 256),
     (93, b".zdebug_line\0", Fault::CompressedDebugInfo, 320),
     (16, b"\x01", Fault::SourceNotForFile, 0),
@@ -239,7 +239,7 @@ const UNREAD: [(usize, &[u8], Fault, u64); 3] = [
 #[test]
 fn compressed_debug_sections_are_not_read(rt: HostRuntime) {
     let alloc = rt.alloc();
-    for (at, bytes, fault, offset) in UNREAD {
+    for &(at, bytes, fault, offset) in &UNREAD {
         assert_not_read(&rt, alloc, at, bytes, BadFile { fault, offset });
     }
 }

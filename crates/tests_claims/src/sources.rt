@@ -178,7 +178,7 @@ const DEBUG_FILE_BYTES: [(usize, &[u8]); 17] = [
     (536, b"\x68\0\0\0\0\0\0\0\x30\0\0\0\0\0\0\0\x03"),
 ];
 
-/// An ELF file with the unit `a.c` at 64, its abbreviations at 92, and a table of symbols whose second one, at 128, is
+/// An ELF file with the unit `a.c` at 64, its abbreviations at 92, and a symbol table whose second symbol, at 128, is
 /// the function `f`.
 fn debug_file() -> [u8; 576] {
     let mut file = [0; 576];

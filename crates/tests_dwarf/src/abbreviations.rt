@@ -2,9 +2,11 @@
 
 ghost use Rattle.std.specs.Prelude.{◌<◌, ◌≤◌, length};
 
+use crate::checks::{holds, same};
 use byte_cursor::{Cursor, Order};
-use dwarf_abbrev::{Abbrevs, Content, InitialLength, Spec, UnitShape, initial_length, read_form};
-use size_core::{BadFile, Fault};
+use dwarf_abbrev::{Abbrevs, Content, Spec, UnitShape, initial_length, read_form};
+use size_core::Fault;
+use std::process::Abort;
 
 /// How many bytes a form's value has.
 #[derive(Clone, Copy)]
@@ -28,9 +30,9 @@ fn width_in(width: Width, shape: &UnitShape) -> usize
     }
 }
 
-/// The forms of a fixed number of bytes, with what their values say: an Address, an index of an address (x), a
-/// Constant, an offset of a String, of a string of Line programs, an index of a string (i), a section oFfset, or
-/// nothing (-).
+/// The forms of a fixed number of bytes, with the kind of their values: an address (a), the index of an address (x),
+/// a constant (c), the offset of a string in `.debug_str` (s) or in `.debug_line_str` (l), the index of a string (i),
+/// a section offset (f), or a value that is skipped (-).
 const FIXED: [(u64, Width, char); 30] = [
     (0x01, Width::Address, 'a'),
     (0x05, Width::Fixed(2), 'c'),
@@ -64,7 +66,7 @@ const FIXED: [(u64, Width, char); 30] = [
     (0x1f21, Width::Offset, '-'),
 ];
 
-/// What a value says, as in the table, with its number.
+/// The kind of a value, as in the table, and its number.
 fn told(content: &Content) -> (char, u64) {
     match content {
         Content::Address(n) => ('a', *n),
@@ -77,6 +79,14 @@ fn told(content: &Content) -> (char, u64) {
         Content::ListIndex(n) => ('r', *n),
         Content::Other => ('-', 0),
         Content::Signed(_) | Content::Text(_) => ('?', 0),
+    }
+}
+
+/// What a reading returned, by the kind of the value.
+fn kind_of((value, place): (Result<Content<'_>, Fault>, u64)) -> (Result<(char, u64), Fault>, u64) {
+    match value {
+        Ok(content) => (Ok(told(&content)), place),
+        Err(fault) => (Err(fault), place),
     }
 }
 
@@ -154,33 +164,41 @@ const SHAPES: [UnitShape; 6] = [
     },
 ];
 
+/// The bytes 1 to 17.
+const COUNTED: &[u8; 17] = b"\x01\x02\x03\x04\x05\x06\x07\x08\x09\x0a\x0b\x0c\x0d\x0e\x0f\x10\x11";
+
+/// A value of this many bytes is read, and with a byte less it isn't.
+fn has_width(rt: &impl Abort, shape: &UnitShape, form: u64, width: usize, says: char)
+    requires { width ≤ 16 }
+{
+    let number = if says == '-' {
+        0
+    } else {
+        counted(width, shape.order)
+    };
+    let whole = kind_of(read(&COUNTED[..width + 1], form, 0, shape));
+    same(
+        rt,
+        &form,
+        &whole,
+        &(Ok((says, number)), 1000 + width as u64),
+    );
+    if width > 0 {
+        let cut = kind_of(read(&COUNTED[..width - 1], form, 0, shape));
+        same(rt, &form, &cut, &(Err(Fault::Truncated), 1000));
+    }
+}
+
 #[test]
 fn forms_of_a_fixed_size(rt: HostRuntime) {
-    let bytes = b"\x01\x02\x03\x04\x05\x06\x07\x08\x09\x0a\x0b\x0c\x0d\x0e\x0f\x10\x11";
-    for shape in SHAPES {
-        for (form, width, says) in FIXED {
-            let width = width_in(width, &shape);
-            let number = if says == '-' {
-                0
-            } else {
-                counted(width, shape.order)
-            };
-            let (value, place) = read(&bytes[..width + 1], form, 0, &shape);
-            assert!(rt; value.is_ok(), "{form}");
-            if let Ok(content) = value {
-                assert_eq!(rt; told(&content), (says, number), "{form}");
-            }
-            assert_eq!(rt; place, 1000 + width as u64);
-            if width > 0 {
-                let (value, place) = read(&bytes[..width - 1], form, 0, &shape);
-                assert!(rt; value == Err(Fault::Truncated), "{form}");
-                assert_eq!(rt; place, 1000);
-            }
+    for &shape in &SHAPES {
+        for &(form, width, says) in &FIXED {
+            has_width(&rt, &shape, form, width_in(width, &shape), says);
         }
     }
 }
 
-/// Forms, the bytes of a value, and what the value says.
+/// Forms, the bytes of a value, and the value that is read.
 const READ_FORMS: [(u64, &[u8], Content<'static>); 18] = [
     (0x0f, b"\x81\x01", Content::Constant(129)),
     (0x0d, b"\x7e", Content::Signed(-2)),
@@ -202,24 +220,35 @@ const READ_FORMS: [(u64, &[u8], Content<'static>); 18] = [
     (0x16, b"\x88\0ab\0", Content::Text(b"ab")),
 ];
 
+const NARROW: UnitShape = UnitShape {
+    version: 4,
+    wide: false,
+    address: 4,
+    order: Order::Little,
+};
+
+/// This value is read from the bytes, and without the last of them none is.
+fn is_read(rt: &impl Abort, form: u64, bytes: &[u8], want: Content<'_>)
+    requires { length bytes.now < 50 }
+{
+    let place = 1000 + bytes.len() as u64;
+    holds(
+        rt,
+        &form,
+        read(bytes, form, -5, &NARROW) == (Ok(want), place),
+    );
+    if bytes.len() > 0 {
+        let cut = &bytes[..bytes.len() - 1];
+        let none = (Err(Fault::Truncated), 1000);
+        holds(rt, &form, read(cut, form, -5, &NARROW) == none);
+    }
+}
+
 #[test]
 fn forms_of_a_size_that_is_read(rt: HostRuntime) {
-    let narrow = UnitShape {
-        version: 4,
-        wide: false,
-        address: 4,
-        order: Order::Little,
-    };
-    for (form, bytes, want) in READ_FORMS {
+    for &(form, bytes, want) in &READ_FORMS {
         assert!(rt; bytes.len() < 50);
-        let (value, place) = read(bytes, form, -5, &narrow);
-        assert!(rt; value == Ok(want), "{form}");
-        assert_eq!(rt; place, 1000 + bytes.len() as u64);
-        if bytes.len() > 0 {
-            let (value, place) = read(&bytes[..bytes.len() - 1], form, -5, &narrow);
-            assert!(rt; value == Err(Fault::Truncated), "{form}");
-            assert_eq!(rt; place, 1000);
-        }
+        is_read(&rt, form, bytes, want);
     }
 }
 
@@ -244,19 +273,18 @@ const UNREAD_FORMS: [(u64, &[u8], Fault); 9] = [
     ),
 ];
 
+const WIDE: UnitShape = UnitShape {
+    version: 5,
+    wide: true,
+    address: 8,
+    order: Order::Big,
+};
+
 #[test]
 fn forms_that_are_not_read(rt: HostRuntime) {
-    let wide = UnitShape {
-        version: 5,
-        wide: true,
-        address: 8,
-        order: Order::Big,
-    };
-    for (form, bytes, want) in UNREAD_FORMS {
+    for &(form, bytes, want) in &UNREAD_FORMS {
         assert!(rt; bytes.len() < 50);
-        let (value, place) = read(bytes, form, 0, &wide);
-        assert!(rt; value == Err(want), "{form}");
-        assert_eq!(rt; place, 1000);
+        holds(&rt, &form, read(bytes, form, 0, &WIDE) == (Err(want), 1000));
     }
 }
 
@@ -275,26 +303,45 @@ const LENGTHS: [(&[u8], Result<(u64, bool), Fault>, u64); 7] = [
     ),
 ];
 
+/// The length and whether it is wide, or the fault at the offset 1,000, and the cursor's new offset.
+fn length_of(bytes: &[u8]) -> (Result<(u64, bool), Fault>, u64)
+    requires { length bytes.now < 50 }
+{
+    let mut cursor = Cursor::new(1000, bytes);
+    match initial_length(&mut cursor, Order::Little) {
+        Ok(found) => (Ok((found.len, found.wide)), cursor.place()),
+        Err(bad) if bad.offset == 1000 => (Err(bad.fault), cursor.place()),
+        Err(_) => (Err(Fault::BadHeader), 0),
+    }
+}
+
 #[test]
 fn initial_lengths(rt: HostRuntime) {
-    for (bytes, want, place) in LENGTHS {
+    for &(bytes, want, place) in &LENGTHS {
         assert!(rt; bytes.len() < 50);
-        let mut cursor = Cursor::new(1000, bytes);
-        let want = match want {
-            Ok((len, wide)) => Ok(InitialLength { len, wide }),
-            Err(fault) => Err(BadFile {
-                fault,
-                offset: 1000,
-            }),
-        };
-        assert_eq!(rt; initial_length(&mut cursor, Order::Little), want);
-        assert_eq!(rt; cursor.place(), place);
+        same(&rt, &bytes, &length_of(bytes), &(want, place));
     }
 }
 
 /// A byte, a table of a declaration with a code of 5 and two attributes and another with the same code, and a
 /// code of 0.
 const TABLE: &[u8] = b"\xff\x05\x11\x01\x03\x08\x3a\x21\x7e\x00\x00\x05\x2e\x00\x00\x00\x00\x09";
+
+/// What the declaration yields: its attributes, and then nothing.
+const YIELDED: [Option<Spec>; 4] = [
+    Some(Spec {
+        attribute: 3,
+        form: 8,
+        constant: 0,
+    }),
+    Some(Spec {
+        attribute: 0x3a,
+        form: 0x21,
+        constant: -2,
+    }),
+    None,
+    None,
+];
 
 #[test]
 fn declarations_of_a_table(rt: HostRuntime) {
@@ -304,24 +351,9 @@ fn declarations_of_a_table(rt: HostRuntime) {
     assert!(rt; table.entry(6).is_none());
     let mut entry = table.entry(5).expect(&rt, "the code is declared");
     assert_eq!(rt; entry.tag(), 0x11);
-    assert_eq!(rt;
-        entry.next(),
-        Some(Spec {
-            attribute: 3,
-            form: 8,
-            constant: 0
-        })
-    );
-    assert_eq!(rt;
-        entry.next(),
-        Some(Spec {
-            attribute: 0x3a,
-            form: 0x21,
-            constant: -2
-        })
-    );
-    assert_eq!(rt; entry.next(), None);
-    assert_eq!(rt; entry.next(), None);
+    for &spec in &YIELDED {
+        same(&rt, &spec, &entry.next(), &spec);
+    }
 }
 
 /// How many bytes of the table there are, if it is read, and its offset and length.
@@ -341,13 +373,13 @@ const ENDS: [(usize, u64, Result<(u64, u64), (Fault, u64)>); 10] = [
 
 #[test]
 fn tables_that_end_early(rt: HostRuntime) {
-    for (len, offset, want) in ENDS {
+    for &(len, offset, want) in &ENDS {
         assert!(rt; len <= TABLE.len());
         let section = Cursor::new(1000, &TABLE[..len]);
         let found = match Abbrevs::at(&section, offset, 7) {
             Ok(table) => Ok((table.table_place(), table.table_len())),
             Err(bad) => Err((bad.fault, bad.offset)),
         };
-        assert_eq!(rt; found, want, "{len}");
+        same(&rt, &len, &found, &want);
     }
 }

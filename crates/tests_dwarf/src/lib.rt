@@ -4,6 +4,8 @@
 #[cfg(test)]
 mod abbreviations;
 #[cfg(test)]
+mod checks;
+#[cfg(test)]
 mod ranges;
 #[cfg(test)]
 mod units;

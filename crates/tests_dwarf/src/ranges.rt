@@ -1,7 +1,8 @@
 //! Range lists of units, and sets of address ranges.
 
-ghost use Rattle.std.specs.Prelude.{◌<◌, length};
+ghost use Rattle.std.specs.Prelude.{◌≡◌, ◌<◌, length};
 
+use crate::checks::{holds, same};
 use byte_cursor::{Cursor, Order};
 use dwarf_abbrev::{Content, UnitShape, Value};
 use dwarf_ranges::{AddressSet, RangeAnswer, arange_sets, claims_nothing, unit_ranges};
@@ -10,23 +11,31 @@ use size_core::{BadFile, Fault};
 use std::alloc::Global;
 use std::process::Abort;
 
-/// Sections with these range lists at the file offset 1,000, these sets at 2,000, and the addresses 0x401000,
-/// 0x401010 and 0x402000 of 8 bytes after a header.
-fn sections<'a>(version: u16, lists: &'a [u8], sets: &'a [u8]) -> Sections<'a>
+/// The addresses 0x401000, 0x401010 and 0x402000 of 8 bytes after a header.
+fn addresses(order: Order) -> &'static [u8]
+    ensures { length result.now ≡ 32 }
+{
+    match order {
+        Order::Little => {
+            b"hhhhhhhh\0\x10\x40\0\0\0\0\0\x10\x10\x40\0\0\0\0\0\0\x20\x40\0\0\0\0\0"
+        }
+        Order::Big => { b"hhhhhhhh\0\0\0\0\0\x40\x10\0\0\0\0\0\0\x40\x10\x10\0\0\0\0\0\x40\x20\0" }
+    }
+}
+
+/// Sections of this order, with these range lists at the file offset 1,000, these sets at 2,000, and addresses.
+fn sections<'a>(order: Order, version: u16, lists: &'a [u8], sets: &'a [u8]) -> Sections<'a>
     requires lists { length lists.now < 1000 }
     requires sets { length sets.now < 1000 }
 {
     Sections {
-        order: Order::Little,
+        order,
         info: Cursor::new(0, b""),
         abbrev: Cursor::new(0, b""),
         strings: Cursor::new(0, b""),
         line_strings: Cursor::new(0, b""),
         str_offsets: Cursor::new(0, b""),
-        addresses: Cursor::new(
-            3000,
-            b"hhhhhhhh\0\x10\x40\0\0\0\0\0\x10\x10\x40\0\0\0\0\0\0\x20\x40\0\0\0\0\0",
-        ),
+        addresses: Cursor::new(3000, addresses(order)),
         ranges: Cursor::new(1000, if version == 5 { b"" } else { lists }),
         rnglists: Cursor::new(1000, if version == 5 { lists } else { b"" }),
         aranges: Cursor::new(2000, sets),
@@ -70,30 +79,30 @@ fn root<'a>(
     }
 }
 
-/// Whether these ranges are added after one that was there, or the fault is returned and nothing is added.
+const NO_RANGES: &[(u64, u64)] = &[];
+
+/// Whether the ranges of a root, with these range lists in the sections, are added after one that was there, or the fault
+/// is returned and nothing is added.
 fn expect(
     rt: &impl Abort,
     alloc: Global,
     root: &Root,
-    sections: &Sections,
+    lists: &[u8],
     want: Result<&[(u64, u64)], (Fault, u64)>,
-) {
+)
+    requires { length lists.now < 1000 }
+{
+    let sections = sections(root.shape.order, root.shape.version, lists, b"");
     let mut out = Vec::new(alloc);
     out.push((1, 1)).expect(rt, "memory");
-    let answer = unit_ranges(alloc, root, sections, &mut out);
-    let ranges = match want {
-        Ok(ranges) => {
-            assert_eq!(rt; answer, Ok(()));
-            ranges
-        }
-        Err((fault, offset)) => {
-            assert_eq!(rt; answer, Err(RangeAnswer::Bad(BadFile { fault, offset })));
-            &[]
-        }
+    let answer = unit_ranges(alloc, root, &sections, &mut out);
+    let (wanted, ranges) = match want {
+        Ok(ranges) => (Ok(()), ranges),
+        Err((fault, offset)) => (Err(RangeAnswer::Bad(BadFile { fault, offset })), NO_RANGES),
     };
-    assert!(rt; !out.is_empty());
-    assert_eq!(rt; out[0], (1, 1));
-    assert_eq!(rt; &out.as_slice()[1..], ranges);
+    same(rt, &ranges, &answer, &wanted);
+    let all = out.as_slice().split_first();
+    holds(rt, &all, all == Some((&(1, 1), ranges)));
 }
 
 /// The pairs (greatest, 0x401000), (0x10, 0x20), (0x20, 0x20), (0, 0).
@@ -184,10 +193,10 @@ const PAIR_LISTS: [PairList<'static>; 9] = [
 
 #[test]
 fn lists_of_pairs(rt: HostRuntime) {
-    for (version, address, low, ranges, lists, want) in PAIR_LISTS {
+    for &(version, address, low, ranges, lists, want) in &PAIR_LISTS {
         assert!(rt; lists.len() < 100);
         let root = root(version, address, low, None, Some(ranges));
-        expect(&rt, rt.alloc(), &root, &sections(version, lists, b""), want);
+        expect(&rt, rt.alloc(), &root, lists, want);
     }
 }
 
@@ -202,7 +211,7 @@ fn cut_lists_of_pairs(rt: HostRuntime) {
             &rt,
             rt.alloc(),
             &root,
-            &sections(4, lists, b""),
+            lists,
             Err((Fault::BadRangeList, place)),
         );
     }
@@ -277,26 +286,11 @@ const ENTRY_LISTS: [EntryList<'static>; 11] = [
 
 #[test]
 fn lists_of_entries(rt: HostRuntime) {
-    for (ranges, lists, want) in ENTRY_LISTS {
+    for &(ranges, lists, want) in &ENTRY_LISTS {
         assert!(rt; lists.len() < 100);
         let root = root(5, 8, Some(Content::Address(0x7000)), None, Some(ranges));
-        expect(&rt, rt.alloc(), &root, &sections(5, lists, b""), want);
+        expect(&rt, rt.alloc(), &root, lists, want);
     }
-}
-
-/// Sections of this order, with these range lists at the file offset 1,000 and the addresses of `sections`.
-fn ordered<'a>(order: Order, version: u16, lists: &'a [u8]) -> Sections<'a>
-    requires { length lists.now < 1000 }
-{
-    let mut sections = sections(version, lists, b"");
-    if order == Order::Big {
-        sections.addresses = Cursor::new(
-            3000,
-            b"hhhhhhhh\0\0\0\0\0\x40\x10\0\0\0\0\0\0\x40\x10\x10\0\0\0\0\0\x40\x20\0",
-        );
-    }
-    sections.order = order;
-    sections
 }
 
 /// An order, whether a unit is wide, its version and the size of an address, the ranges of its root, the lists, and the
@@ -423,7 +417,7 @@ const WIDE_LISTS: [WideList<'static>; 11] = [
 
 #[test]
 fn lists_of_wide_units_and_of_each_order(rt: HostRuntime) {
-    for (order, wide, version, address, ranges, lists, want) in WIDE_LISTS {
+    for &(order, wide, version, address, ranges, lists, want) in &WIDE_LISTS {
         assert!(rt; lists.len() < 100);
         let mut root = root(version, address, None, None, Some(ranges));
         root.shape = UnitShape {
@@ -432,13 +426,7 @@ fn lists_of_wide_units_and_of_each_order(rt: HostRuntime) {
             address,
             order,
         };
-        expect(
-            &rt,
-            rt.alloc(),
-            &root,
-            &ordered(order, version, lists),
-            want,
-        );
+        expect(&rt, rt.alloc(), &root, lists, want);
     }
 }
 
@@ -529,9 +517,9 @@ const NO_LISTS: [NoList<'static>; 10] = [
 
 #[test]
 fn units_without_a_list(rt: HostRuntime) {
-    for (version, low, high, ranges, want) in NO_LISTS {
+    for &(version, low, high, ranges, want) in &NO_LISTS {
         let root = root(version, 8, low, high, ranges);
-        expect(&rt, rt.alloc(), &root, &sections(version, b"\0", b""), want);
+        expect(&rt, rt.alloc(), &root, b"\0", want);
     }
 }
 
@@ -550,12 +538,9 @@ const NOTHING: [(u8, u64, u64, bool); 9] = [
 
 #[test]
 fn ranges_that_claim_nothing(rt: HostRuntime) {
-    for (size, start, len, want) in NOTHING {
-        assert_eq!(rt;
-            claims_nothing(size, start, len),
-            want,
-            "{size} {start} {len}"
-        );
+    for &(size, start, len, want) in &NOTHING {
+        let found = claims_nothing(size, start, len);
+        same(&rt, &(size, start, len), &found, &want);
     }
 }
 
@@ -563,20 +548,22 @@ fn ranges_that_claim_nothing(rt: HostRuntime) {
 /// and how many there are.
 type Told = ((u64, u64), (u64, u8), (Option<(u64, u64)>, usize));
 
+fn told_set(mut set: AddressSet<'_>) -> Told {
+    let first = set.tuples.next();
+    let mut count = 0_usize;
+    for _ in set.tuples {
+        count = count.saturating_add(1);
+    }
+    (
+        (set.place, set.len),
+        (set.info_offset, set.address),
+        (first, count),
+    )
+}
+
 fn told(set: Option<Result<AddressSet<'_>, BadFile>>) -> Option<Result<Told, (Fault, u64)>> {
     match set? {
-        Ok(mut set) => {
-            let first = set.tuples.next();
-            let mut count = 0_usize;
-            for _ in set.tuples {
-                count = count.saturating_add(1);
-            }
-            Some(Ok((
-                (set.place, set.len),
-                (set.info_offset, set.address),
-                (first, count),
-            )))
-        }
+        Ok(set) => Some(Ok(told_set(set))),
         Err(bad) => Some(Err((bad.fault, bad.offset))),
     }
 }
@@ -629,11 +616,11 @@ const SETS: [(&[u8], Option<Result<Told, (Fault, u64)>>); 13] = [
 
 #[test]
 fn sets_of_addresses(rt: HostRuntime) {
-    for (bytes, want) in SETS {
+    for &(bytes, want) in &SETS {
         assert!(rt; bytes.len() < 100);
-        let sections = sections(4, b"", bytes);
+        let sections = sections(Order::Little, 4, b"", bytes);
         let mut sets = arange_sets(&sections);
-        assert_eq!(rt; told(sets.next()), want, "{bytes:?}");
-        assert_eq!(rt; told(sets.next()), None, "{bytes:?}");
+        same(&rt, &bytes, &told(sets.next()), &want);
+        same(&rt, &bytes, &told(sets.next()), &None);
     }
 }

@@ -2,12 +2,14 @@
 
 ghost use Rattle.std.specs.Prelude.{◌<◌, length};
 
+use crate::checks::{holds, same};
 use byte_cursor::{Cursor, Order};
 use dwarf_abbrev::{Abbrevs, Content, UnitShape, Value};
 use dwarf_units::{DwarfUnit, Root, Sections, Units};
 use size_core::{BadFile, Fault};
 
-/// Sections of these bytes, whose offsets in the file begin at 1,000 and 2,000; the others are made up.
+/// Sections with these bytes at the file offsets 1,000 and 2,000. The strings and the tables for indexes are fixed,
+/// and the other sections are empty.
 fn sections<'a>(info: &'a [u8], declared: &'a [u8]) -> Sections<'a>
     requires info { length info.now < 1000 }
     requires declared { length declared.now < 1000 }
@@ -114,12 +116,12 @@ const HEADERS: [(&[u8], Option<Result<Told, (Fault, u64)>>); 20] = [
 
 #[test]
 fn headers_of_units(rt: HostRuntime) {
-    for (info, want) in HEADERS {
+    for &(info, want) in &HEADERS {
         assert!(rt; info.len() < 100);
         let sections = sections(info, b"");
         let mut units = Units::new(&sections);
-        assert_eq!(rt; told(units.next()), want, "{info:?}");
-        assert_eq!(rt; told(units.next()), None, "{info:?}");
+        same(&rt, &info, &told(units.next()), &want);
+        same(&rt, &info, &told(units.next()), &None);
     }
 }
 
@@ -143,51 +145,78 @@ fn unit<'a>(body: &'a [u8], abbrev_offset: u64) -> DwarfUnit<'a>
     }
 }
 
+/// The body of a unit by code 1 of the table below.
+const NAMED_BODY: &[u8] = b"\x01ab\0cd\0\x01\x02\x03\x04\x05\x06\0\0\0\x07\0\0\0\x08\0\0\0";
+
 /// Code 1 has a name in the unit twice, a low address, a high one of a byte, and three bases; code 2 an indirect value.
 const ABBREV: &[u8] =
     b"\x01\x11\0\x03\x08\x03\x08\x11\x01\x12\x0b\x72\x17\x73\x17\x74\x17\0\0\x02\x11\0\x03\x16\0\0\0";
 
-#[test]
-fn values_of_a_root(rt: HostRuntime) {
-    let sections = sections(b"", ABBREV);
-    let unit = unit(
-        b"\x01ab\0cd\0\x01\x02\x03\x04\x05\x06\0\0\0\x07\0\0\0\x08\0\0\0",
-        0,
-    );
-    let table = Abbrevs::at(&sections.abbrev, 0, 1000).expect(&rt, "the table has no fault");
-    let root = unit.root_in(&table).expect(&rt, "the values have no fault");
-    assert_eq!(rt;
-        (root.place, root.table_place, root.table_len),
-        (1000, 2000, 27)
-    );
-    assert!(rt; root.name_text(&sections) == Ok(Some(b"ab".as_slice())));
-    let low = root.low.expect(&rt, "the root has a low address");
-    assert_eq!(rt; root.address(&low, &sections), Ok(Some(0x4030201)));
-    let high = root.high.expect(&rt, "the root has a high address");
-    assert_eq!(rt; root.address(&high, &sections), Ok(None));
-    assert_eq!(rt; (low.place, high.place), (1018, 1022));
-    for (base, offset) in [(root.str_base, 6), (root.addr_base, 7), (root.list_base, 8)] {
-        let base = base.expect(&rt, "the root has three bases");
-        assert!(rt; base.content == Content::SecOffset(offset));
+/// The file offset of a value, and the address that it is.
+fn address_of(
+    root: &Root<'_>,
+    value: Option<Value<'_>>,
+    sections: &Sections<'_>,
+) -> Option<(u64, Result<Option<u64>, BadFile>)> {
+    let value = value?;
+    Some((value.place, root.address(&value, sections)))
+}
+
+/// The offset that a value is.
+fn offset_of(value: Option<Value<'_>>) -> Option<u64> {
+    match value?.content {
+        Content::SecOffset(offset) => Some(offset),
+        _ => None,
     }
-    assert!(rt; root.ranges.is_none() && root.lines.is_none());
 }
 
 #[test]
+fn values_of_a_root(rt: HostRuntime) {
+    let sections = sections(b"", ABBREV);
+    let unit = unit(NAMED_BODY, 0);
+    let table = Abbrevs::at(&sections.abbrev, 0, 1000).expect(&rt, "the table has no fault");
+    let root = unit.root_in(&table).expect(&rt, "the values have no fault");
+    let tables = (root.place, root.table_place, root.table_len);
+    same(&rt, &"the tables", &tables, &(1000, 2000, 27));
+    let name = root.name_text(&sections);
+    holds(&rt, &"the name", name == Ok(Some(b"ab".as_slice())));
+    let low = address_of(&root, root.low, &sections);
+    same(
+        &rt,
+        &"the low address",
+        &low,
+        &Some((1018, Ok(Some(0x4030201)))),
+    );
+    let high = address_of(&root, root.high, &sections);
+    same(&rt, &"the high address", &high, &Some((1022, Ok(None))));
+    for (base, offset) in [(root.str_base, 6), (root.addr_base, 7), (root.list_base, 8)] {
+        same(&rt, &"a base", &offset_of(base), &Some(offset));
+    }
+    holds(
+        &rt,
+        &"no more",
+        root.ranges.is_none() && root.lines.is_none(),
+    );
+}
+
+/// The bodies of units by one table, and whether the root has a low address.
+const BY_ONE_TABLE: [(&[u8], bool); 4] = [
+    (NAMED_BODY, true),
+    (b"\x02\x0b\x07", false),
+    (NAMED_BODY, true),
+    (NAMED_BODY, true),
+];
+
+#[test]
 fn roots_by_one_table(rt: HostRuntime) {
-    let named = b"\x01ab\0cd\0\x01\x02\x03\x04\x05\x06\0\0\0\x07\0\0\0\x08\0\0\0".as_slice();
     let sections = sections(b"", ABBREV);
     let table = Abbrevs::at(&sections.abbrev, 0, 1000).expect(&rt, "the table has no fault");
-    for (body, has_low) in [
-        (named, true),
-        (b"\x02\x0b\x07".as_slice(), false),
-        (named, true),
-        (named, true),
-    ] {
+    for &(body, has_low) in &BY_ONE_TABLE {
+        assert!(rt; body.len() < 100);
         let root = unit(body, 0)
             .root_in(&table)
             .expect(&rt, "the values have no fault");
-        assert_eq!(rt; root.low.is_some(), has_low);
+        same(&rt, &body, &root.low.is_some(), &has_low);
     }
 }
 
@@ -211,14 +240,14 @@ const ROOTS: [(&[u8], u64, Option<(Fault, u64)>); 10] = [
 
 #[test]
 fn roots_with_a_fault(rt: HostRuntime) {
-    for (body, abbrev_offset, want) in ROOTS {
+    for &(body, abbrev_offset, want) in &ROOTS {
         assert!(rt; body.len() < 100);
         let sections = sections(b"", ABBREV);
         let found = match unit(body, abbrev_offset).root(&sections) {
             Ok(_) => None,
             Err(bad) => Some((bad.fault, bad.offset)),
         };
-        assert_eq!(rt; found, want, "{body:?}");
+        same(&rt, &body, &found, &want);
     }
 }
 
@@ -259,37 +288,32 @@ const ABSENT: Content<'static> = Content::Other;
 type Named<'a> = (
     Content<'a>,
     Content<'a>,
-    Result<Option<&'a [u8]>, Fault>,
-    Result<Option<u64>, Fault>,
+    Result<Option<&'a [u8]>, BadFile>,
+    Result<Option<u64>, BadFile>,
 );
+
+const BAD_STRING: BadFile = BadFile {
+    fault: Fault::BadString,
+    offset: 7,
+};
+
+const OUTSIDE: BadFile = BadFile {
+    fault: Fault::OffsetOutside,
+    offset: 7,
+};
 
 const NAMED: [Named<'static>; 16] = [
     (Content::Text(b"zz"), ABSENT, Ok(Some(b"zz")), Ok(None)),
     (Content::StrOffset(2), ABSENT, Ok(Some(b"ab")), Ok(None)),
     (Content::LineStrOffset(2), ABSENT, Ok(Some(b"lm")), Ok(None)),
     (Content::StrIndex(0), ABSENT, Ok(Some(b"ab")), Ok(None)),
-    (
-        Content::StrIndex(1),
-        ABSENT,
-        Err(Fault::BadString),
-        Ok(None),
-    ),
-    (
-        Content::StrIndex(2),
-        ABSENT,
-        Err(Fault::OffsetOutside),
-        Ok(None),
-    ),
-    (
-        Content::StrIndex(u64::MAX),
-        ABSENT,
-        Err(Fault::OffsetOutside),
-        Ok(None),
-    ),
+    (Content::StrIndex(1), ABSENT, Err(BAD_STRING), Ok(None)),
+    (Content::StrIndex(2), ABSENT, Err(OUTSIDE), Ok(None)),
+    (Content::StrIndex(u64::MAX), ABSENT, Err(OUTSIDE), Ok(None)),
     (
         Content::StrIndex(0),
         Content::SecOffset(12),
-        Err(Fault::BadString),
+        Err(BAD_STRING),
         Ok(None),
     ),
     (
@@ -298,18 +322,8 @@ const NAMED: [Named<'static>; 16] = [
         Ok(Some(b"ab")),
         Ok(None),
     ),
-    (
-        Content::StrOffset(7),
-        ABSENT,
-        Err(Fault::OffsetOutside),
-        Ok(None),
-    ),
-    (
-        Content::LineStrOffset(5),
-        ABSENT,
-        Err(Fault::OffsetOutside),
-        Ok(None),
-    ),
+    (Content::StrOffset(7), ABSENT, Err(OUTSIDE), Ok(None)),
+    (Content::LineStrOffset(5), ABSENT, Err(OUTSIDE), Ok(None)),
     (Content::Constant(2), ABSENT, Ok(None), Ok(None)),
     (Content::Address(9), ABSENT, Ok(None), Ok(Some(9))),
     (
@@ -318,12 +332,7 @@ const NAMED: [Named<'static>; 16] = [
         Ok(None),
         Ok(Some(0x8877_6655_4433_2211)),
     ),
-    (
-        Content::AddrIndex(1),
-        ABSENT,
-        Ok(None),
-        Err(Fault::OffsetOutside),
-    ),
+    (Content::AddrIndex(1), ABSENT, Ok(None), Err(OUTSIDE)),
     (
         Content::AddrIndex(1),
         Content::SecOffset(1),
@@ -335,13 +344,11 @@ const NAMED: [Named<'static>; 16] = [
 #[test]
 fn names_and_addresses(rt: HostRuntime) {
     let sections = sections(b"", b"");
-    for (content, base, name, address) in NAMED {
+    for &(content, base, name, address) in &NAMED {
         let root = root(content, base);
-        let name = name.map_err(|fault| BadFile { fault, offset: 7 });
-        assert!(rt; root.name_text(&sections) == name, "{content:?}");
+        holds(&rt, &content, root.name_text(&sections) == name);
         let value = Value { place: 7, content };
-        let address = address.map_err(|fault| BadFile { fault, offset: 7 });
-        assert_eq!(rt; root.address(&value, &sections), address, "{content:?}");
+        same(&rt, &content, &root.address(&value, &sections), &address);
     }
 }
 

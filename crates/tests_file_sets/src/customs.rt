@@ -1,4 +1,4 @@
-//! Data sources of a configuration, and patterns that aren't made.
+//! Data sources of a configuration, and patterns that aren't compiled.
 
 use bloaty_engine::Outcome;
 use sample_files::{Input, bytes_of};
@@ -7,7 +7,7 @@ use size_core::NoMemory;
 use std::alloc::Global;
 use std::test::Fail;
 
-// The whole label of `.text` is what a group holds that took no part.
+// The new label of `.text` is empty: it is a group that takes no part in the match.
 const EMPTY: &[u8] = b"custom_data_source: {
   name: 'mine'
   base_data_source: 'sections'
@@ -15,7 +15,8 @@ const EMPTY: &[u8] = b"custom_data_source: {
 }
 ";
 
-// Two dots before a folder are left out, and what follows it; a data source of another name keeps its labels.
+// In `parts`, a label that begins with a folder of `third_party` becomes the path of the folder, without two dots
+// before it. The data source `same` keeps its labels.
 const FOLDERS: &[u8] = b"# parts of a program
 custom_data_source {
   name: \"parts\"
@@ -53,7 +54,7 @@ fn with_config(
     run_over(alloc, words, &files, devices)
 }
 
-// Words over a configuration and a file, and the lines of their report.
+// Arguments, a file and a configuration, and the lines of the report.
 struct Case<'a> {
     words: &'a [&'a str],
     file: Input,
@@ -115,7 +116,7 @@ const CASES: [Case<'static>; 5] = [
         config: FOLDERS,
         report: &["parts,filesize", "[none],319", ".shstrtab,17", ".text,16"],
     },
-    // The filter looks at the new labels, and not at those of the base.
+    // The filter tests the new labels, and not those of the base.
     Case {
         words: &[
             "--csv",
@@ -176,7 +177,7 @@ custom_data_source { name: 'n' base_data_source: 'symbols' rewrite { pattern: '(
             0,
             "bloaty: pattern 0: bad syntax",
         ),
-        // All patterns of the configuration are made, asked or not.
+        // All patterns of the configuration are compiled, whether `-d` names their data sources or not.
         (
             ["-c", "conf", "--source-filter=a", "a.elf"].as_slice(),
             2,

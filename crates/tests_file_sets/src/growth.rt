@@ -35,7 +35,7 @@ fn run_grown(
     run_over(alloc, words, &files, devices)
 }
 
-// Words over the two files, and the lines of their report.
+// Arguments, the two files, and the lines of the report.
 #[derive(Clone, Copy)]
 struct Case<'a> {
     words: &'a [&'a str],
@@ -100,7 +100,7 @@ const RECORDS: [Case<'static>; 6] = [
             "[Unmapped],0,-4",
         ],
     },
-    // The second mark is the name of a base file.
+    // The second `--` is the name of a base file.
     Case {
         words: &["--csv", "-n", "0", "big.elf", "--", "--"],
         ..LARGE
@@ -248,7 +248,7 @@ const NESTED: [Case<'static>; 3] = [
             "   +18.1%       +64      -5.8%        -8  TOTAL",
         ],
     },
-    // What grew and what shrank in the unmapped bytes makes up for one another: they have no row, and none below.
+    // In the unmapped bytes, what grew and what shrank cancel out: they have no row, and no rows below.
     Case {
         words: &["--csv", "-d", "segments,sections", "big.elf", "--", "a.elf"],
         report: &[
@@ -443,7 +443,7 @@ const BAD: [Bad<'static>; 6] = [
         0,
         "bloaty: --: offset 0: Truncated",
     ),
-    // Behind the mark nothing is an option.
+    // After `--` nothing is an option.
     (
         &["big.elf", "--", "--csv"],
         Input::Plain,
@@ -477,7 +477,7 @@ const BAD: [Bad<'static>; 6] = [
 #[test]
 fn base_files_with_a_fault(rt: HostRuntime) -> Result<(), Fail> {
     let alloc = rt.alloc();
-    for (words, big, plain, file, fault, offset, line) in BAD {
+    for &(words, big, plain, file, fault, offset, line) in &BAD {
         let ran = run_grown(alloc, words, big, plain, sound(alloc))?;
         let outcome = Outcome::Bad {
             file,
@@ -499,7 +499,7 @@ const FAILING: [Failing<'static>; 4] = [
         2,
         "bloaty: big.elf: cannot be read",
     ),
-    // The made file isn't read.
+    // The synthetic file isn't read.
     (
         &["--synth", "1", "--", "a.elf"],
         1,
@@ -523,7 +523,7 @@ const FAILING: [Failing<'static>; 4] = [
 #[test]
 fn a_base_file_that_cannot_be_read(rt: HostRuntime) -> Result<(), Fail> {
     let alloc = rt.alloc();
-    for (words, call, number, line) in FAILING {
+    for &(words, call, number, line) in &FAILING {
         let mut devices = sound(alloc);
         devices.failing_reads.push(call)?;
         let ran = run_grown(alloc, words, Input::LargeBss, Input::Plain, devices)?;
@@ -605,7 +605,7 @@ const PASSED_LIMITS: [Passed<'static>; 7] = [
 #[test]
 fn limits_that_a_base_file_passes(rt: HostRuntime) -> Result<(), Fail> {
     let alloc = rt.alloc();
-    for (words, big, plain, limits, outcome, line) in PASSED_LIMITS {
+    for &(words, big, plain, limits, outcome, line) in &PASSED_LIMITS {
         let mut devices = sound(alloc);
         devices.limits = limits;
         let ran = run_grown(alloc, words, big, plain, devices)?;

@@ -7,7 +7,8 @@ use std::alloc::Global;
 use std::process::Abort;
 use std::test::Fail;
 
-// From the seventeenth file on, a file is few beside what is there. Two of the names come again.
+// From the seventeenth file on, a file adds few rows in proportion to those that are there. Two of the names occur
+// twice.
 const WORDS: [&str; 28] = [
     "--csv",
     "-n",

@@ -25,7 +25,7 @@ const STRIPPED: Input = Input::Stripped(156);
 
 const DEBUG: Input = Input::DebugFile(0xdd, 4);
 
-// Words over the two files, and the lines of their report.
+// Arguments, the two files, and the lines of the report.
 type Case<'a> = (&'a [&'a str], Input, Input, &'a [&'a str]);
 
 const REPORTS: [Case<'static>; 7] = [
@@ -149,7 +149,7 @@ const REPORTS: [Case<'static>; 7] = [
 #[test]
 fn reports_with_a_debug_file(rt: HostRuntime) -> Result<(), Fail> {
     let alloc = rt.alloc();
-    for (words, own, debug, report) in REPORTS {
+    for &(words, own, debug, report) in &REPORTS {
         let ran = run_pair(alloc, words, own, debug, sound(alloc))?;
         assert!(rt; is_report(&ran, report));
     }
@@ -243,7 +243,7 @@ const ENDS: [Ended<'static>; 15] = [
         1,
         "bloaty: d.elf: offset 160: TablePastEnd",
     ),
-    // A table of the debug file whose names are in no section.
+    // A symbol table of the debug file whose names are in a section that doesn't exist.
     (
         STRIPPED,
         Input::DebugFile(0xdd, 9),
@@ -281,7 +281,7 @@ const ENDS: [Ended<'static>; 15] = [
         6,
         "bloaty: d.elf: too long",
     ),
-    // The claims of both are.
+    // The claims of both are added up, too.
     (
         STRIPPED,
         DEBUG,
@@ -305,7 +305,7 @@ const WORDS: [&str; 4] = ["-d", "symbols", "--debug-file=d.elf", "s.elf"];
 #[test]
 fn ends_with_a_debug_file(rt: HostRuntime) -> Result<(), Fail> {
     let alloc = rt.alloc();
-    for (own, debug, limits, outcome, status, line) in ENDS {
+    for &(own, debug, limits, outcome, status, line) in &ENDS {
         let mut devices = sound(alloc);
         devices.limits = limits;
         let ran = run_pair(alloc, &WORDS, own, debug, devices)?;

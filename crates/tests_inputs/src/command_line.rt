@@ -100,7 +100,7 @@ fn line_of(rt: &impl Abort, alloc: Global, options: &Options) -> String {
     line.text
 }
 
-/// Words, and the options that they ask for.
+/// Arguments, and the options that they ask for.
 const ASKED: [(&str, &str); 32] = [
     (
         "a.elf",
@@ -247,7 +247,7 @@ fn reads_the_options(rt: HostRuntime) {
     }
 }
 
-/// Words that are misused, and how.
+/// Arguments that are misused, and the kind of misuse.
 const MISUSED: [(&str, UsageKind); 41] = [
     ("", UsageKind::NoFile),
     ("-w", UsageKind::NoFile),

@@ -189,14 +189,14 @@ const TWO_SOURCES: &[u8] =
   rewrite: { replacement: \"\\\\\\\\\" \"\\\\2\\n\" pattern: \"^(\\\\.\\\\./)?(third_party/\\\\w+)\" }\n},
 custom_data_source{base_data_source:'symbols'name:'other'}";
 
-// A source has this name, this base and so many rewrites.
+// A source has this name, this base and this number of rewrites.
 fn is_source(rt: &impl Abort, source: &CustomSource, name: &str, base: Source, rewrites: usize) {
     assert_eq!(rt; source.name.as_str(), name);
     assert_eq!(rt; source.base, base);
     assert_eq!(rt; source.rewrites.len(), rewrites);
 }
 
-// A source's rewrite of a number has this pattern and this replacement.
+// Rewrite `i` of a source has this pattern and this replacement.
 fn rewrites_so(
     rt: &impl Abort,
     source: &CustomSource,
@@ -224,7 +224,7 @@ fn reads_sources(rt: HostRuntime) {
     is_source(&rt, &sources[1], "other", Source::Symbols, 0);
 }
 
-/// So many sources, of 55 bytes each.
+/// `count` sources, of 55 bytes each.
 fn sources(rt: &impl Abort, alloc: Global, count: u8) -> Vec<u8> {
     let mut text = Vec::new(alloc);
     for k in 0..count {
@@ -238,7 +238,7 @@ fn sources(rt: &impl Abort, alloc: Global, count: u8) -> Vec<u8> {
     text
 }
 
-/// A source with so many rewrites, of 34 bytes each, from offset 19 on.
+/// A source with `count` rewrites, of 34 bytes each, from offset 19 on.
 fn rewrites(rt: &impl Abort, alloc: Global, count: u8) -> Vec<u8> {
     let mut text = Vec::from_slice(alloc, b"custom_data_source{").expect(rt, "memory");
     for _ in 0..count {

@@ -94,7 +94,7 @@ const PAIRS: [(&str, &[u8]); 3] = [("a", b"one"), ("b", b"two!"), ("a", b"three"
 // Three pairs. The third has the name of the first, so it is never read.
 fn pairs_in(rt: &impl Abort, alloc: Global) -> Vec<(String, Vec<u8>)> {
     let mut pairs = Vec::new(alloc);
-    for (name, bytes) in PAIRS {
+    for &(name, bytes) in &PAIRS {
         let name = String::from_str(alloc, name).expect(rt, "memory");
         let bytes = bytes.to_vec(alloc).expect(rt, "memory");
         pairs.push((name, bytes)).expect(rt, "memory");
@@ -132,7 +132,7 @@ fn files_in_memory_hold_their_pairs(rt: HostRuntime) {
     let failing = vec![in alloc; 1, 6].expect(&rt, "memory");
     let mut files = MemFiles::new(pairs_in(&rt, alloc), failing);
     assert_eq!(rt; files.read(alloc, "a", 3).err(), Some(FileAnswer::Failed));
-    for (name, limit, want) in READS {
+    for &(name, limit, want) in &READS {
         is_read(&rt, alloc, &mut files, (name, limit), want);
         is_read(&rt, alloc, &mut sound, (name, limit), want);
     }

@@ -60,7 +60,7 @@ fn rewrites_one_label(rt: HostRuntime) {
 const TWO: &[u8] = b"custom_data_source { name: 'm' base_data_source: 'symbols'
   rewrite { pattern: 'a' replacement: '' } rewrite { pattern: 'b' replacement: '' } }";
 
-// A pattern isn't made, for this reason.
+// A pattern isn't compiled, for this reason.
 fn is_refused(
     rt: &impl Abort,
     alloc: Global,

@@ -1,4 +1,4 @@
-//! The made file, opened as any other file.
+//! The synthetic file, opened as any other file.
 
 use elf_file::{ElfFile, Section, Segment};
 use elf_symbols::{SHT_SYMTAB, SymbolTable};
@@ -11,8 +11,8 @@ type SectionRow<'a> = (&'a [u8], &'a [u64]);
 // The number, the name, the address and the size of a symbol.
 type SymbolRow<'a> = (u32, &'a [u8], u64, u64);
 
-// A made file of so many functions: its length, the offset of its section headers, the bytes of its load, its sections
-// after the null section, how many symbols it has, and some of them.
+// A synthetic file with this number of functions: its length, the offset of its section headers, the bytes of its
+// load, its sections after the null section, how many symbols it has, and some of them.
 struct MadeFile<'a> {
     functions: u32,
     len: usize,
@@ -85,7 +85,7 @@ fn numbers(s: &Section<'_>) -> [u64; 7] {
     ]
 }
 
-// A file has the header, the one load from its beginning on, and the sections of a made file.
+// A file has the header, the one load from its beginning on, and the sections of a synthetic file.
 fn assert_sections(rt: &impl Abort, file: &[u8], made: &MadeFile<'_>) {
     assert!(rt; file.len() < 1 << 32);
     let elf = ElfFile::parse(file).expect(rt, "a sound file");
@@ -113,7 +113,7 @@ fn assert_sections(rt: &impl Abort, file: &[u8], made: &MadeFile<'_>) {
     assert_eq!(rt; elf.segment(0), want);
 }
 
-// A file has as many symbols as a made file, those of its rows among them.
+// A file has as many symbols as a synthetic file, and among them those that are listed.
 fn assert_symbols(rt: &impl Abort, file: &[u8], made: &MadeFile<'_>) {
     assert!(rt; file.len() < 1 << 32);
     let elf = ElfFile::parse(file).expect(rt, "a sound file");

@@ -33,7 +33,7 @@ const LABELS: [&str; 11] = [
 // A path with its VM size and its file size.
 type Counted<'a> = (&'a [&'a str], u64, u64);
 
-// Paths of so many labels, and the sums of their sizes.
+// Paths of `depth` labels, and the sums of their sizes.
 struct Table<'a> {
     depth: u32,
     vm: u64,
@@ -155,7 +155,7 @@ const CASES: [Case<'static>; 9] = [
             (0, Name::Label("[3 Others]"), 0, 9),
         ],
     },
-    // The size that orders is not shown: all keys are equal.
+    // The size that rows are sorted by is not shown: all keys are 0.
     Case {
         limit: 0,
         sort: Sort::Vm,
@@ -295,7 +295,7 @@ fn maps_of(
     Ok(maps)
 }
 
-// One load of so many addresses, without a byte of the file.
+// One load of `vm` addresses, without a byte of the file.
 fn loads_of(alloc: Global, vm: u64, file: u64) -> Result<Vec<Load>, NoMemory>
     ensures { IfOk result (λ loads. All IsLoad loads.items) }
 {

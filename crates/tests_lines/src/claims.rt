@@ -58,7 +58,7 @@ const OPERATIONS: &[u8] =
 const TWO_FILES: &[u8] =
     b"\x4c\0\0\0\x04\0\x1b\0\0\0\x01\x01\x01\xfb\x0e\x0d\0\x01\x01\x01\x01\0\0\0\x01\0\0\x01\0a.c\0\0\0\0\0\0\x09\x02\0\x20\0\0\0\0\0\0\x03\x02\x01\x03\x01\x01\x02\x08\0\x01\x01\0\x09\x02\0\x10\0\0\0\0\0\0\x04\x09\x03\x02\x01\x02\x04\0\x01\x01";
 
-/// Sections of these bytes, whose offsets in the file begin at 1,000, 2,000, 4,000 and 5,000; the others are made up.
+/// Sections with these bytes at the file offsets 1,000, 2,000, 4,000 and 5,000. The other sections are fixed.
 fn sections<'a>(info: &'a [u8], declared: &'a [u8], sets: &'a [u8], lines: &'a [u8]) -> Sections<'a>
     requires info { length info.now < 1000 }
     requires declared { length declared.now < 1000 }
@@ -176,7 +176,7 @@ fn units_and_sets_claim(
 
 #[test]
 fn claims_of_units_and_sets(rt: HostRuntime) {
-    for (info, declared, sets, label, want) in CLAIMED {
+    for &(info, declared, sets, label, want) in &CLAIMED {
         assert!(rt; info.len() < 100 && declared.len() < 100 && sets.len() < 100);
         let sections = sections(info, declared, sets, NO_ROWS);
         units_and_sets_claim(&rt, rt.alloc(), &sections, label, want);
@@ -192,7 +192,7 @@ const UNIT_FAULTS: [(&[u8], Fault, u64); 2] = [
 #[test]
 fn a_fault_of_a_unit_is_told_before_that_of_a_set(rt: HostRuntime) {
     let alloc = rt.alloc();
-    for (info, fault, offset) in UNIT_FAULTS {
+    for &(info, fault, offset) in &UNIT_FAULTS {
         assert!(rt; info.len() < 100);
         let sections = sections(info, b"\0", b"\x0c\0", NO_ROWS);
         let mut pool = LabelPool::new(alloc);
@@ -257,7 +257,7 @@ fn lines_claim(
 
 #[test]
 fn claims_of_lines(rt: HostRuntime) {
-    for (program, labels, want) in LINES {
+    for &(program, labels, want) in &LINES {
         assert!(rt; program.len() < 100);
         let sections = sections(UNIT_OF_LINES, DECLARED_OF_LINES, b"", program);
         lines_claim(&rt, rt.alloc(), &sections, labels, want);

@@ -206,7 +206,7 @@ fn has_rows(rt: &impl Abort, program: &LineProgram<'_>, rows: &[(u64, u64, u32, 
 
 #[test]
 fn rows_of_programs(rt: HostRuntime) {
-    for (version, numbers, address, instructions, rows) in PROGRAMS {
+    for &(version, numbers, address, instructions, rows) in &PROGRAMS {
         assert!(rt; numbers.len() < 100 && instructions.len() < 100 && rows.len() < 100);
         let bytes = program(rt.alloc(), version, numbers, A_C, instructions).expect(&rt, "memory");
         assert!(rt; bytes.len() < 1000);
@@ -243,7 +243,7 @@ fn has_fault_after_a_row(rt: &impl Abort, program: &LineProgram<'_>, instruction
 
 #[test]
 fn fault_behind_a_row(rt: HostRuntime) {
-    for instructions in FAULTY {
+    for &instructions in &FAULTY {
         assert!(rt; instructions.len() < 100);
         let bytes = program(rt.alloc(), 4, PLAIN, A_C, instructions).expect(&rt, "memory");
         assert!(rt; bytes.len() < 1000);
@@ -323,7 +323,7 @@ fn has_paths(rt: &impl Abort, alloc: Global, program: &LineProgram<'_>, paths: &
 
 #[test]
 fn paths_of_files(rt: HostRuntime) {
-    for (version, tables, line_strings, paths) in PATHS {
+    for &(version, tables, line_strings, paths) in &PATHS {
         assert!(rt; tables.len() < 200 && line_strings.len() < 100);
         let bytes = program(rt.alloc(), version, PLAIN, tables, b"").expect(&rt, "memory");
         assert!(rt; bytes.len() < 1000);
@@ -364,7 +364,7 @@ fn faults_of_headers(rt: HostRuntime) {
         fault: Fault::BadLine,
         offset: 1000,
     };
-    for (version, numbers, tables) in BAD_HEADERS {
+    for &(version, numbers, tables) in &BAD_HEADERS {
         assert!(rt; numbers.len() < 100 && tables.len() < 100);
         let bytes = program(rt.alloc(), version, numbers, tables, b"").expect(&rt, "memory");
         assert!(rt; bytes.len() < 1000);
@@ -384,7 +384,7 @@ const CUT: [(u8, &[u8]); 3] = [
 
 #[test]
 fn programs_that_are_cut(rt: HostRuntime) {
-    for (version, tables) in CUT {
+    for &(version, tables) in &CUT {
         assert!(rt; tables.len() < 100);
         let mut bytes = program(rt.alloc(), version, PLAIN, tables, b"").expect(&rt, "memory");
         assert!(rt; 20 < bytes.len() && bytes.len() < 200);
@@ -417,7 +417,7 @@ const IN_SECTION: [(u64, Option<(Fault, u64)>); 5] = [
 
 #[test]
 fn programs_in_their_section(rt: HostRuntime) {
-    for (offset, want) in IN_SECTION {
+    for &(offset, want) in &IN_SECTION {
         let want = want.map(|(fault, offset)| BadFile { fault, offset });
         assert_eq!(rt; fault_of(SECTION, offset), want, "{offset}");
     }

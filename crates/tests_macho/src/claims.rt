@@ -62,8 +62,8 @@ const PROGRAM_BYTES: [(usize, &[u8]); 18] = [
     (4144, b"\0_a\0_b"),
 ];
 
-/// A file with a segment that is never mapped, one with a section, one after the file's tables, and three symbols, of
-/// which the first is for a debugger.
+/// A file with a segment that is never mapped, one with a section, one after the file's tables, and three symbols.
+/// The first symbol is for a debugger.
 fn program() -> [u8; 4152] {
     let mut file = [0; 4152];
     put_all(&mut file, &PROGRAM_BYTES);
@@ -250,7 +250,7 @@ const LIBRARY_BYTES: [(usize, &[u8]); 7] = [
     (160, b"\x1d\0\0\0\x10\0\0\0\xf0\0\0\0\x40"),
 ];
 
-/// A library: its link-edit parts, of which the last passes the file's end.
+/// A library with link-edit parts. The last part passes the file's end.
 fn library() -> [u8; 256] {
     let mut file = [0; 256];
     put_all(&mut file, &LIBRARY_BYTES);

@@ -34,8 +34,8 @@ const PROGRAM_BYTES: [(usize, &[u8]); 16] = [
     (4144, b"\0_a\0_b"),
 ];
 
-/// A program of 64 bits: no access to the first 4 GiB, code of 16 bytes at 2048, and three symbols at 4096, of
-/// which the first is for a debugger.
+/// A program of 64 bits: no access to the first 4 GiB, code of 16 bytes at 2048, and three symbols at 4096. The first
+/// symbol is for a debugger.
 fn program() -> [u8; 4152] {
     let mut file = [0; 4152];
     put_all(&mut file, &PROGRAM_BYTES);
@@ -44,7 +44,8 @@ fn program() -> [u8; 4152] {
 
 const ALL_ONES: &[u8] = b"\xff\xff\xff\xff\xff\xff\xff\xff";
 
-/// What is written over which bytes of a program, how many of all are kept, and the fault with its offset.
+/// An offset and the bytes that are written there over those of a program, how many bytes of the file are kept, and
+/// the fault with its offset.
 const FIRST_FAULTS: [(usize, &[u8], usize, Option<(Fault, u64)>); 23] = [
     (0, b"", 4152, None),
     (0, b"", 3, Some((Fault::UnknownFormat, 0))),
@@ -72,7 +73,7 @@ const FIRST_FAULTS: [(usize, &[u8], usize, Option<(Fault, u64)>); 23] = [
     (224, b"\0\0", 352, None),
 ];
 
-/// The fault of the program with these bytes written over it, of which so many are kept.
+/// The fault of the first `len` bytes of the program, with these bytes written over it.
 fn fault_with(rt: &impl Abort, at: usize, bytes: &[u8], len: usize) -> Option<BadFile> {
     let mut file = program();
     assert!(rt; at < 400 && bytes.len() < 50 && len <= file.len());
@@ -89,7 +90,7 @@ fn first_faults(rt: HostRuntime) {
     }
 }
 
-/// The program has its header and its commands, of which the last places the symbols.
+/// The program has its header and its commands. The last command locates the symbols.
 fn has_commands(rt: &impl Abort, macho: &MachoFile<'_>) {
     assert!(rt; macho.wide() && macho.order() == Order::Little);
     assert_eq!(rt; macho.encoding().wide, macho.fork().wide());
@@ -135,7 +136,7 @@ const COMMANDS: [(u64, u32); 4] = [(32, 25), (104, 25), (256, 25), (328, 2)];
 /// The program's commands, in order.
 fn commands_follow(rt: &impl Abort, macho: &MachoFile<'_>) {
     let mut commands = macho.commands();
-    for (place, kind) in COMMANDS {
+    for &(place, kind) in &COMMANDS {
         let command = commands.next().expect(rt, "a command");
         assert_eq!(rt; (command.place, command.kind), (place, kind));
     }
@@ -147,7 +148,7 @@ const SEGMENTS: [(u64, u32, u32); 3] = [(32, 0, 0), (104, 5, 0), (256, 1, 1)];
 /// The program's segments, in order.
 fn segments_follow(rt: &impl Abort, macho: &MachoFile<'_>) {
     let mut segments = macho.segments();
-    for (place, maxprot, first) in SEGMENTS {
+    for &(place, maxprot, first) in &SEGMENTS {
         let segment = segments.next().expect(rt, "a segment");
         assert_eq!(rt;
             (segment.place, segment.maxprot, segment.first),
@@ -169,10 +170,10 @@ const PARTS: [(LinkEdit, u64, u64); 2] = [
     (LinkEdit::StringTable, 4144, 8),
 ];
 
-/// The parts that the program's last command places, in order.
+/// The parts that the program's last command locates, in order.
 fn parts_follow(rt: &impl Abort, macho: &MachoFile<'_>) {
     let mut parts = macho.link_edit_parts();
-    for (kind, offset, len) in PARTS {
+    for &(kind, offset, len) in &PARTS {
         let part = parts.next().expect(rt, "a part");
         assert_eq!(rt; (part.kind, part.offset, part.len), (kind, offset, len));
     }
@@ -202,8 +203,8 @@ fn spans_in(alloc: Global, file: &[u8]) -> Result<(usize, u64), SpanAnswer>
     Ok((spans.len(), len))
 }
 
-/// What is written over which bytes of a program, how many of all are kept, and how many spans there are with the
-/// length of the first, or the fault with its offset.
+/// An offset and the bytes that are written there over those of a program, how many bytes of the file are kept, and
+/// how many spans there are with the length of the first, or the fault with its offset.
 const SPANS: [(usize, &[u8], usize, Result<(usize, u64), (Fault, u64)>); 15] = [
     (4096, b"", 4152, Ok((2, 12))),
     // Two symbols at one value, and one that is the first of the table and the last in memory.
@@ -225,7 +226,7 @@ const SPANS: [(usize, &[u8], usize, Result<(usize, u64), (Fault, u64)>); 15] = [
     (4096, b"", 4100, Err((Fault::TablePastEnd, 328))),
 ];
 
-/// The spans of the program with these bytes written over it, of which so many are kept.
+/// The spans of the first `len` bytes of the program, with these bytes written over it.
 fn spans_with(
     rt: &impl Abort,
     alloc: Global,
@@ -273,7 +274,7 @@ fn put_number(file: &mut [u8], at: u64, number: u32, order: Order)
     put(file, at as usize, &digits);
 }
 
-/// Writes a file of 80 bytes: one command of 48, which places 3 bytes at 64.
+/// Writes a file of 80 bytes: one command of 48, whose first part has 3 bytes at 64.
 fn put_command(file: &mut [u8], command: u32)
     requires { length file.old ≡ 80 }
     ensures { length file.new ≡ length file.old }
@@ -284,7 +285,7 @@ fn put_command(file: &mut [u8], command: u32)
     put(file, 36, b"\x30\0\0\0\x40\0\0\0\x03");
 }
 
-/// Commands, and the first part that each places.
+/// Commands, and the first part that each locates.
 const FIRST_PARTS: [(u32, LinkEdit); 10] = [
     (0x1d, LinkEdit::CodeSignature),
     (0x1e, LinkEdit::SegmentSplitInfo),
@@ -300,7 +301,7 @@ const FIRST_PARTS: [(u32, LinkEdit); 10] = [
 
 #[test]
 fn first_part_of_each_command(rt: HostRuntime) {
-    for (command, kind) in FIRST_PARTS {
+    for &(command, kind) in &FIRST_PARTS {
         let mut file = [0; 80];
         put_command(&mut file, command);
         let macho = MachoFile::parse(&file).expect(&rt, "a sound file");

@@ -156,7 +156,7 @@ fn has_pieces(rt: &impl Abort, maps: &DualMap, example: &Example<'_>) {
     }
 }
 
-// What is built says of an offset what the plain program says.
+// An offset has the address and the label that the plain program finds.
 fn offset_follows(rt: &impl Abort, base: &Base, maps: &DualMap, plain: &Plain<'_>, offset: u64) {
     let address = address_of(plain, offset);
     assert_eq!(rt; base.to_vm(offset), address, "at {offset}");
@@ -164,7 +164,7 @@ fn offset_follows(rt: &impl Abort, base: &Base, maps: &DualMap, plain: &Plain<'_
     assert_eq!(rt; label, label_of_offset(plain, offset), "at {offset}");
 }
 
-// What is built says of an address what the plain program says.
+// An address has the offset and the label that the plain program finds.
 fn address_follows(
     rt: &impl Abort,
     base: &Base,

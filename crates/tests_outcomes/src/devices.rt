@@ -33,7 +33,7 @@ fn a_file_that_cannot_be_read(rt: HostRuntime) -> Result<(), Fail> {
     let alloc = rt.alloc();
     let plain = bytes_of(alloc, Input::Plain)?;
     let files: [NamedFile<'_>; 3] = [("a.elf", &plain), ("b.elf", &plain), ("conf", CONFIG)];
-    for (words, call, number, line) in FAILING {
+    for &(words, call, number, line) in &FAILING {
         let mut devices = sound(alloc);
         devices.failing_reads.push(call)?;
         let ran = run_over(alloc, words, &files, devices)?;

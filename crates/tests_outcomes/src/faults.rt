@@ -55,8 +55,7 @@ fn prints_a_fault_as_in_the_error_line(rt: HostRuntime) -> Result<(), Fail> {
 #[test]
 fn checks_the_numbers_of_tables(rt: HostRuntime) -> Result<(), Fail> {
     let alloc = rt.alloc();
-    // Where a program header has its address and its size in memory, and the file's header the place of the
-    // table of sections and the number of that of the names.
+    // The offsets of p_vaddr and p_memsz of the program header, and of e_shoff and e_shstrndx of the file header.
     const VADDR: usize = 64 + 16;
     const MEMSZ: usize = 64 + 40;
     const SHOFF: usize = 40;

@@ -28,7 +28,7 @@ const MODULE: Input = Input::Text(
     b"\0asm\x01\0\0\0\x01\x04\x01\x60\0\0\x03\x02\x01\0\x0a\x04\x01\x02\0\x0b",
 );
 
-// Words over the file, and the lines of the explanation.
+// Arguments, the file, and the lines of the explanation.
 type Case<'a> = (&'a [&'a str], Input, &'a [&'a str]);
 
 const SECTIONS: [Case<'static>; 6] = [
@@ -198,7 +198,7 @@ const SYMBOLS: [Case<'static>; 4] = [
     ),
 ];
 
-// Places under two loads, and in a space of their own.
+// Locations that two loads cover, and locations in an address space of their own.
 const LOADS: [Case<'static>; 4] = [
     (
         &["-d", "segments", "--debug-fileoff=100", "a.elf"],
@@ -473,7 +473,7 @@ const ENDS: [Ended<'static>; 11] = [
 #[test]
 fn places_that_are_not_explained(rt: HostRuntime) -> Result<(), Fail> {
     let alloc = rt.alloc();
-    for (words, file, limits, outcome, status, line) in ENDS {
+    for &(words, file, limits, outcome, status, line) in &ENDS {
         let ran = run_place(alloc, words, file, limits)?;
         assert!(rt; is_end(&ran, outcome, status, line), "{line}");
     }
@@ -514,7 +514,7 @@ const MISUSED: [Misused<'static>; 5] = [
 #[test]
 fn words_that_ask_for_no_place(rt: HostRuntime) -> Result<(), Fail> {
     let alloc = rt.alloc();
-    for (words, kind, line) in MISUSED {
+    for &(words, kind, line) in &MISUSED {
         let ran = run_place(alloc, words, Input::Plain, FULL)?;
         assert!(rt; is_end(&ran, Outcome::Usage(kind), 2, line), "{line}");
     }

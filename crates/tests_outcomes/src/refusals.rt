@@ -1,4 +1,4 @@
-//! Arguments, files and configurations that end a run without a report, with the line that says why.
+//! Arguments, files and configurations that end a run without a report, and the line that reports why.
 
 use bloaty_engine::{Outcome, UsageKind};
 use config_text::ConfigKind;
@@ -120,7 +120,7 @@ const MISUSES: [Misuse<'static>; 22] = [
 fn misused_words(rt: HostRuntime) -> Result<(), Fail> {
     let alloc = rt.alloc();
     let file = bytes_of(alloc, Input::Plain)?;
-    for (words, kind, line) in MISUSES {
+    for &(words, kind, line) in &MISUSES {
         let ran = run(alloc, words, &file, sound(alloc))?;
         assert!(rt; is_end(&ran, Outcome::Usage(kind), 2, line), "{line}");
     }
@@ -232,9 +232,9 @@ const BAD_CONFIGS: [BadConfig<'static>; 12] = [
 fn configurations_with_a_fault(rt: HostRuntime) -> Result<(), Fail> {
     let alloc = rt.alloc();
     let file = bytes_of(alloc, Input::Plain)?;
-    for (text, kind, offset, line) in BAD_CONFIGS {
+    for &(text, kind, offset, line) in &BAD_CONFIGS {
         let files: [NamedFile<'_>; 2] = [("a.elf", &file), ("conf", text)];
-        // The configuration is read before its sources are looked for.
+        // The configuration is read before the names in `-d` are resolved.
         let words = ["-c", "conf", "-d", "nope", "a.elf"];
         let ran = run_over(alloc, &words, &files, sound(alloc))?;
         assert!(rt;
@@ -321,7 +321,7 @@ const BAD_INPUTS: [BadInput<'static>; 7] = [
 fn files_with_a_fault(rt: HostRuntime) -> Result<(), Fail> {
     let alloc = rt.alloc();
     let plain = bytes_of(alloc, Input::Plain)?;
-    for (input, fault, offset, line) in BAD_INPUTS {
+    for &(input, fault, offset, line) in &BAD_INPUTS {
         let bad = bytes_of(alloc, input)?;
         let ran = run(alloc, &["a.elf"], &bad, sound(alloc))?;
         let outcome = Outcome::Bad {
@@ -330,7 +330,7 @@ fn files_with_a_fault(rt: HostRuntime) -> Result<(), Fail> {
             offset,
         };
         assert!(rt; is_end(&ran, outcome, 1, line), "{line}");
-        // Behind a sound file it is the second one.
+        // After a sound file it is the second one.
         let files: [NamedFile<'_>; 2] = [("b.elf", &plain), ("a.elf", &bad)];
         let ran = run_over(alloc, &["b.elf", "a.elf"], &files, sound(alloc))?;
         let outcome = Outcome::Bad {
@@ -403,7 +403,7 @@ const PASSED_LIMITS: [Passed<'static>; 7] = [
 #[test]
 fn passed_limits(rt: HostRuntime) -> Result<(), Fail> {
     let alloc = rt.alloc();
-    for (words, input, limits, outcome, line) in PASSED_LIMITS {
+    for &(words, input, limits, outcome, line) in &PASSED_LIMITS {
         let file = bytes_of(alloc, input)?;
         let mut devices = sound(alloc);
         devices.limits = limits;

@@ -2,6 +2,7 @@
 
 ghost use Rattle.std.specs.Prelude.{◌<◌, length};
 
+use crate::checks::{holds, same};
 use byte_cursor::{Cursor, Order};
 use size_core::{BadFile, Fault};
 
@@ -42,7 +43,7 @@ const UNSIGNED: [(&[u8], Result<u64, BadFile>); 9] = [
 fn leb128_numbers(rt: HostRuntime) {
     for &(bytes, want) in &UNSIGNED {
         assert!(rt; bytes.len() < 100);
-        assert_eq!(rt; cursor(bytes).uleb(), want);
+        same(&rt, &bytes, &cursor(bytes).uleb(), &want);
     }
 }
 
@@ -68,7 +69,7 @@ const SIGNED: [(&[u8], Result<i64, BadFile>); 10] = [
 fn signed_leb128_numbers(rt: HostRuntime) {
     for &(bytes, want) in &SIGNED {
         assert!(rt; bytes.len() < 100);
-        assert_eq!(rt; cursor(bytes).sleb(), want);
+        same(&rt, &bytes, &cursor(bytes).sleb(), &want);
     }
 }
 
@@ -76,22 +77,23 @@ fn signed_leb128_numbers(rt: HostRuntime) {
 fn places_are_offsets_of_the_file(rt: HostRuntime) {
     let bytes = b"\x01\x02\x03\x04\x05\x06\x07\x08\x09\x0a\x0b\x0c\x0d\x0e\x0fab\0c";
     let mut c = cursor(bytes);
-    assert_eq!(rt; c.u8(), Ok(1));
-    assert_eq!(rt; c.u16(Order::Little), Ok(0x302));
-    assert_eq!(rt; c.u32(Order::Big), Ok(0x4050607));
-    assert_eq!(rt; c.u64(Order::Little), Ok(0xf0e0d0c0b0a0908));
-    assert!(rt; c.cstr() == Ok(b"ab".as_slice()));
-    assert_eq!(rt; c.place(), 1018);
+    same(&rt, &"1 byte", &c.u8(), &Ok(1));
+    same(&rt, &"2 bytes", &c.u16(Order::Little), &Ok(0x302));
+    same(&rt, &"4 bytes", &c.u32(Order::Big), &Ok(0x4050607));
+    let eight = c.u64(Order::Little);
+    same(&rt, &"8 bytes", &eight, &Ok(0xf0e0d0c0b0a0908));
+    holds(&rt, &"a text", c.cstr() == Ok(b"ab".as_slice()));
+    same(&rt, &"after the text", &c.place(), &1018);
     let missing = Err(BadFile {
         fault: Fault::Truncated,
         offset: 1018,
     });
-    assert!(rt; c.cstr() == missing);
-    assert_eq!(rt; c.skip(1), Ok(()));
-    assert_eq!(rt; c.left(), 0);
+    holds(&rt, &"no text", c.cstr() == missing);
+    same(&rt, &"a skipped byte", &c.skip(1), &Ok(()));
+    same(&rt, &"at the end", &c.left(), &0);
     let mut window = c
         .sub(15, 2)
         .expect(&rt, "these two bytes lie in the window");
-    assert_eq!(rt; window.place(), 1015);
-    assert_eq!(rt; window.u8(), Ok(b'a'));
+    same(&rt, &"the window", &window.place(), &1015);
+    same(&rt, &"its first byte", &window.u8(), &Ok(b'a'));
 }

@@ -2,10 +2,12 @@
 
 ghost use Rattle.std.specs.Prelude.{◌≡◌, ◌+◌, ◌≤◌, ◌<◌, ◌^◌, length};
 
+use crate::checks::{holds, same};
 use byte_cursor::Order;
-use elf_file::ElfFile;
+use elf_file::{ElfFile, Section, Segment};
 use sample_files::{put, put_all};
 use size_core::{BadFile, Fault};
+use std::process::Abort;
 
 const PLAIN_FILE_BYTES: [(usize, &[u8]); 12] = [
     (0, b"\x7fELF\x02\x01\x01"),
@@ -39,7 +41,7 @@ const PAST_IT: &[u8] = b"\0\xf0\xff\xff\xff\xff\xff\xff\0\0\0\0\0\0\0\0\0\0\0\0\
 // A section's type, flags, address and offset: none, and a byte further than it fits.
 const PAST_END: &[u8] = b"\0\0\0\0\0\0\0\0\0\0\0\0\0\0\0\0\0\0\0\0\x51\x01";
 
-// What is written over which bytes, how many of all are kept, and the fault with its offset.
+// An offset and the bytes that are written there, how many bytes of the file are kept, and the fault with its offset.
 const FIRST_FAULTS: [(usize, &[u8], usize, Option<(Fault, u64)>); 22] = [
     (0, b"", 352, None),
     (0, b"", 351, Some((Fault::TablePastEnd, 160))),
@@ -80,8 +82,28 @@ fn first_faults(rt: HostRuntime) {
         put(&mut file, at, bytes);
         let found = ElfFile::parse(&file[..len]).err();
         let want = want.map(|(fault, offset)| BadFile { fault, offset });
-        assert_eq!(rt; found, want, "{bytes:?} at {at}, {len} bytes");
+        same(&rt, &(at, bytes, len), &found, &want);
     }
+}
+
+fn is_text(rt: &impl Abort, text: &Section<'_>) {
+    holds(rt, &"name", text.name == b".text".as_slice());
+    same(
+        rt,
+        &"header",
+        &(text.place, text.kind, text.flags),
+        &(224, 1, 6),
+    );
+    let range = (text.addr, text.offset, text.size);
+    same(rt, &"range", &range, &(0x400078, 120, 16));
+}
+
+/// The segment has this offset of its header, type and flags, and this offset, address, and size in the file and in
+/// memory.
+fn is_load(rt: &impl Abort, load: &Segment, header: (u64, u32, u32), range: (u64, u64, u64, u64)) {
+    same(rt, &"header", &(load.place, load.kind, load.flags), &header);
+    let found = (load.offset, load.vaddr, load.filesz, load.memsz);
+    same(rt, &"range", &found, &range);
 }
 
 #[test]
@@ -89,25 +111,20 @@ fn tables_of_a_plain_file(rt: HostRuntime) {
     let file = plain_file();
     let elf = ElfFile::parse(&file).expect(&rt, "the file is well formed");
     let header = elf.header();
-    assert_eq!(rt; (header.kind, header.machine), (2, 0x3e));
-    assert_eq!(rt; (header.phoff, header.shoff), (64, 160));
+    same(&rt, &"type", &(header.kind, header.machine), &(2, 0x3e));
+    same(&rt, &"offsets", &(header.phoff, header.shoff), &(64, 160));
     assert_eq!(rt; (header.segments, header.sections), (1, 3));
     let text = elf.section(1);
-    assert!(rt; text.name == b".text".as_slice());
-    assert_eq!(rt; (text.place, text.kind), (224, 1));
-    assert_eq!(rt; text.flags, 6);
-    assert_eq!(rt; (text.addr, text.offset, text.size), (0x400078, 120, 16));
-    assert!(rt; elf.section(0).name.is_empty());
-    assert_eq!(rt; elf.section_bytes(2).len(), 17);
-    assert!(rt; elf.section_bytes(0).is_empty());
+    is_text(&rt, &text);
+    holds(&rt, &"section 0", elf.section(0).name.is_empty());
+    let lengths = (elf.section_bytes(2).len(), elf.section_bytes(0).len());
+    same(&rt, &"bytes of sections", &lengths, &(17, 0));
     let load = elf.segment(0);
-    assert_eq!(rt; (load.place, load.kind, load.flags), (64, 1, 5));
-    assert_eq!(rt; (load.offset, load.vaddr), (0, 0x400000));
-    assert_eq!(rt; (load.filesz, load.memsz), (136, 136));
-    assert_eq!(rt; elf.segment_bytes(0).len(), 136);
-    assert_eq!(rt; elf.find(b".shstrtab"), Some(2));
-    assert_eq!(rt; elf.find(b""), None);
-    assert_eq!(rt; elf.bytes().len(), 352);
+    is_load(&rt, &load, (64, 1, 5), (0, 0x400000, 136, 136));
+    let lengths = (elf.segment_bytes(0).len(), elf.bytes().len());
+    same(&rt, &"bytes", &lengths, &(136, 352));
+    let found = (elf.find(b".shstrtab"), elf.find(b""));
+    same(&rt, &"names", &found, &(Some(2), None));
 }
 
 const BIG_ENDIAN_FILE_OF_32_BITS_BYTES: [(usize, &[u8]); 6] = [
@@ -125,12 +142,14 @@ fn big_endian_file_of_32_bits(rt: HostRuntime) {
     put_all(&mut file, &BIG_ENDIAN_FILE_OF_32_BITS_BYTES);
     let elf = ElfFile::parse(&file).expect(&rt, "the file is well formed");
     let header = elf.header();
-    assert_eq!(rt; (header.wide, header.order), (false, Order::Big));
-    assert_eq!(rt; (header.kind, header.machine), (3, 8));
+    let form = (header.wide, header.order);
+    same(&rt, &"form", &form, &(false, Order::Big));
+    same(&rt, &"type", &(header.kind, header.machine), &(3, 8));
     assert_eq!(rt; (header.segments, header.sections), (1, 0));
     let load = elf.segment(0);
-    assert_eq!(rt; (load.flags, load.vaddr), (6, 0x400000));
-    assert_eq!(rt; (load.filesz, load.memsz), (84, 256));
+    let range = (load.vaddr, load.filesz, load.memsz);
+    same(&rt, &"flags", &load.flags, &6);
+    same(&rt, &"range", &range, &(0x400000, 84, 256));
 }
 
 #[test]
@@ -140,6 +159,6 @@ fn more_sections_than_the_header_can_count(rt: HostRuntime) {
     put(&mut file, 60, b"\0");
     put(&mut file, 192, b"\0\xff");
     let elf = ElfFile::parse(&file).expect(&rt, "the file is well formed");
-    assert_eq!(rt; elf.header().sections, 65280);
-    assert_eq!(rt; elf.find(b".data"), None);
+    same(&rt, &"sections", &elf.header().sections, &65280);
+    same(&rt, &".data", &elf.find(b".data"), &None);
 }

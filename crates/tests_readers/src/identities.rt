@@ -2,6 +2,7 @@
 
 ghost use Rattle.std.specs.Prelude.{◌≡◌, ◌+◌, ◌≤◌, length};
 
+use crate::checks::{holds, same};
 use byte_cursor::Order;
 use debug_pair::{elf_identity, macho_identity, notes};
 use elf_file::ElfFile;
@@ -87,9 +88,9 @@ fn notes_of_areas(rt: HostRuntime) {
     for &(area, order, first, more) in &AREAS {
         let mut all = notes(area, order);
         let found = all.next().map(|note| (note.name, note.kind, note.content));
-        assert!(rt; found == first, "{area:?}");
-        assert_eq!(rt; all.next().is_some(), more, "{area:?}");
-        assert!(rt; all.next().is_none(), "{area:?}");
+        holds(&rt, &area, found == first);
+        same(&rt, &area, &all.next().is_some(), &more);
+        holds(&rt, &area, all.next().is_none());
     }
 }
 
@@ -151,7 +152,7 @@ fn build_ids(rt: HostRuntime) {
         assert!(rt; at < 420 && bytes.len() < 20);
         put(&mut file, at, bytes);
         let elf = ElfFile::parse(&file).expect(&rt, "the file is well formed");
-        assert!(rt; elf_identity(&elf) == want, "{bytes:?} at {at}");
+        holds(&rt, &(at, bytes), elf_identity(&elf) == want);
     }
 }
 
@@ -197,6 +198,6 @@ fn uuids(rt: HostRuntime) {
         assert!(rt; at < 40 && bytes.len() < 20);
         put(&mut file, at, bytes);
         let macho = MachoFile::parse(&file).expect(&rt, "the file is well formed");
-        assert!(rt; macho_identity(&macho) == want, "{bytes:?} at {at}");
+        holds(&rt, &(at, bytes), macho_identity(&macho) == want);
     }
 }

@@ -2,6 +2,7 @@
 
 ghost use Rattle.std.specs.Prelude.{◌≡◌, ◌+◌, ◌≤◌, ◌<◌, length};
 
+use crate::checks::{holds, same};
 use elf_file::ElfFile;
 use elf_symbols::{NumbersIndex, SHT_DYNSYM, SHT_SYMTAB, SHT_SYMTAB_SHNDX, SymbolTable};
 use sample_files::{put, put_all};
@@ -13,8 +14,8 @@ const PUT_SYMBOLS_BYTES: [(usize, &[u8]); 3] = [
     (112, b"\0a\0bc\0"),
 ];
 
-/// Writes a header for so many sections, whose headers are at an offset, two symbols at 64 and their names at 112.
-/// The second symbol's section is in the numbers of sections.
+/// Writes a file header for `sections` sections, whose headers begin at `headers`, two symbols at 64 and their names
+/// at 112. The number of the second symbol's section is in a table of extended section numbers.
 fn put_symbols(file: &mut [u8], headers: u8, sections: u8)
     requires { 120 ≤ length file.old }
     ensures { length file.new ≡ length file.old }
@@ -53,15 +54,17 @@ fn symbols_of_a_table(rt: HostRuntime) {
     let table = SymbolTable::at(&elf, 1).expect(&rt, "section 1 names a section");
     assert_eq!(rt; table.len(), 2);
     let first = table.symbol(0).expect(&rt, "the first symbol has its name");
-    assert!(rt; first.name == b"a".as_slice());
-    assert_eq!(rt; (first.place, first.value), (64, 0x400078));
-    assert_eq!(rt; (first.size, first.kind), (8, 2));
-    assert_eq!(rt; (first.shndx, first.section), (3, 3));
+    holds(&rt, &"first", first.name == b"a".as_slice());
+    let range = (first.place, first.value, first.size);
+    same(&rt, &"first", &range, &(64, 0x400078, 8));
+    let kind = (first.kind, first.shndx, first.section);
+    same(&rt, &"first", &kind, &(2, 3, 3));
     let second = table
         .symbol(1)
         .expect(&rt, "the second symbol has its section");
-    assert!(rt; second.name == b"bc".as_slice());
-    assert_eq!(rt; (second.shndx, second.section), (0xffff, 0x10000));
+    holds(&rt, &"second", second.name == b"bc".as_slice());
+    let section = (second.shndx, second.section);
+    same(&rt, &"second", &section, &(0xffff, 0x10000));
 }
 
 /// The fault of the table in section 1 or, if it has none, of its second symbol, once bytes are written over.
@@ -97,7 +100,7 @@ fn faults_of_a_table(rt: HostRuntime) {
     for &(at, bytes, want) in &TABLE_FAULTS {
         assert!(rt; at < 380 && bytes.len() < 4);
         let want = want.map(|(fault, offset)| BadFile { fault, offset });
-        assert_eq!(rt; fault_of(at, bytes), want, "{bytes:?} at {at}");
+        same(&rt, &(at, bytes), &fault_of(at, bytes), &want);
     }
 }
 
@@ -149,28 +152,31 @@ fn second_section(table: Result<SymbolTable<'_>, BadFile>) -> Result<u32, BadFil
     Ok(symbol.section)
 }
 
+const NO_NUMBER: BadFile = BadFile {
+    fault: Fault::BadIndex,
+    offset: 88,
+};
+
+/// A table's section, the first section with its numbers, and the section of its second symbol.
+const FIRST_NUMBERS: [(u32, Option<u32>, Result<u32, BadFile>); 3] = [
+    (1, Some(5), Ok(0x10000)),
+    (2, Some(4), Ok(0x30000)),
+    (8, None, Err(NO_NUMBER)),
+];
+
 #[test]
 fn first_numbers_of_each_table(rt: HostRuntime) {
     let file = file_with_tables();
     let elf = ElfFile::parse(&file).expect(&rt, "a sound file");
     let numbers = NumbersIndex::of(rt.alloc(), &elf).expect(&rt, "memory");
-    let none = BadFile {
-        fault: Fault::BadIndex,
-        offset: 88,
-    };
-    for (i, first, want) in [
-        (1, Some(5), Ok(0x10000)),
-        (2, Some(4), Ok(0x30000)),
-        (8, None, Err(none)),
-    ] {
-        assert_eq!(rt; numbers.first(i), first);
+    for &(i, first, want) in &FIRST_NUMBERS {
+        same(&rt, &i, &numbers.first(i), &first);
         assert!(rt; i > 0 && i < elf.header().sections);
         let kind = elf.section(i).kind;
         assert!(rt; kind == SHT_SYMTAB || kind == SHT_DYNSYM);
-        assert_eq!(rt; second_section(SymbolTable::at(&elf, i)), want);
-        assert_eq!(rt;
-            second_section(SymbolTable::indexed(&elf, i, &numbers)),
-            want
-        );
+        let found = second_section(SymbolTable::at(&elf, i));
+        same(&rt, &i, &found, &want);
+        let found = second_section(SymbolTable::indexed(&elf, i, &numbers));
+        same(&rt, &i, &found, &want);
     }
 }

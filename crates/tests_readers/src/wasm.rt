@@ -2,6 +2,7 @@
 
 ghost use Rattle.std.specs.Prelude.{◌<◌, ◌^◌, length};
 
+use crate::checks::{holds, same};
 use size_core::{BadFile, Fault};
 use std::alloc::Global;
 use std::process::Abort;
@@ -11,9 +12,9 @@ use wasm_file::{WasmAnswer, WasmFile};
 const MODULE: [u8; 55] =
     *b"\0asm\x01\0\0\0\x01\x04\x01\x60\0\0\x02\x13\x03\x01m\x01f\0\0\x01m\x01f\0\0\x01m\x01f\0\0\x03\x02\x01\0\x0a\x04\x01\x02\0\x0b\0\x08\x04name\x01\x05\x01";
 
-/// Imports of each kind, two of them functions, at 11, 17, 26, 33 and 40; three bodies at 49, 52 and 55 and a
-/// byte after them; and the names `imp` of 0, `a` and `b` of 2, none and `c` of 3, between two other
-/// subsections, of which the last is cut short.
+/// Imports of each kind, two of them functions, at 11, 17, 26, 33 and 40; three bodies at 49, 52 and 55, and a byte
+/// after them; the name `imp` of function 0, `a` and `b` of function 2, an empty name and `c` of function 3. The
+/// names are between two other subsections. The last subsection is cut short.
 const NAMED: [u8; 92] =
     *b"\0asm\x01\0\0\0\x02\x24\x05\x01m\x01f\0\0\x01m\x01t\x01\x70\x01\x01\x02\x01m\x01m\x02\0\x01\x01m\x01g\x03\x7f\0\x01m\x01h\0\0\x0a\x0b\x03\x02\0\x0b\x02\0\x0b\x02\0\x0b\xff\0\x1f\x04name\0\x02\x01m\x01\x11\x05\0\x03imp\x02\x01a\x02\x01b\x03\0\x03\x01c\x02\x7f\0";
 
@@ -51,7 +52,7 @@ fn faults_of_modules(rt: HostRuntime) {
     for &(file, want) in &MODULE_FAULTS {
         assert!(rt; file.len() < 100);
         let want = want.map(|(fault, offset)| BadFile { fault, offset });
-        assert_eq!(rt; fault_of(file), want, "{file:?}");
+        same(&rt, &file, &fault_of(file), &want);
     }
 }
 
@@ -72,7 +73,7 @@ fn fault_of_cut(n: usize) -> Option<BadFile> {
 #[test]
 fn faults_of_cut_modules(rt: HostRuntime) {
     for n in 0..56 {
-        assert_eq!(rt; fault_of(&MODULE[..n]), fault_of_cut(n), "{n} bytes");
+        same(&rt, &n, &fault_of(&MODULE[..n]), &fault_of_cut(n));
     }
 }
 
@@ -90,13 +91,14 @@ fn sections_come_in_order(rt: HostRuntime) {
     let module = WasmFile::parse(&MODULE).expect(&rt, "a sound file");
     assert!(rt; module.bytes() == MODULE.as_slice());
     let mut sections = module.sections();
-    for (id, place, len, first) in IN_ORDER {
+    for &(id, place, len, first) in &IN_ORDER {
         let section = sections.next().expect(&rt, "a section");
-        assert_eq!(rt; (section.id, section.place, section.len), (id, place, len));
-        assert_eq!(rt; section.name.is_some(), id == 0);
+        let header = (section.id, section.place, section.len);
+        same(&rt, &place, &header, &(id, place, len));
+        same(&rt, &place, &section.name.is_some(), &(id == 0));
         let mut contents = section.contents;
-        assert_eq!(rt; contents.place(), place + 2);
-        assert_eq!(rt; contents.u8(), Ok(first));
+        same(&rt, &place, &contents.place(), &(place + 2));
+        same(&rt, &place, &contents.u8(), &Ok(first));
     }
     assert!(rt; sections.next().is_none());
 }
@@ -126,7 +128,7 @@ fn has_fault(rt: &impl Abort, alloc: Global, file: &[u8], offset: Option<u64>)
         })
     });
     let module = WasmFile::parse(file).expect(rt, "a sound file");
-    assert_eq!(rt; module.functions(alloc).err(), want, "{file:?}");
+    same(rt, &file, &module.functions(alloc).err(), &want);
 }
 
 #[test]
@@ -161,27 +163,25 @@ const FUNCTIONS: [Function<'static>; 4] = [
 
 #[test]
 fn functions_have_indices_and_names(rt: HostRuntime) {
-    for (file, count, j, index, place, name) in FUNCTIONS {
+    for &(file, count, j, index, place, name) in &FUNCTIONS {
         assert!(rt; file.len() < 100);
         let module = WasmFile::parse(file).expect(&rt, "a sound file");
         let functions = module.functions(rt.alloc()).expect(&rt, "functions");
-        assert_eq!(rt; functions.len(), count);
+        same(&rt, &index, &functions.len(), &count);
         assert!(rt; j < functions.len());
         let function = functions[j];
-        assert_eq!(rt;
-            (function.index, function.place, function.len),
-            (index, place, 3)
-        );
-        assert!(rt; function.name == name, "{index}");
+        let range = (function.index, function.place, function.len);
+        same(&rt, &index, &range, &(index, place, 3));
+        holds(&rt, &index, function.name == name);
     }
 }
 
-/// A module names its function of an index so, or not.
+/// The function of a module with this index has this name, or none.
 fn has_name(rt: &impl Abort, file: &[u8], index: u32, want: Option<&[u8]>)
     requires { length file.now < 2 ^ 32 }
 {
     let module = WasmFile::parse(file).expect(rt, "a sound file");
-    assert!(rt; module.name_of(index) == want, "{index}");
+    holds(rt, &index, module.name_of(index) == want);
 }
 
 /// The names of functions by their indices.
@@ -189,10 +189,10 @@ const NAMES: [(u32, Option<&[u8]>); 4] = [(0, Some(b"imp")), (1, None), (2, Some
 
 #[test]
 fn names_of_functions(rt: HostRuntime) {
-    for (index, want) in NAMES {
+    for &(index, want) in &NAMES {
         has_name(&rt, &NAMED, index, want);
     }
-    // One pair more than there are names nothing.
+    // If the count of names is one too large, no function has a name.
     let mut more = NAMED;
     more[72] = 6;
     has_name(&rt, &more, 0, None);

@@ -6,7 +6,7 @@ use std::alloc::Global;
 use std::process::Abort;
 use std::test::Fail;
 
-/// Words over a file named `a.elf`, and the lines of their report.
+/// Arguments, a file named `a.elf`, and the lines of the report.
 pub struct Case<'a> {
     pub words: &'a [&'a str],
     pub file: Input,
@@ -49,7 +49,7 @@ const SECTIONS: [Case<'static>; 8] = [
             "100.0%      352  100.0%      136  TOTAL",
         ],
     },
-    // Addresses without a byte of the file, as many as no walk over them would end with.
+    // So many addresses without a byte of the file that a program which visits each of them would not end.
     Case {
         words: &["--csv", "-n", "0", "-d", "sections", "a.elf"],
         file: Input::LargeBss,
@@ -430,7 +430,7 @@ const MADE: [Case<'static>; 3] = [
             "[section .strtab],0,9001",
         ],
     },
-    // So many claims, in falling order of address, that a body which moves pieces for each claim doesn't end.
+    // So many claims, in falling order of address, that a program which moves pieces for each of them would not end.
     Case {
         words: &["--synth", "1000000", "--csv", "-n", "2", "-d", "symbols"],
         file: Input::Plain,

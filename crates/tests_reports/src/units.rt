@@ -384,7 +384,7 @@ fn a_position_independent_executable(rt: HostRuntime) -> Result<(), Fail> {
     let alloc = rt.alloc();
     for version in [4, 5] {
         let file = bytes_of(alloc, Input::Executable(version))?;
-        for (words, report) in EXECUTABLE {
+        for &(words, report) in &EXECUTABLE {
             let ran = run(alloc, words, &file, sound(alloc))?;
             assert!(rt; is_report(&ran, report));
         }

@@ -2,48 +2,59 @@
 
 ghost use Rattle.std.specs.Prelude.{◌≡◌, ◌<◌};
 
+use crate::checks::{holds, same};
 use size_core::{Bytes, FULL, LabelPool, Names, Path, Source, Steps, Text};
+use std::alloc::Global;
 use std::marker::Brand;
+use std::process::Abort;
 use std::sync::ledger::{Blank, Ledger};
+use std::test::Fail;
 
 #[test]
-fn labels_keep_their_numbers(rt: HostRuntime) {
+fn labels_keep_their_numbers(rt: HostRuntime) -> Result<(), Fail> {
     let mut pool = LabelPool::new(rt.alloc());
-    assert_eq!(rt; pool.intern(b".text").expect(&rt, "memory"), 0);
-    assert_eq!(rt; pool.intern(b"").expect(&rt, "memory"), 1);
-    assert_eq!(rt; pool.intern(b".text").expect(&rt, "memory"), 0);
+    for (label, number) in [(b".text".as_slice(), 0), (b"", 1), (b".text", 0)] {
+        same(&rt, &label, &pool.intern(label)?, &number);
+    }
     assert_eq!(rt; pool.len(), 2);
     assert!(rt; pool.get(1) == b"".as_slice());
+    Ok(())
 }
 
 #[test]
 fn limits_of_the_program(rt: HostRuntime) {
-    assert_eq!(rt; FULL.file, 1_073_741_824);
-    assert_eq!(rt; FULL.total, 2_147_483_648);
-    assert_eq!(rt; FULL.claims, 16_777_216);
+    let limits = (FULL.file, FULL.total, FULL.claims);
+    assert_eq!(rt; limits, (1_073_741_824, 2_147_483_648, 16_777_216));
+}
+
+fn names_hold_copies(rt: &impl Abort, alloc: Global) -> Result<(), Fail> {
+    let mut names = Names::new(alloc);
+    let name = Text::of(alloc, "sections")?;
+    names.push(name.copy()?)?;
+    assert_eq!(rt; names.len(), 1);
+    let first = names.get(0);
+    holds(rt, &"a name", first.as_str() == "sections");
+    let source = Source::named(first.as_slice());
+    same(rt, &"a source", &source, &Some(Source::Sections));
+    Ok(())
+}
+
+fn paths_hold_copies(rt: &impl Abort, alloc: Global) -> Result<(), Fail> {
+    let mut path = Path::new(alloc);
+    let label = Bytes::of(alloc, b"\xff")?;
+    path.push(label.copy()?)?;
+    assert_eq!(rt; path.len(), 1);
+    holds(rt, &"a label", path.get(0).as_slice() == b"\xff".as_slice());
+    Ok(())
 }
 
 #[test]
-fn lists_hold_copies(rt: HostRuntime) {
-    let alloc = rt.alloc();
-    let mut names = Names::new(alloc);
-    let name = Text::of(alloc, "sections").expect(&rt, "memory");
-    names
-        .push(name.copy().expect(&rt, "memory"))
-        .expect(&rt, "memory");
-    assert_eq!(rt; names.len(), 1);
-    assert_eq!(rt; names.get(0).as_str(), "sections");
-    let source = Source::named(names.get(0).as_slice());
-    assert_eq!(rt; source, Some(Source::Sections));
-    let mut path = Path::new(alloc);
-    let label = Bytes::of(alloc, b"\xff").expect(&rt, "memory");
-    path.push(label.copy().expect(&rt, "memory"))
-        .expect(&rt, "memory");
-    assert_eq!(rt; path.len(), 1);
-    assert!(rt; path.get(0).as_slice() == b"\xff".as_slice());
+fn lists_hold_copies(rt: HostRuntime) -> Result<(), Fail> {
+    names_hold_copies(&rt, rt.alloc())?;
+    paths_hold_copies(&rt, rt.alloc())
 }
 
-// Counts to two, and says how many bytes the counter takes.
+// Counts to two, and returns how many bytes the counter takes.
 fn bytes_of_counter<L: Ledger>(blank: Blank) -> usize
     requires name { blank.name ≡ L.name }
     requires parts { blank.parts ≡ L.parts }

@@ -1,5 +1,6 @@
 //! The plain definition of a size, on worked files.
 
+use crate::checks::{holds, same};
 use size_core::{Bytes, Claim, List, Load, NoMemory, Path, Side, Span};
 use size_model::{
     FileView, LabelTest, LabelledClaim, NumberedSource, SourceView, addr, address_label,
@@ -343,15 +344,13 @@ fn edges_of_a_large_section(rt: HostRuntime) {
     let sections = file.sources.get(0);
     for &(address, label, is_mapped) in &EDGE_ADDRESSES {
         let found = label_of_address(&file, sections, 0, address);
-        assert!(rt;
-            found.as_slice() == label.as_bytes(),
-            "{label} at {address}"
-        );
-        assert_eq!(rt; mapped(&file.loads, 0, address), is_mapped, "at {address}");
+        let is_here = mapped(&file.loads, 0, address);
+        holds(&rt, &(label, address), found.as_slice() == label.as_bytes());
+        same(&rt, &address, &is_here, &is_mapped);
     }
     for &(offset, label) in &EDGE_OFFSETS {
         let found = label_of_offset(&file, sections, offset);
-        assert!(rt; found.as_slice() == label.as_bytes(), "{label} at {offset}");
+        holds(&rt, &(label, offset), found.as_slice() == label.as_bytes());
     }
 }
 
@@ -395,14 +394,12 @@ fn edges_of_loads(rt: HostRuntime) {
     let alloc = rt.alloc();
     let file = view(alloc, &EDGES).expect(&rt, "memory");
     for &(space, address, offset) in &EDGE_PLACES {
-        assert_eq!(rt;
-            place(100, &file.loads, space, address),
-            offset,
-            "at {address}"
-        );
+        let found = place(100, &file.loads, space, address);
+        same(&rt, &address, &found, &offset);
     }
     for &(offset, address) in &EDGE_LOADED {
-        assert_eq!(rt; addr(100, &file.loads, offset), address, "at {offset}");
+        let found = addr(100, &file.loads, offset);
+        same(&rt, &offset, &found, &address);
     }
     has_sizes(&rt, alloc, &EDGES);
 }
@@ -449,22 +446,16 @@ fn labels_by_number(rt: HostRuntime) {
         unmapped: 0,
     };
     for (offset, label) in [(119, 0), (120, 1), (127, 1), (128, 2), (132, 0)] {
-        assert_eq!(rt;
-            offset_label(352, &loads, source, offset),
-            label,
-            "at {offset}"
-        );
+        let found = offset_label(352, &loads, source, offset);
+        same(&rt, &offset, &found, &label);
         let address = 0x400000 + offset;
-        assert_eq!(rt;
-            address_label(352, &loads, source, 0, address),
-            label,
-            "at {address}"
-        );
+        let found = address_label(352, &loads, source, 0, address);
+        same(&rt, &address, &found, &label);
     }
 }
 
-#[test]
-fn paths_of_single_bytes(rt: HostRuntime) {
+// What is proved of each file.
+fn laws() {
     cut_is_unique();
     cut_has_labels();
     range_adds_two_places();
@@ -473,16 +464,23 @@ fn paths_of_single_bytes(rt: HostRuntime) {
     totals_are_whole();
     twice_covered_counts_once();
     rewriting_is_by_label();
+}
 
+// A path of two labels without a bracket, which counts for `wanted`.
+fn is_counted(rt: &impl Abort, wanted: &Path, path: &Path) {
+    same(rt, &"labels", &path.len(), &2);
+    holds(rt, &"counts", counts_for::<Bracketed>(None, wanted, path));
+    holds(rt, &"has no bracket", !passes(Some(&Bracketed), path));
+}
+
+#[test]
+fn paths_of_single_bytes(rt: HostRuntime) {
+    laws();
     let alloc = rt.alloc();
     let file = view(alloc, &BY_SEGMENTS).expect(&rt, "memory");
     let wanted = path_of(alloc, &["LOAD #0 [RX]", ".text"]).expect(&rt, "memory");
-    for path in [
-        offset_path(alloc, &file, 120).expect(&rt, "memory"),
-        address_path(alloc, &file, 0, 0x400078).expect(&rt, "memory"),
-    ] {
-        assert_eq!(rt; path.len(), 2);
-        assert!(rt; counts_for::<Bracketed>(None, &wanted, &path));
-        assert!(rt; !passes(Some(&Bracketed), &path));
-    }
+    let by_offset = offset_path(alloc, &file, 120).expect(&rt, "memory");
+    is_counted(&rt, &wanted, &by_offset);
+    let by_address = address_path(alloc, &file, 0, 0x400078).expect(&rt, "memory");
+    is_counted(&rt, &wanted, &by_address);
 }

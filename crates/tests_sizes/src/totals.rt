@@ -5,6 +5,7 @@ ghost use Rattle.std.specs.Option.{ForSome, option_copied};
 ghost use Rattle.size_model.specs.Loads.{IsLoad};
 ghost use Rattle.dual_map.specs.Layout.{IsOver, LabelsBelow};
 
+use crate::checks::{holds, same};
 use dual_map::{Base, DualMap};
 use rollup::{Rollup, RollupAnswer};
 use size_core::{Bytes, Claim, LabelPool, List, Load, NoMemory, Path, Side, Span, Steps};
@@ -206,7 +207,7 @@ fn has_path(rt: &impl Abort, path: &Path, labels: &[&str]) {
     assert_eq!(rt; path.len(), labels.len());
     for (i, label) in labels.iter().enumerate() {
         assert!(rt; i < path.len());
-        assert_eq!(rt; path.get(i).as_slice(), label.as_bytes());
+        holds(rt, label, path.get(i).as_slice() == label.as_bytes());
     }
 }
 
@@ -216,7 +217,7 @@ fn has_rows(rt: &impl Abort, rollup: &Rollup, rows: &[Row<'_>]) {
         assert!(rt; i < rollup.len());
         let row = rollup.row(i);
         has_path(rt, &row.path, labels);
-        assert_eq!(rt; (row.vm, row.file), (vm, file), "row {i}");
+        same(rt, &i, &(row.vm, row.file), &(vm, file));
     }
 }
 
@@ -229,39 +230,54 @@ const SECTION_ROWS: [Row<'static>; 6] = [
     (&["[Unmapped]"], 0, 7),
 ];
 
-#[test]
-fn a_file_is_added_by_sections(rt: HostRuntime) -> Result<(), Fail> {
-    let alloc = rt.alloc();
+// All labels but that of the code.
+const OTHER_LABELS: [bool; 9] = [true, true, true, false, true, true, true, true, true];
+
+// The rows of a file by sections and a filter are these.
+fn adds_sections(
+    rt: &impl Abort,
+    alloc: Global,
+    marks: Option<&[bool]>,
+    rows: &[Row<'_>],
+) -> Result<(), Fail>
+    requires { ForSome (option_copied marks) (λ m. length m ≡ 9) }
+{
     let mut rollup = Rollup::new(alloc, 1);
     assert_eq!(rt; rollup.depth(), 1);
     let claims = sections();
     let sources: [&[Claim]; 1] = [&claims];
-    let all = Asked {
+    let asked = Asked {
         sources: &sources,
-        marks: None,
+        marks,
     };
-    let answer = adds(&rt, alloc, &mut rollup, SMALL, all)?;
-    assert_eq!(rt; answer, None);
-    has_rows(&rt, &rollup, &SECTION_ROWS);
+    let answer = adds(rt, alloc, &mut rollup, SMALL, asked)?;
+    same(rt, &"sections", &answer, &None);
+    has_rows(rt, &rollup, rows);
+    Ok(())
+}
 
-    // All labels but that of the code: it has no row.
-    let mut rollup = Rollup::new(alloc, 1);
-    let marks = [true, true, true, false, true, true, true, true, true];
-    let marked = Asked {
-        sources: &sources,
-        marks: Some(&marks),
-    };
-    let answer = adds(&rt, alloc, &mut rollup, SMALL, marked)?;
-    assert_eq!(rt; answer, None);
+#[test]
+fn a_file_is_added_by_sections(rt: HostRuntime) -> Result<(), Fail> {
+    let alloc = rt.alloc();
+    adds_sections(&rt, alloc, None, &SECTION_ROWS)?;
+    // The code has no row.
     let mut others = Vec::new(alloc);
     for row in &SECTION_ROWS {
         if row.2 != 16 {
             others.push(*row)?;
         }
     }
-    has_rows(&rt, &rollup, others.as_slice());
-    Ok(())
+    adds_sections(&rt, alloc, Some(&OTHER_LABELS), others.as_slice())
 }
+
+const ROWS_OF_THREE: [Row<'static>; 6] = [
+    (&["LOAD #0 [RX]", ".text"], 48, 48),
+    (&["LOAD #0 [RX]", "[ELF Header]"], 192, 192),
+    (&["LOAD #0 [RX]", "[ELF Program Headers]"], 168, 168),
+    (&["[ELF Section Headers]", "[ELF Section Headers]"], 0, 576),
+    (&["[Unmapped]", ".shstrtab"], 0, 51),
+    (&["[Unmapped]", "[Unmapped]"], 4, 21),
+];
 
 #[test]
 fn files_add_up_by_paths_of_two(rt: HostRuntime) -> Result<(), Fail> {
@@ -278,20 +294,9 @@ fn files_add_up_by_paths_of_two(rt: HostRuntime) -> Result<(), Fail> {
         assert!(rt; rollup.depth() == 2 && memsz <= 140);
         let size = FileSize { len: 352, memsz };
         let answer = adds(&rt, alloc, &mut rollup, size, asked)?;
-        assert_eq!(rt; answer, None);
+        same(&rt, &memsz, &answer, &None);
     }
-    has_rows(
-        &rt,
-        &rollup,
-        &[
-            (&["LOAD #0 [RX]", ".text"], 48, 48),
-            (&["LOAD #0 [RX]", "[ELF Header]"], 192, 192),
-            (&["LOAD #0 [RX]", "[ELF Program Headers]"], 168, 168),
-            (&["[ELF Section Headers]", "[ELF Section Headers]"], 0, 576),
-            (&["[Unmapped]", ".shstrtab"], 0, 51),
-            (&["[Unmapped]", "[Unmapped]"], 4, 21),
-        ],
-    );
+    has_rows(&rt, &rollup, &ROWS_OF_THREE);
     Ok(())
 }
 
@@ -304,15 +309,17 @@ fn what_passes_the_limits_is_refused(rt: HostRuntime) -> Result<(), Fail> {
         marks: None,
     };
     let answer = adds(&rt, alloc, &mut rollup, LARGE, asked)?;
-    assert_eq!(rt; answer, None);
+    same(&rt, &"a large file", &answer, &None);
     let answer = adds(&rt, alloc, &mut rollup, LARGE, asked)?;
-    assert_eq!(rt; answer, Some(RollupAnswer::TooManyBytes));
+    let too_many = Some(RollupAnswer::TooManyBytes);
+    same(&rt, &"two large files", &answer, &too_many);
     let size = FileSize {
         len: 352,
         memsz: 1 << 62,
     };
     let answer = adds(&rt, alloc, &mut rollup, size, asked)?;
-    assert_eq!(rt; answer, Some(RollupAnswer::MappedTooLarge));
+    let too_large = Some(RollupAnswer::MappedTooLarge);
+    same(&rt, &"a large load", &answer, &too_large);
     has_rows(&rt, &rollup, &[(&[], 1 << 62, 1 << 62)]);
     Ok(())
 }
@@ -348,12 +355,8 @@ fn view_of(rt: &impl Abort, alloc: Global, claims: &[Claim]) -> Result<SourceVie
     })
 }
 
-// The plain program, which looks at each byte, counts the same.
-#[test]
-fn the_plain_program_counts_the_same(rt: HostRuntime) -> Result<(), Fail> {
-    let alloc = rt.alloc();
-    let sections = sections();
-    let segments = segments();
+// The claims of both data sources, for the plain program.
+fn plain_view(rt: &impl Abort, alloc: Global) -> Result<FileView, Fail> {
     let mut file = FileView {
         len: 352,
         loads: List::new(alloc),
@@ -362,24 +365,37 @@ fn the_plain_program_counts_the_same(rt: HostRuntime) -> Result<(), Fail> {
     for load in &loads_of(alloc, 136)? {
         file.loads.push(*load)?;
     }
-    file.sources.push(view_of(&rt, alloc, &segments)?)?;
-    file.sources.push(view_of(&rt, alloc, &sections)?)?;
-    let marks = [false, false, false, true, false, false, false, false, false];
-    let mut all = Rollup::new(alloc, 2);
-    let mut code = Rollup::new(alloc, 2);
+    file.sources.push(view_of(rt, alloc, &segments())?)?;
+    file.sources.push(view_of(rt, alloc, &sections())?)?;
+    Ok(file)
+}
+
+// The sizes by both data sources of the labels that a filter passes.
+fn rollup_of(rt: &impl Abort, alloc: Global, marks: Option<&[bool]>) -> Result<Rollup, Fail>
+    requires { ForSome (option_copied marks) (λ m. length m ≡ 9) }
+{
+    let sections = sections();
+    let segments = segments();
     let sources: [&[Claim]; 2] = [&segments, &sections];
-    let unmarked = Asked {
+    let mut rollup = Rollup::new(alloc, 2);
+    let asked = Asked {
         sources: &sources,
-        marks: None,
+        marks,
     };
-    let answer = adds(&rt, alloc, &mut all, SMALL, unmarked)?;
-    assert_eq!(rt; answer, None);
-    let marked = Asked {
-        sources: &sources,
-        marks: Some(&marks),
-    };
-    let answer = adds(&rt, alloc, &mut code, SMALL, marked)?;
-    assert_eq!(rt; answer, None);
+    let answer = adds(rt, alloc, &mut rollup, SMALL, asked)?;
+    same(rt, &"both", &answer, &None);
+    Ok(rollup)
+}
+
+const CODE_LABEL: [bool; 9] = [false, false, false, true, false, false, false, false, false];
+
+// The plain program, which looks at each byte, counts the same.
+#[test]
+fn the_plain_program_counts_the_same(rt: HostRuntime) -> Result<(), Fail> {
+    let alloc = rt.alloc();
+    let file = plain_view(&rt, alloc)?;
+    let all = rollup_of(&rt, alloc, None)?;
+    let code = rollup_of(&rt, alloc, Some(&CODE_LABEL))?;
     assert_eq!(rt; (all.len(), code.len()), (6, 1));
     agree(&rt, alloc, &all, &file, None)?;
     agree(&rt, alloc, &code, &file, Some(&IsCode))
@@ -394,9 +410,9 @@ fn agree(
 ) -> Result<(), Fail> {
     for i in 0..rollup.len() {
         let row = rollup.row(i);
-        assert_eq!(rt; file_size_in(alloc, filter, &row.path, file)?, row.file);
+        let size = file_size_in(alloc, filter, &row.path, file)?;
         let vm = vm_size_in(alloc, filter, &row.path, file)?;
-        assert_eq!(rt; vm, u128::from(row.vm));
+        same(rt, &i, &(size, vm), &(row.file, u128::from(row.vm)));
     }
     Ok(())
 }

@@ -221,11 +221,11 @@ const LEVEL_RECORDS: [(Format, Domain, &[u8]); 2] = [
 fn levels_and_others(rt: HostRuntime) {
     let alloc = rt.alloc();
     let tree = tree_of(&rt, alloc, &LEVELS);
-    for (domain, want) in LEVEL_LINES {
+    for &(domain, want) in &LEVEL_LINES {
         let out = lines(&rt, alloc, &tree, domain, false);
         assert!(rt; out.as_slice() == want);
     }
-    for (format, domain, want) in LEVEL_RECORDS {
+    for &(format, domain, want) in &LEVEL_RECORDS {
         let out = records(&rt, alloc, &tree, (format, domain), &["x", "y"]);
         assert!(rt; out.as_slice() == want);
     }
@@ -312,7 +312,7 @@ const CONTROL_RECORDS: [(Format, &[u8]); 2] = [
 fn labels_in_records(rt: HostRuntime) {
     let alloc = rt.alloc();
     let tree = tree_of(&rt, alloc, &CONTROLS);
-    for (format, want) in CONTROL_RECORDS {
+    for &(format, want) in &CONTROL_RECORDS {
         let out = records(&rt, alloc, &tree, (format, Domain::Both), &["x"]);
         assert!(rt; out.as_slice() == want);
     }

@@ -7,8 +7,8 @@ use size_core::{Bytes, Place, Side, Text};
 use std::alloc::Global;
 use std::process::Abort;
 
-// What a data source says: its name and the label; of each claim the number, the side and the label; and how many more
-// there are.
+// An explanation by a data source: its name and the label; of each claim the number, the side and the label; and how
+// many more claims there are.
 #[derive(Clone, Copy)]
 struct Said<'a> {
     name: &'a str,

@@ -217,7 +217,7 @@ fn others_on_three_levels(rt: HostRuntime) {
     let alloc = rt.alloc();
     let tree = tree_of(&rt, alloc, &LEVELS);
     assert!(rt; lines(&rt, alloc, &tree, Domain::File, false).as_slice() == LEVEL_LINES);
-    for (domain, want) in LEVEL_RECORDS {
+    for &(domain, want) in &LEVEL_RECORDS {
         let form = (Format::Csv, domain);
         let out = records(&rt, alloc, &tree, form, &["x", "y", "z"]);
         assert!(rt; out.as_slice() == want);
@@ -315,7 +315,7 @@ fn controls_in_lines(rt: HostRuntime) {
     let feed = letters(&rt, alloc, 27, b"\n\n", 61);
     let feed_shown = letters(&rt, alloc, 27, b"\\x0a[...]", 63);
     has_label(&rt, alloc, &feed, false, &feed_shown);
-    for (label, want) in SHOWN {
+    for &(label, want) in &SHOWN {
         has_label(&rt, alloc, label, false, want);
     }
 }
@@ -352,7 +352,7 @@ const CONTROL_RECORDS: [(Format, &[u8]); 2] = [
 fn labels_in_records(rt: HostRuntime) {
     let alloc = rt.alloc();
     let tree = tree_of(&rt, alloc, &CONTROLS);
-    for (format, want) in CONTROL_RECORDS {
+    for &(format, want) in &CONTROL_RECORDS {
         let out = records(&rt, alloc, &tree, (format, Domain::File), &["x"]);
         assert!(rt; out.as_slice() == want);
     }

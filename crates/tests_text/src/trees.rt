@@ -11,7 +11,7 @@ use size_growth::{GrowthKind, GrowthRow};
 use std::alloc::Global;
 use std::process::Abort;
 
-/// What a row is: a label, or so many labels that a limit left over.
+/// What a row is: a label, or this many labels that a limit leaves out.
 #[derive(Clone, Copy)]
 pub enum Kind<'a> {
     Label(&'a [u8]),
@@ -74,7 +74,7 @@ fn has_children<R: TreeRow>(rows: &List<R>, i: usize) -> bool
     rows.get(i).level() < rows.get(i + 1).level()
 }
 
-// Whether a row is to have no children.
+// Whether a row must have no children: it is an Others row, or is of the last level.
 fn is_last<R: TreeRow>(depth: u32, row: &R) -> bool
     requires { (R.as_row row.now).level < depth }
     ensures { result
@@ -127,7 +127,7 @@ pub fn joined(rt: &impl Abort, alloc: Global, parts: &[&[u8]]) -> Vec<u8> {
     out
 }
 
-/// So many letters, then these bytes, and letters up to a length.
+/// `before` letters, then these bytes, and then letters up to `len` bytes.
 pub fn letters(rt: &impl Abort, alloc: Global, before: usize, bytes: &[u8], len: usize) -> Vec<u8> {
     let mut label = Vec::new(alloc);
     for _ in 0..before {

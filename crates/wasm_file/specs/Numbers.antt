@@ -6,7 +6,7 @@ use Rattle.byte_cursor.specs.declared.order.Order.TheVariants.{Little}
 use Rattle.byte_cursor.specs.Numbers.{num, uleb}
 use Rattle.byte_cursor.specs.Window.{Window}
 
--- A read, and then a read that depends on its value. None if one of them is.
+-- A read, and then a read that depends on its value. None if one of them is None.
 infixl 10 ◌>>=◌
 abbrev pub ◌>>=◌ : {A B : Type 0} → Option A → (A → Option B) → Option B
 None >>= f = None
@@ -44,7 +44,7 @@ long_number_at bytes at = do
   x ← provided (λ x. nat_lt x.0 (2 ^ 64)) x
   Some (x.0, at + x.1)
 
--- The window of as many bytes as the first number says, from the offset in the second number on.
+-- The window of size.0 bytes, from offset size.1 on. base is the file offset of the first of the bytes.
 abbrev pub window_at : ℕ → List ℕ → ℕ × ℕ → Window
 window_at base bytes size = record { base = base + size.1; bytes = take size.0 (drop size.1 bytes); at = 0 }
 

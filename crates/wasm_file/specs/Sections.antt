@@ -86,7 +86,7 @@ pub record AreThere (w : Window) : Type 0 where
   pub whole : w.base ≡ 0
   pub there : are_there w ≡ Ok tt
 
--- This section is at the position of a window, and the position of the next window is after it.
+-- The section s is at the position of a window, and next is the same window with its position after s.
 pub record IsFound (w : Window) (s : SectionRecord) (next : Window) : Type 0 where
   pub read : section_at w.bytes w.at ≡ Ok s
   pub same : next ≡ record w { at = s.place + s.len }

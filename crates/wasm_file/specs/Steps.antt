@@ -8,17 +8,17 @@ abbrev pub window_after : {X : Type 0} → Window → Option (X × ℕ) → Wind
 window_after w None = w
 window_after w (Some x) = record w { at = x.1 }
 
--- This is the window after a read.
+-- next is the window after a read.
 abbrev pub IsAfter : {X : Type 0} → Window → Option (X × ℕ) → Window → Type 0
 IsAfter w read next = next ≡ window_after w read
 
--- This is the window after a read that returns only the next offset.
+-- next is the window after a read that returns only the next offset.
 pub record IsPassed (w : Window) (next_offset : Option ℕ) (next : Window) : Type 0 where
   pub read : next_offset ≡ Some next.at
   pub same : next ≡ record w { at = next.at }
 
--- The size field of the section at an offset has this value, and the position of the next window is after
--- it.
+-- The size field at the position of a window has this value, and next is the same window with its position after the
+-- field. place is the file offset of the section.
 pub record HasSize (w : Window) (place size : ℕ) (next : Window) : Type 0 where
   pub read : size_at w.bytes w.at place ≡ Ok (size, next.at)
   pub same : next ≡ record w { at = next.at }

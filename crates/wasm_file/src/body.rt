@@ -16,6 +16,8 @@ pub struct Body<'a> {
 /// The file range of a body with its size field.
 #[derive(Clone, Copy, Debug, PartialEq, Eq)]
 pub struct Extent {
+    /// The file offset of the size field.
     pub place: u64,
+    /// The number of bytes of the size field and the body together.
     pub len: u64,
 }

@@ -22,7 +22,7 @@ use size_core::NoMemory;
 use std::alloc::Global;
 use std::collections::HashMap;
 
-/// Returns the contents of the first section with this id.
+/// Returns the contents of the first section with this id. `None` if there is no such section.
 pub fn first_with<'a>(sections: WasmSections<'a>, id: u8) -> Option<Cursor<'a>>
     ensures { result ≡ first_with id sections.entry }
 {
@@ -77,7 +77,7 @@ fn name_at<'a>(table: &HashMap<u32, &'a [u8]>, index: u32) -> Option<&'a [u8]>
     }
 }
 
-/// Reads a body.
+/// Reads a body. `None` if it can't be read.
 #[tactic(auto, unfolding(crate::specs::Functions::body_at), using(crate::proofs::NameLemmas::piece_forward))]
 fn read_extent(cursor: &mut Cursor) -> Option<Extent>
     ensures { MatchOption result

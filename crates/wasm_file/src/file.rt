@@ -36,7 +36,7 @@ impl<'a> Model for WasmFile<'a> {
     ghost invariant = { λ w. IsOpened w.file.now };
 }
 
-/// Checks the version.
+/// Checks the version. Truncated or BadHeader at 4.
 #[tactic(auto, unfolding(crate::specs::Module::version_checks))]
 fn check_version(file: &[u8]) -> Result<(), BadFile>
     ensures value { result ≡ first_of (version_checks file.now) }
@@ -90,7 +90,7 @@ impl<'a> WasmFile<'a> {
         self.file
     }
 
-    /// Returns all sections in file order, also repeated ones and those with unknown ids. The iterator
+    /// Returns all sections in file order, including repeated ones and those with unknown ids. The iterator
     /// borrows only the bytes of the file.
     #[tactic(auto, unfolding(crate::specs::Sections::to_come))]
     pub fn sections(&self) -> WasmSections<'a>
@@ -102,7 +102,7 @@ impl<'a> WasmFile<'a> {
 
     /// Returns the name of a function: that of the first pair with its index, in the function names of the
     /// first custom section `name` (WebAssembly core 2.0, 7.4.1 Name Section). `None` if there is no
-    /// such pair, if the name is empty, and if one of the function names can't be read.
+    /// such pair, if the name is empty, or if one of the function names can't be read.
     #[tactic(auto, unfolding(crate::specs::Functions::name_of))]
     pub fn name_of(&self, index: u32) -> Option<&'a [u8]>
         ensures { option_copied result ≡ name_of self.now index }

@@ -81,7 +81,7 @@ pub fn function_names<'a>(sections: WasmSections<'a>) -> FunctionNames<'a>
     pairs_in(find_name_subsection(find_custom_section(sections, b"name")))
 }
 
-/// Returns the name of a function. `None` if the name is empty.
+/// Returns the name of the function with this index. `None` if it has no name or an empty one.
 pub fn name_in<'a>(names: FunctionNames<'a>, index: u32) -> Option<&'a [u8]>
     ensures { option_copied result ≡ name_in names.entry index }
 {

@@ -65,7 +65,8 @@ fn section_size(cursor: &mut Cursor, place: u64) -> Result<u32, BadFile>
     })
 }
 
-/// Reads a section.
+/// Reads a section. Its faults are at the file offset of its id: Truncated or BadLeb for the size field, and
+/// SectionPastEnd if the contents don't lie in the file.
 #[tactic(auto, unfolding(crate::specs::Sections::section_at, crate::specs::Sections::size_at))]
 pub fn read_section<'a>(cursor: &mut Cursor<'a>) -> Result<WasmSection<'a>, BadFile>
     requires whole { cursor.old.base ≡ 0 }

@@ -4,6 +4,6 @@ use Rattle.size_model.specs.Claims.{covers_offset}
 use Rattle.size_model.specs.Labels.{first_label}
 use Rattle.size_model.proofs.plain.label_of_offset.Given as goal
 
--- The remaining claims have the same first match.
+-- The first match among the remaining claims is the first match among all claims.
 abbrev pub invariant-loop-i : goal.invariant-loop-i
 invariant-loop-i l = first_label (λ (k : LabelledClaim). covers_offset l.file.len l.file.loads k.side k.vm k.file l.offset) (λ (k : LabelledClaim). k.label) l.source.unmapped (drop l.i l.source.claims) ≡ first_label (λ (k : LabelledClaim). covers_offset l.file.len l.file.loads k.side k.vm k.file l.offset) (λ (k : LabelledClaim). k.label) l.source.unmapped l.source.claims
