@@ -108,6 +108,8 @@ size-report sources o filter same depth t files has totals text is =
       vm = rw same at has.vm;
     } in
     record {
+      rows = t.rows;
+      counted = sizes;
       tree = report_tree o t.rows;
       order = size-order o files t.rows sizes;
       levels = is-tree (row_options o) (depth_of o) t.rows sizes.deep;
@@ -204,6 +206,8 @@ module _ (limits : Limits) (sources : List Chosen) (o : Options) (filter : Optio
           base_vm = λ test. prints.between.base_vm test ∙ (rw same at has.vm) test;
         } in
         record {
+          paths = prints.paths;
+          counted = growths;
           tree = growth_tree (row_options o) (depth_of o) prints.paths;
           order = growth-order o e.0 bs prints.paths growths;
           levels = growth-tree (row_options o) (depth_of o) prints.paths prints.are.deep;

@@ -18,7 +18,7 @@ use Rattle.report_rows.proofs.TableLemmas.{sum_by-map, sum_by-same}
 use Rattle.size_growth.specs.GrowthTrees.{turned_tree}
 use Rattle.size_growth.proofs.GrowthOrderLemmas.{one-growth}
 use Rattle.size_growth.proofs.TurnLemmas.{growth-turns, no-growth}
-use Rattle.file_profile.specs.Counts.{filter_test}
+use Rattle.file_profile.specs.Counts.{file_size_where, filter_test, vm_size_where}
 use Rattle.bloaty_engine.specs.GrowthReport.{growth_printed, growth_sizes}
 use Rattle.bloaty_engine.specs.Report.{depth_of, printed, row_options}
 use Rattle.bloaty_engine.specs.ReportLaws.{FilesInAnyOrder, FirstLevelIsKept, GrowthTheOtherWay, NoGrowthFromItself, OneReportOfGrowth, OneReportOfSizes, by_first_source}
@@ -48,6 +48,14 @@ any-order o files others text same report =
     let vm = same-vm filter files others same in
     let file = same-file filter files others same in
     record {
+      rows = report.rows;
+      counted = record {
+        ordered = report.counted.ordered;
+        deep = report.counted.deep;
+        some = report.counted.some;
+        file = λ test. report.counted.file test ∙ sym (sum_by-IsPermutation (file_size_where filter test) files others same);
+        vm = λ test. report.counted.vm test ∙ sym (sum_by-IsPermutation (vm_size_where filter test) files others same);
+      };
       tree = report.tree;
       order = subst (λ v. IsTreeOfSizes (row_options o) v (file_size filter others) (depth_of o) report.tree) vm
           (subst (λ f. IsTreeOfSizes (row_options o) (vm_size filter files) f (depth_of o) report.tree) file report.order);

@@ -100,6 +100,8 @@ growth_sizes filter files bases path = record {
 -- The report of the growth of files from base files. The sizes of a path are the numbers of file bytes and of mapped
 -- addresses, of the files and of the base files, whose path of labels, by first covering claims, begins with it.
 --
+-- paths, counted: The full paths with a size above 0 on one side, each once, have these sizes on both sides. Those of any set of
+--     paths add up to the numbers of bytes and addresses whose path is in the set.
 -- tree, order: The tree has these sizes of paths in the report's order: the row of a label has the sizes of its path on both
 --     sides. A label has a row or is left out if one of its shown sizes has changed, and its key is the difference. Within a
 --     level the larger key comes first, and for equal keys the lesser label; the rows under a label follow its row. With `-n`
@@ -111,6 +113,8 @@ growth_sizes filter files bases path = record {
 -- sums: The growths of the children of a row, Others included, add up to that row's, and those of the first level to the total growth.
 -- is: The text is the printed tree.
 pub record IsGrowthReport (o : Options) (files bases : List FileView) (text : List ℕ) : Type 0 where
+  pub paths : List GrowthPath
+  pub counted : AreGrowths (filter_test o.filter) (depth_of o) files bases paths
   pub tree : GrowthTree
   pub order : IsTreeOfGrowths (row_options o) (growth_sizes (filter_test o.filter) files bases) (depth_of o) tree
   pub levels : IsGrowthTree (depth_of o) tree.rows

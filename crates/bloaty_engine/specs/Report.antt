@@ -95,6 +95,8 @@ CountsOnce filter = (path p q : List (List ℕ)) → length p ≡ length q → c
 -- The report of the sizes of files. The sizes of a path are the numbers of file bytes and of mapped addresses whose path
 -- of labels, by first covering claims, begins with it.
 --
+-- rows, counted: The full paths with a size above 0, each once, have the sizes of these rows. The rows of any set of paths
+--     add up to the numbers of bytes and addresses whose path is in the set.
 -- tree, order: The tree has these sizes of paths in the report's order. Each label with a shown size above 0 has a
 --     row or is left out, and no other label has a row. The key of a row is the shown size that `-s` selects, or the
 --     larger one. Within a level the larger key comes first, and for equal keys the lesser label; the rows under a
@@ -109,6 +111,8 @@ CountsOnce filter = (path p q : List (List ℕ)) → length p ≡ length q → c
 -- whole: Without a filter the totals are the lengths of all files and the numbers of addresses that they map.
 -- is: The text is the printed tree.
 pub record IsSizeReport (o : Options) (files : List FileView) (text : List ℕ) : Type 0 where
+  pub rows : List RollupRow
+  pub counted : AreSizes (filter_test o.filter) (depth_of o) files rows
   pub tree : RowTree
   pub order : IsTreeOfSizes (row_options o) (vm_size (filter_test o.filter) files) (file_size (filter_test o.filter) files)
       (depth_of o) tree

@@ -38,7 +38,7 @@ abbrev pub claims_between : List LabelledClaim → ℕ → ℕ → List Labelled
 claims_between made first end = take (end - first) (drop first made)
 
 -- These claims were added, and those that the sheet takes are at these positions. If there were more than the limit,
--- nothing is known of the positions.
+-- nothing is known of the claims at these positions.
 pub record AreAdded (s : Sheet) (first end : ℕ) (claims : List LabelledClaim) : Type 0 where
   pub order : first ≤ end
   pub within : end ≤ length s.made

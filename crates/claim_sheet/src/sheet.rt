@@ -217,8 +217,8 @@ impl ClaimSheet {
         self.repeat(first, end)
     }
 
-    /// Returns the claims, or TooMany if there were more than the limit. The pool gets its labels back, and the labels
-    /// of the claims with them. If it returns the claims, the pool gets no other label.
+    /// Returns the claims, or TooMany if there were more than the limit. The pool gets its labels back. If it returns
+    /// the claims, the pool has their labels and no other new one.
     pub fn finish(self, pool: &mut LabelPool) -> Result<Vec<Claim>, TooMany>
         ensures claims { IfOk result (λ v. texts pool.new v.items ≡ self.made) }
         ensures numbered { IfOk result (λ v. AreNumbered pool.new v.items) }

@@ -13,7 +13,7 @@ pub const DW_UT_SKELETON: u8 = 0x04;
 /// `DW_UT_split_compile`
 pub const DW_UT_SPLIT_COMPILE: u8 = 0x05;
 
-/// `DW_UT_split_type`. It is the greatest type that the standard defines; greater ones are the producer's own.
+/// `DW_UT_split_type`. It is the greatest type that the standard defines.
 pub const DW_UT_SPLIT_TYPE: u8 = 0x06;
 
 /// `DW_AT_name`

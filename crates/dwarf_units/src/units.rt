@@ -76,7 +76,8 @@ impl<'a> Iterator for Units<'a> {
     ghost remaining = { item_count (λ s. s) };
 
     /// The next unit. Truncated or BadUnit at the unit's file offset if its length or its header can't be
-    /// read or doesn't fit the section. After a fault no unit follows.
+    /// read or doesn't fit the section, or BadUnit if its addresses don't have 2, 4 or 8 bytes. After a fault no
+    /// unit follows.
     fn next(&mut self) -> Option<Result<DwarfUnit<'a>, BadFile>> {
         next_unit(&mut self.cursor, self.order, self.start)
     }

@@ -1,20 +1,25 @@
--- When a file fits in a rollup.
-use Rattle.std.proofs.Common.{◌-◌, ◌^◌, ◌<◌, ◌≤◌, inl, inr, ℕ, Result, Ok, Err, refl, arith}
-use Rattle.std.specs.Prelude.{◌↔◌, IsErrOf}
-use Rattle.std.proofs.lemmas.Bool.{cases_lt}
+-- What adding a file to a rollup changes.
+use Rattle.std.proofs.Common.{◌+◌, ℕ, List, Option, Ok, map, ap, ◌∙◌}
+use Rattle.size_core.specs.declared.memory.NoMemory.{NoMemory}
+use Rattle.size_model.specs.Numbered.{text_of}
+use Rattle.dual_map.specs.Layout.{Layout}
+use Rattle.path_rows.specs.Sums.{file_where, vm_where}
 use Rattle.rollup.specs.declared.answer.RollupAnswer.{RollupAnswer}
-use Rattle.rollup.specs.declared.answer.RollupAnswer.TheVariants.{TooManyBytes, MappedTooLarge, NoMemory}
-use Rattle.file_profile.specs.Added.{FitsIn}
+use Rattle.rollup.specs.Files.{AddsFile, CountedFile, CountsFile}
+use Rattle.rollup.specs.Totals.{Totals}
+use Rattle.file_profile.specs.declared.maps.FileMaps.{FileMaps}
+use Rattle.file_profile.specs.Added.{AddsSizes, mapped_file_size, mapped_vm_size}
+use Rattle.file_profile.specs.Counts.{marks_by}
 
-fits-unless : (mapped : ℕ) → ((2 ^ 63 - 1 < mapped) → ⊥) → mapped ≤ 2 ^ 63 - 1
-fits-unless mapped never = elim (cases_lt (2 ^ 63 - 1) mapped) [
-  | inl lt ↦ absurd (never lt)
-  | inr le ↦ le
-]
-
-pub fits-in : (bytes mapped : ℕ) (r : Result (Unit {0}) RollupAnswer) → bytes ≤ 2 ^ 63 - 1 → (IsErrOf r TooManyBytes ↔ (2 ^ 63 - 1 < bytes))
-    → (IsErrOf r MappedTooLarge ↔ ((bytes ≤ 2 ^ 63 - 1) × (2 ^ 63 - 1 < mapped))) → FitsIn mapped r
-fits-in bytes mapped (Ok u) le many large = fits-unless mapped (λ lt. let wrong : IsErrOf {T = Unit {0}} (Ok u) MappedTooLarge = large.1 (le, lt) in cc)
-fits-in bytes mapped (Err TooManyBytes) le many large = absurd (let lt = many.0 refl in omega arith)
-fits-in bytes mapped (Err MappedTooLarge) le many large = (large.0 refl).1
-fits-in bytes mapped (Err NoMemory) le many large = tt
+-- A file that was counted and then added.
+pub sizes-added : (layout : Layout) (m : FileMaps) (filter : Option (List ℕ)) (old new : Totals) (f : CountedFile) (u : Unit {0})
+    → CountsFile layout m.maps.items (marks_by filter m.pool) f → AddsFile {X = Unit {0}} {E = NoMemory} (Ok u) m.pool f old new
+    → AddsSizes {E = RollupAnswer} (Ok tt) old new layout (λ test. mapped_file_size filter test layout m) (λ test. mapped_vm_size filter test layout m)
+sizes-added layout m filter old new f u counts adds = record {
+  unchanged = tt;
+  depth = adds.depth;
+  lengths = adds.lengths ∙ ap (λ n. old.lengths + n) counts.len;
+  mapped = adds.mapped ∙ ap (λ n. old.mapped + n) counts.mapped;
+  file_sizes = λ test. adds.file test ∙ ap (λ n. file_where test old.rows + n) (counts.file (λ ns. test (map (text_of m.pool) ns)));
+  vm_sizes = λ test. adds.vm test ∙ ap (λ n. vm_where test old.rows + n) (counts.vm (λ ns. test (map (text_of m.pool) ns)));
+}

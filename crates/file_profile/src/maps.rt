@@ -1,6 +1,6 @@
 //! The maps of the data sources of a plan over a file.
 
-ghost use Rattle.std.specs.Prelude.{◌<◌, IfSome, length, slice_get};
+ghost use Rattle.std.specs.Prelude.{◌≡◌, ◌<◌, IfSome, length, slice_get};
 ghost use Rattle.file_profile.specs.Claims.{claims_within, layout_of};
 ghost use Rattle.file_profile.specs.Results.{Makes, Yields};
 ghost use Rattle.file_profile.specs.MapLabels.{AreMapped, IsMapped};
@@ -29,6 +29,15 @@ pub struct FileMaps {
     pub maps: Vec<DualMap>,
     /// The pool of the labels of all maps.
     pub pool: LabelPool,
+}
+
+impl FileMaps {
+    /// Drops the maps, and returns the pool of their labels.
+    pub fn into_pool(self) -> LabelPool
+        ensures { result ≡ self.pool }
+    {
+        self.pool
+    }
 }
 
 // The maps of data source `i` of the plan. Its claims are dropped here.

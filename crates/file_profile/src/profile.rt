@@ -8,9 +8,9 @@ ghost use Rattle.rollup.specs.Adding.{piece_count};
 ghost use Rattle.custom_rewrites.specs.Pattern.{is_found};
 ghost use Rattle.data_sources.specs.Groups.{bytes_of};
 ghost use Rattle.data_sources.specs.Loads.{loads_of};
-ghost use Rattle.file_profile.specs.Added.{AddsSizes, FitsIn, mapped_file_size, mapped_vm_size};
+ghost use Rattle.file_profile.specs.Added.{AddsSizes, CountsMaps, FitsIn, mapped_file_size, mapped_vm_size};
 ghost use Rattle.file_profile.specs.Claims.{layout_of};
-ghost use Rattle.file_profile.specs.Counts.{file_size_where, filter_test, step_bound, vm_size_where};
+ghost use Rattle.file_profile.specs.Counts.{file_size_where, filter_test, marks_by, step_bound, vm_size_where};
 ghost use Rattle.file_profile.specs.MapLabels.{AreOver};
 ghost use Rattle.file_profile.specs.Views.{OpenedAnswers, opened_view, opened_viewed};
 
@@ -19,7 +19,7 @@ use crate::maps::{FileMaps, maps_of};
 use crate::plan::Plan;
 use crate::subject::Subject;
 use custom_rewrites::LabelPattern;
-use rollup::{Rollup, RollupAnswer};
+use rollup::{FileSizes, Rollup, RollupAnswer};
 use size_core::{LabelPool, Limits, NoMemory, Steps};
 use std::alloc::Global;
 use std::sync::ledger::Ledger;
@@ -36,38 +36,51 @@ fn marks_of(alloc: Global, pattern: &LabelPattern, pool: &LabelPool) -> Result<V
     Ok(marks)
 }
 
-// Adds the bytes and addresses of the maps that pass the plan's filter.
-fn add_maps<L: Ledger>(
+// Counts the bytes and addresses of the maps that pass the plan's filter.
+fn count_maps<L: Ledger>(
     plan: &Plan,
     subject: &Subject<'_, '_, '_>,
     maps: &FileMaps,
-    total: &mut Rollup,
+    total: &Rollup,
     steps: &mut Steps<L>,
-) -> Result<(), RollupAnswer>
+) -> Result<FileSizes, RollupAnswer>
     requires over { AreOver (layout_of subject.now.binary) maps.now }
-    requires depth { length maps.now.maps.items ≡ total.old.depth }
-    requires lengths { total.old.lengths + length (bytes_of subject.now.binary) ≤ 2 ^ 63 - 1 }
-    ensures sizes { AddsSizes result total.old total.new (layout_of subject.now.binary)
-        (λ test. mapped_file_size plan.now.filter test (layout_of subject.now.binary) maps.now)
-        (λ test. mapped_vm_size plan.now.filter test (layout_of subject.now.binary) maps.now) }
-    ensures answer { FitsIn (total.old.mapped + mapped_count (loads_of subject.now.binary)) result }
+    ensures counts { CountsMaps total.now (layout_of subject.now.binary) maps.now
+        (marks_by plan.now.filter maps.now.pool) result }
     ensures cost { steps.new ≤ steps.old + piece_count maps.now.maps.items }
 {
     let base = subject.base();
     match plan.filter() {
-        None => total.add_file(base, subject.len(), &maps.maps, &maps.pool, None, steps),
+        None => total.count_file(base, &maps.maps, None, steps),
         Some(pattern) => {
             let marks = marks_of(subject.alloc(), pattern, &maps.pool)?;
-            total.add_file(
-                base,
-                subject.len(),
-                &maps.maps,
-                &maps.pool,
-                Some(&marks),
-                steps,
-            )
+            total.count_file(base, &maps.maps, Some(&marks), steps)
         }
     }
+}
+
+// Adds the bytes and addresses of the maps that pass the plan's filter. The maps are dropped before the paths are
+// spelled.
+fn add_maps<L: Ledger>(
+    plan: &Plan,
+    subject: &Subject<'_, '_, '_>,
+    maps: FileMaps,
+    total: &mut Rollup,
+    steps: &mut Steps<L>,
+) -> Result<(), RollupAnswer>
+    requires over { AreOver (layout_of subject.now.binary) maps }
+    requires depth { length maps.maps.items ≡ total.old.depth }
+    requires lengths { total.old.lengths + length (bytes_of subject.now.binary) ≤ 2 ^ 63 - 1 }
+    ensures sizes { AddsSizes result total.old total.new (layout_of subject.now.binary)
+        (λ test. mapped_file_size plan.now.filter test (layout_of subject.now.binary) maps)
+        (λ test. mapped_vm_size plan.now.filter test (layout_of subject.now.binary) maps) }
+    ensures answer { FitsIn (total.old.mapped + mapped_count (loads_of subject.now.binary)) result }
+    ensures cost { steps.new ≤ steps.old + piece_count maps.maps.items }
+{
+    let sizes = count_maps(plan, subject, &maps, total, steps)?;
+    let pool = maps.into_pool();
+    total.add_sizes(&pool, sizes)?;
+    Ok(())
 }
 
 /// Adds the sizes of an opened file to `total`: for each path of labels, one label for each data source of the plan,
@@ -117,6 +130,6 @@ pub fn profile_opened<L: Ledger>(
         → steps.new ≡ steps.old }
 {
     let maps = maps_of(plan, subject, limits.claims)?;
-    add_maps(plan, subject, &maps, total, steps)?;
+    add_maps(plan, subject, maps, total, steps)?;
     Ok(())
 }

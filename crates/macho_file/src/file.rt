@@ -300,8 +300,9 @@ impl<'a> MachoFile<'a> {
     /// Returns the spans of symbols, in symbol table order. A symbol takes part if it isn't for a debugger,
     /// is defined in a section that contains its value, and has a name. Its span ends at the next greater
     /// value of the symbols that take part in the same section, or at the end of the section. Of several
-    /// symbols with one value, the first has the span. Bad is the fault of the table (TablePastEnd), or
-    /// otherwise that of the first symbol with one (NameOutside), whether or not it takes part.
+    /// symbols of one section with one value, the first has the span. Bad is the fault of the table
+    /// (TablePastEnd), or otherwise that of the first symbol with one (NameOutside), whether or not it takes
+    /// part.
     pub fn spans(&self, alloc: Global) -> Result<Vec<SymbolSpan<'a>>, SpanAnswer>
         ensures { MatchResult result
             (λ v. spans self.now ≡ Ok (map span_shown v.items))
@@ -312,7 +313,7 @@ impl<'a> MachoFile<'a> {
         Ok(spans)
     }
 
-    /// Returns the spans as `spans` does, each with the file offset of its name.
+    /// Returns the spans as `spans` does, each with a file offset at which the text is its name.
     #[tactic(auto, unfolding(crate::specs::Spans::spans))]
     pub fn named_spans(&self, alloc: Global) -> Result<Vec<NamedSpan<'a>>, SpanAnswer>
         ensures spans { MatchResult result

@@ -177,8 +177,8 @@ fn spans_of<'a>(
 /// Returns the spans of the symbols of a table, in table order. `extents` has the address range of each section. A symbol
 /// takes part if it isn't for a debugger, is defined in a section that contains its value, and has a name. Its span ends
 /// at the next greater value of the symbols that take part in the same section, or at the end of the section. Of several
-/// symbols with one value, the first has the span. Bad is the fault of the first symbol with one (NameOutside), whether or
-/// not it takes part.
+/// symbols of one section with one value, the first has the span. Bad is the fault of the first symbol with one
+/// (NameOutside), whether or not it takes part.
 #[tactic(auto, using(crate::proofs::SpanLemmas::spans_are, crate::proofs::SpanLemmas::taken_part))]
 pub fn spans_of_table<'a>(
     alloc: Global,

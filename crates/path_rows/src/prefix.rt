@@ -33,7 +33,7 @@ pub fn word_of_label(label: &[u8]) -> u64
     word_after(0, label, 8)
 }
 
-/// The word of the first label of a path. A path with a lesser number is less.
+/// The word of the first label of a path.
 pub fn word_of(path: &Path) -> u64
     ensures { result ≡ word_of path.now }
 {

@@ -429,8 +429,7 @@ fn climbs(branches: &[Box<Branch>], count: usize) -> bool
     branches[next].compare(&branches[next - 1]) == Ordering::Less
 }
 
-/// How many of the last branches of a list have ascending paths, from the last one on. If the branches are sorted, the
-/// greatest path first, and their paths differ, these are all of them.
+/// The length of a run at the end of a list of branches whose paths ascend from the last one on.
 pub fn rising(branches: &[Box<Branch>]) -> usize
     requires some { 0 < length branches.now }
     ensures some { 0 < result }

@@ -27,7 +27,7 @@ pub enum RowKind {
 pub struct Row {
     /// The row's level. The first level is 0.
     pub level: u32,
-    /// The row's label, or how many labels it stands for.
+    /// The row's label, or the number of labels whose sums an Others row has.
     pub kind: RowKind,
     /// The VM size: the number of mapped addresses.
     pub vm: u64,

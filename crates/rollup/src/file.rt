@@ -14,7 +14,27 @@ use crate::walk::{Walked, walk};
 use dual_map::{Base, DualMap};
 use size_core::{NoMemory, Steps};
 use std::alloc::Global;
+use std::marker::Model;
 use std::sync::ledger::Ledger;
+
+/// The sizes of a file by the numbers of its labels, counted and not yet added to a rollup. Contracts see them with the
+/// length of the file and its mapped size.
+#[derive(Drop)]
+pub struct FileSizes {
+    pub(crate) sizes: PathSizes,
+    pub(crate) len: u64,
+    pub(crate) mapped: u64,
+}
+
+impl Model for FileSizes {
+    ghost use Rattle.rollup.specs.Files.{CountedFile, IsWithin};
+
+    ghost Value = { CountedFile };
+
+    ghost view = { λ f. record { entries = f.sizes; len = f.len; mapped = f.mapped } };
+
+    ghost invariant = { λ f. IsWithin f.sizes f.len f.mapped };
+}
 
 // The end of the positions that are walked. Without maps there is no way to distinguish mapped positions from others,
 // so only their number counts.
@@ -54,5 +74,6 @@ pub fn sizes_of_file<L: Ledger>(
     let last = last_position(base, maps);
     let part = Part::Vm;
     walk(alloc, &mut sizes, Walked { maps, part, marks }, last, steps)?;
+    sizes.forget_hints(alloc);
     Ok(sizes)
 }

@@ -231,22 +231,22 @@ fn keyed_rows(
     Ok(Some(rows))
 }
 
-/// The rows of a file, the greatest path first.
+/// The rows of a file, the greatest path first. Its sizes are dropped.
 pub fn new_rows(
     alloc: Global,
     pool: &LabelPool,
-    sizes: &PathSizes,
+    sizes: PathSizes,
 ) -> Result<Vec<RollupRow>, NoMemory>
-    requires below { All (λ (e : Entry). All (λ n. n < length pool.now) e.numbers) sizes.now }
-    requires fits { FitTogether [] (map (row_of pool.now) sizes.now) }
-    ensures same { IfOk result (λ v. IsPermutation (map (row_of pool.now) sizes.now) v.items) }
+    requires below { All (λ (e : Entry). All (λ n. n < length pool.now) e.numbers) sizes }
+    requires fits { FitTogether [] (map (row_of pool.now) sizes) }
+    ensures same { IfOk result (λ v. IsPermutation (map (row_of pool.now) sizes) v.items) }
     ensures falls { IfOk result (λ v. IsSorted falling v.items) }
 {
     let ranks = ranks_of(alloc, pool)?;
-    if let Some(rows) = keyed_rows(alloc, pool, sizes, ranks.as_slice())? {
+    if let Some(rows) = keyed_rows(alloc, pool, &sizes, ranks.as_slice())? {
         return Ok(rows);
     }
-    let mut ranked = ranked_entries(alloc, ranks.as_slice(), sizes)?;
+    let mut ranked = ranked_entries(alloc, ranks.as_slice(), &sizes)?;
     sort_falling(&mut ranked)?;
-    rows_of(alloc, pool, sizes, ranked.as_slice())
+    rows_of(alloc, pool, &sizes, ranked.as_slice())
 }

@@ -12,5 +12,6 @@ mod table;
 mod walk;
 
 pub use answer::RollupAnswer;
+pub use file::FileSizes;
 pub use path_rows::{RollupRow, compare_paths};
 pub use table::Rollup;

@@ -85,6 +85,13 @@ impl LabelSizes {
         self.items.len()
     }
 
+    // Drops what only `find` needs.
+    fn forget_indices(&mut self, alloc: Global)
+        ensures { self.new ≡ self.old }
+    {
+        self.indices = Vec::new(alloc);
+    }
+
     // The list at an index, and its sizes.
     fn get(&self, i: usize) -> (&[usize], Sizes)
         requires { i < length self.now }
@@ -199,6 +206,13 @@ impl ListSizes {
         (&self.numbers[item.first..end], item.sizes)
     }
 
+    // Drops what only `find` needs.
+    fn forget_hints(&mut self, alloc: Global)
+        ensures { self.new ≡ self.old }
+    {
+        self.hints = Hints::new(alloc);
+    }
+
     // True only if the list at an index is this one.
     fn is_at(&self, i: usize, numbers: &[usize]) -> bool
         ensures { IsTrue result → IsIndexOf numbers.now self.now i }
@@ -288,6 +302,14 @@ impl PathSizes {
             labels: LabelSizes::new(alloc),
             lists: ListSizes::new(alloc),
         }
+    }
+
+    /// Drops what only `add` needs, once the last size was added.
+    pub fn forget_hints(&mut self, alloc: Global)
+        ensures { self.new ≡ self.old }
+    {
+        self.labels.forget_indices(alloc);
+        self.lists.forget_hints(alloc);
     }
 
     /// How many lists there are.

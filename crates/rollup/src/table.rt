@@ -8,13 +8,15 @@ ghost use Rattle.dual_map.specs.Layout.{IsOver, LabelsBelow};
 ghost use Rattle.path_rows.specs.Sums.{file_where, vm_where};
 ghost use Rattle.rollup.specs.Totals.{IsTotals};
 ghost use Rattle.rollup.specs.Adding.{file_count, vm_count, piece_count};
+ghost use Rattle.rollup.specs.Files.{AddsFile, CountsInto, FitsInto};
+ghost use Rattle.rollup.specs.Sizes.{IsEntry};
 
 use crate::answer::RollupAnswer;
-use crate::file::sizes_of_file;
+use crate::file::{FileSizes, sizes_of_file};
 use crate::fresh::new_rows;
 use dual_map::{Base, DualMap};
 use path_rows::{OrderedRows, RollupRow};
-use size_core::{LabelPool, Steps};
+use size_core::{LabelPool, NoMemory, Steps};
 use std::alloc::Global;
 use std::marker::Model;
 use std::sync::ledger::Ledger;
@@ -130,22 +132,55 @@ impl Rollup {
             × (2 ^ 63 - 1 < self.old.mapped + mapped_count base.now.loads)) }
         ensures unchanged { OnErr result (self.new ≡ self.old) }
 
-        // Each piece is read once at most.
+        // At most as many pieces are read as the maps have.
         ensures cost { steps.new ≤ steps.old + piece_count maps.now }
     {
-        let lengths = u128::from(self.lengths) + u128::from(file_len);
-        if lengths > MOST {
+        let sizes = self.count_file(base, maps, passes, steps)?;
+        self.add_sizes(pool, sizes)?;
+        Ok(())
+    }
+
+    /// Counts the sizes of a file as `add_file` does, but adds nothing yet: a caller can drop the maps before the paths
+    /// are spelled.
+    ///
+    /// # Errors
+    ///
+    /// Those of `add_file`.
+    pub fn count_file<L: Ledger>(
+        &self,
+        base: &Base,
+        maps: &[DualMap],
+        passes: Option<&[bool]>,
+        steps: &mut Steps<L>,
+    ) -> Result<FileSizes, RollupAnswer>
+        requires over { All (IsOver base.now) maps.now }
+        ensures counts { CountsInto self.now base.now maps.now (option_copied passes.entry) result }
+        ensures cost { steps.new ≤ steps.old + piece_count maps.now }
+    {
+        let len = base.len();
+        if u128::from(self.lengths) + u128::from(len) > MOST {
             return Err(RollupAnswer::TooManyBytes);
         }
-        let mapped = u128::from(self.mapped) + base.mapped_size();
-        if mapped > MOST {
+        let mapped = base.mapped_size();
+        if u128::from(self.mapped) + mapped > MOST {
             return Err(RollupAnswer::MappedTooLarge);
         }
         let sizes = sizes_of_file(self.alloc, base, maps, passes, steps)?;
-        let new = new_rows(self.alloc, pool, &sizes)?;
+        let mapped = mapped as u64;
+        Ok(FileSizes { sizes, len, mapped })
+    }
+
+    /// Adds the sizes of a file that `count_file` counted. The numbers of its labels are those of `pool`. After an error
+    /// the rollup is unchanged.
+    pub fn add_sizes(&mut self, pool: &LabelPool, counted: FileSizes) -> Result<(), NoMemory>
+        requires entries { All (IsEntry self.old.depth (length pool.now)) counted.entries }
+        requires fits { FitsInto self.old counted }
+        ensures { AddsFile result pool.now counted self.old self.new }
+    {
+        let new = new_rows(self.alloc, pool, counted.sizes)?;
         self.rows.add(self.alloc, new)?;
-        self.lengths = lengths as u64;
-        self.mapped = mapped as u64;
+        self.lengths += counted.len;
+        self.mapped += counted.mapped;
         Ok(())
     }
 }

@@ -22,7 +22,7 @@ pub struct Span {
     pub len: u64,
 }
 
-/// A claim: the label that a data source gives a range of bytes. A span that the side doesn't use has only zeros.
+/// A claim: the label that a data source gives a range of bytes. The span that the side doesn't use isn't read.
 #[derive(Clone, Copy, Debug, PartialEq, Eq, Hash)]
 pub struct Claim {
     /// Which of the two spans the claim names.

@@ -17,7 +17,7 @@ pub enum GrowthKind {
 pub struct GrowthRow {
     /// The row's level. The first level is 0.
     pub level: u32,
-    /// The row's label, or how many labels it stands for.
+    /// The row's label, or the number of labels whose sums an Others row has.
     pub kind: GrowthKind,
     /// The row's sizes in the new files and in the base files.
     pub sizes: GrowthSizes,
