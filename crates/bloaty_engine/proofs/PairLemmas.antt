@@ -59,9 +59,6 @@ unfolding opened_first
 first-long limits file lt =
     long-choice (nat_lt (file_limit limits) (length file)) (nat_lt (total_limit limits) (0 + length file)) (if_sound (opened file)) 1 (grind (arith, nat_tests))
 
-ok-sound : (limits : Limits) (file : List ℕ) → length file ≤ file_limit limits → length file ≤ total_limit limits → IsOk (if_sound (opened file)) → IsOk (opened_first limits file)
-ok-sound limits file le total ok = rw (first-within limits file le total) ok
-
 err-not-ok : (r : Result Binary Outcome) (end : Outcome) → r ≡ Err end → IsOk r → ⊥
 err-not-ok (Ok binary) end e ok = cc
 err-not-ok (Err x) end e ok = cc
@@ -158,10 +155,6 @@ ok-view (Err e) ok = cc
 pub sound-short : (o : Result Binary BadFile) (i : ℕ) → if_sound o ≡ Err (TooLong i) → ⊥
 sound-short (Ok binary) i e = cc
 sound-short (Err bad) i e = cc
-
-pub sound-unread : (o : Result Binary BadFile) (i : ℕ) → if_sound o ≡ Err (ReadFailed i) → ⊥
-sound-unread (Ok binary) i e = cc
-sound-unread (Err bad) i e = cc
 
 end-pair-short : (why : PairAnswer) (i : ℕ) → end_of_pair why ≡ TooLong i → ⊥
 end-pair-short (pair.Bad k bad) i e = cc

@@ -1,12 +1,12 @@
 -- How a plan finds its data sources, name by name, and compiles its patterns, data source by data source.
-use Rattle.std.proofs.Common.{◌≡◌, ◌+◌, ◌-◌, ◌<◌, ◌≤◌, ℕ, zero, suc, true, false, cond, List, [], ◌∷◌, ◌++◌, length, map, take, drop, get_or, Option, None, Some, IfSome, option_map, slice_get, Result, Ok, Err, IsOk, refl, sym, ap, ◌∙◌, append_assoc, arith}
+use Rattle.std.proofs.Common.{◌≡◌, ◌+◌, ◌-◌, ◌<◌, ◌≤◌, ℕ, zero, suc, true, cond, List, [], ◌∷◌, ◌++◌, length, map, take, drop, get_or, Option, None, Some, IfSome, option_map, slice_get, Result, Ok, Err, IsOk, refl, sym, ap, ◌∙◌, append_assoc, arith}
 use Rattle.std.specs.Str.{bytes_eq}
 use Rattle.std.proofs.Math.Seq.{take-append-add}
 use Rattle.std.proofs.lemmas.Grind.{flat_map-append}
 use Rattle.std.proofs.lemmas.List.{append-nil, length-append, length-map, map-append, take-append-drop, take-append-le, take_all, take_more}
 use Rattle.std.proofs.lemmas.List.Elements.{All-append}
 use Rattle.std.proofs.lemmas.Option.{get_or_from_slice_get, none-some, same_Some, slice_get_within}
-use Rattle.size_model.proofs.Firsts.{drop-get, drop-end, map_more}
+use Rattle.size_model.proofs.Firsts.{drop-get, map_more}
 use Rattle.config_text.specs.declared.config.CustomSource.{CustomSource}
 use Rattle.config_text.specs.declared.config.Rewrite.{Rewrite}
 use Rattle.custom_rewrites.specs.Pattern.{IsNoPattern, IsPattern}
@@ -24,27 +24,14 @@ use Rattle.bloaty_engine.proofs.ReadLemmas.{reads-as-many, reads-behind, reads-m
 
 -- A custom data source that has another name, and one that has this name.
 module _ (customs : List CustomSource) (i : ℕ) (c : CustomSource) (name : List ℕ) (at : slice_get customs i ≡ Some c) where
-  pub custom-next : bytes_eq c.name name ≡ false → custom_named (drop i customs) name ≡ custom_named (drop (i + 1) customs) name
-  custom-next other =
-      let one : i + 1 ≡ suc i = omega arith in
-      ap (λ cs. custom_named cs name) (drop-get customs i c at)
-      ∙ (ap (λ b. cond b (Some (as_chosen c)) (custom_named (drop (suc i) customs) name)) other ∙ ap (λ k. custom_named (drop k customs) name) (sym one))
-
   pub custom-here : bytes_eq c.name name ≡ true → custom_named (drop i customs) name ≡ Some (as_chosen c)
   custom-here same =
       ap (λ cs. custom_named cs name) (drop-get customs i c at) ∙ ap (λ b. cond b (Some (as_chosen c)) (custom_named (drop (suc i) customs) name)) same
-
-pub custom-end : (customs : List CustomSource) (i : ℕ) (name : List ℕ) → length customs ≤ i → custom_named (drop i customs) name ≡ None
-custom-end customs i name le = ap (λ cs. custom_named cs name) (drop-end customs i le)
 
 -- Data sources, followed by others.
 abbrev pub with_chosen : List Chosen → Result (List Chosen) ℕ → Result (List Chosen) ℕ
 with_chosen chosen (Ok others) = Ok (chosen ++ others)
 with_chosen chosen (Err unknown) = Err unknown
-
-pub with_none : (r : Result (List Chosen) ℕ) → r ≡ with_chosen [] r
-with_none (Ok others) = refl
-with_none (Err unknown) = refl
 
 with_more : (chosen : List Chosen) (x : Chosen) (number : ℕ) (r : Result (List Chosen) ℕ) → with_chosen chosen (chosen_before number (Some x) r) ≡ with_chosen (chosen ++ x ∷ []) r
 with_more chosen x number (Ok others) = ap Ok (sym (append_assoc chosen (x ∷ []) others))

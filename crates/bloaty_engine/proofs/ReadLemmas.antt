@@ -2,7 +2,7 @@
 use Rattle.std.proofs.Common.{◌≡◌, ℕ, zero, suc, ◌+◌, ◌<◌, ◌≤◌, List, [], ◌∷◌, ◌++◌, length, take, false, true, None, Some, Result, Ok, Err, refl, sym, ap, ◌∙◌, append_assoc, length-append, arith}
 use Rattle.std.specs.Prelude.{IfOk, OnOk, slice_get}
 use Rattle.std.proofs.Math.Seq.{take-append-add}
-use Rattle.std.proofs.lemmas.List.{append-nil, take-append-le, take_all}
+use Rattle.std.proofs.lemmas.List.{append-nil, take-append-le}
 use Rattle.std.proofs.lemmas.Option.{none-some, same_Some}
 use Rattle.size_options.specs.declared.run_options.Options.{Options}
 use Rattle.run_outcome.specs.Names.{debug_names, file_names, name_at, other_names}
@@ -32,10 +32,6 @@ module _ (before names : List (List ℕ)) where
       → after ++ name ∷ [] ≡ before ++ take (k + 1) names
   read-next after k name are at =
       ap (λ ns. ns ++ name ∷ []) are ∙ (append_assoc before (take k names) (name ∷ []) ∙ ap (λ ns. before ++ ns) (sym (take-next names k name at)))
-
-  -- All names were read.
-  pub read-all : (after : List (List ℕ)) (k : ℕ) → after ≡ before ++ take k names → length names ≤ k → after ≡ before ++ names
-  read-all after k are le = are ∙ ap (λ ns. before ++ ns) (take_all k names le)
 
 -- A name keeps its index if names follow, and is further back by the number of names before it.
 pub get-front : (names rest : List (List ℕ)) (k : ℕ) (name : List ℕ) → slice_get names k ≡ Some name → slice_get (names ++ rest) k ≡ Some name
@@ -85,12 +81,6 @@ take-length [] zero le = refl
 take-length [] (suc k) le = absurd (omega arith)
 take-length (n ∷ names) zero le = refl
 take-length (n ∷ names) (suc k) le = omega (arith, take-length names k (omega arith))
-
--- A name of a list has an index below the length.
-pub get-within : (names : List (List ℕ)) (k : ℕ) (name : List ℕ) → slice_get names k ≡ Some name → k < length names
-get-within [] k name at = absurd (none-some name at)
-get-within (n ∷ names) zero name at = omega arith
-get-within (n ∷ names) (suc k) name at = omega (arith, get-within names k name at)
 
 -- Without a synthetic file, the names are those of the arguments.
 pub none-name : (o : Options) (k : ℕ) (name : List ℕ) → o.synth ≡ None → slice_get o.files k ≡ Some name → name_at o (k + 1) ≡ Some name

@@ -384,10 +384,6 @@ RunsTo seen limits o last result = (contents : Contents) × AreContents seen.hel
 contents-of : List ℕ → (ℕ → List ℕ) → Contents
 contents-of text files = record { config = text; files = files }
 
-no-end : (b : Bool) → b ≡ true → b ≡ false → ⊥
-no-end true p q = cc
-no-end false p q = cc
-
 module _ (held : Option Pairs) (limits : Limits) (o : Options) (last text : List ℕ) (is-text : IsText held o.config text) where
   -- Over bytes of files that aren't read.
   unread : Contents

@@ -17,7 +17,7 @@ use Rattle.run_outcome.specs.Names.{file_names, name_at, names_of, other_names}
 use Rattle.bloaty_engine.specs.Devices.{Reads, ReadsFirst, ended}
 use Rattle.bloaty_engine.specs.Reading.{Reading, config_most, config_names, config_reading, file_reading, least_taken, made_len, numbered, read_upto, reading_for, run_reading, unmade_names}
 use Rattle.bloaty_engine.specs.Steps.{Batch, batch_of, batch_reading}
-use Rattle.bloaty_engine.specs.Verdict.{config_limit, file_limit, total_limit}
+use Rattle.bloaty_engine.specs.Verdict.{file_limit, total_limit}
 use Rattle.bloaty_engine.specs.Stages.{ends_without, is_failed_read}
 use Rattle.bloaty_engine.proofs.ReadLemmas.{OnOk-any, OnOk-then, base-name, get-front, reads-as-many, reads-behind, reads-more, reads-none, reads-whole}
 use Rattle.bloaty_engine.proofs.TakenLemmas.{at-least-any, at-least-behind, at-least-less, left-over, most-over, rose-later, some-limit, some-most}
@@ -316,21 +316,6 @@ files-part limits o names all none named = record {
       let same : least_taken limits o.synth i ≡ min (file_limit limits) (total_limit limits - 0) + 1 = ap (λ s. least_taken limits s i) none ∙ least-file limits i lt in
       omega (arith, same);
   most = omega (arith, ap made_len none);
-}
-
--- The configuration.
-no-upto : (synth : Option ℕ) → read_upto synth 0 ≡ 0
-no-upto None = refl
-no-upto (Some n) = refl
-
-pub config-part : (limits : Limits) (o : Options) (name : List ℕ) (limit : ℕ) → o.config ≡ Some name → limit ≡ config_limit limits → IsPart (file_reading 0 name limit) (config_reading limits o) 0 0 0
-config-part limits o name limit is within = record {
-  name_of = λ i n at. let one = single-at 0 i name n at in rw one.0 (is ∙ ap Some one.1);
-  upto = λ i n at.
-      let one = single-at 0 i name n at in
-      rw one.0 (omega (arith, ap (λ c. length (config_names c)) is, no-upto o.synth));
-  least = λ i n at. let one = single-at 0 i name n at in rw one.0 (omega (arith, within));
-  most = omega (arith, within, ap (config_most limits) is);
 }
 
 -- A synthetic file isn't read. It is file 1.

@@ -11,6 +11,7 @@ use Rattle.elf_synth.specs.Made.{made}
 use Rattle.file_profile.specs.Counts.{filter_test}
 use Rattle.file_profile.specs.Plans.{Plans}
 use Rattle.file_profile.specs.Sources.{Chosen}
+use Rattle.size_options.specs.Answers.{HasInput}
 use Rattle.size_options.specs.declared.run_options.Options.{Options}
 use Rattle.run_outcome.specs.declared.outcome.Outcome.{Outcome}
 use Rattle.run_outcome.specs.declared.outcome.Outcome.TheVariants.{ReadFailed, TooLong}
@@ -125,6 +126,35 @@ pub record CanCount (limits : Limits) (sources : List Chosen) (batch : Batch) : 
   pub few : length sources ≤ 8
   pub numbers : batch.first + length batch.names ≤ 2 ^ 64
   pub room : batch.before ≤ total_limit limits
+
+-- The files of the options, or their synthetic file, can be counted.
+--
+-- batch: As a batch they can be counted with the data sources of the plan.
+-- input: There are files, or a synthetic file of at most a million functions.
+-- none: The tally counts no file yet.
+pub record CanTotal {L : Type 0} (limits : Limits) (p : Plans) (o : Options) (tally : Tally L) : Type 0 where
+  pub batch : CanCount limits p.sources (batch_of 0 0 (file_names o))
+  pub input : HasInput o.synth o.files
+  pub none : (tally.files ≡ 0) × (tally.bytes ≡ 0)
+
+-- The growth of a total of files from the base files of the options can be reported. The tally counts these files.
+--
+-- batch: The base files can be counted after them.
+-- depth, total: There is a data source for each name in `-d`, and a path of the total has a label for each.
+pub record CanGrow {L : Type 0} (limits : Limits) (p : Plans) (o : Options) (t : Totals) (tally : Tally L) : Type 0 where
+  pub batch : CanCount limits p.sources (batch_of tally.files tally.bytes o.bases)
+  pub depth : length o.sources ≡ length p.sources
+  pub total : t.depth ≡ length p.sources
+
+-- The synthetic file of `n` functions can be counted.
+--
+-- number: There are at most a million functions.
+-- few: There are at most eight data sources.
+-- none: The tally counts no file yet.
+pub record CanMake {L : Type 0} (n : ℕ) (p : Plans) (tally : Tally L) : Type 0 where
+  pub number : n ≤ 1000000
+  pub few : length p.sources ≤ 8
+  pub none : (tally.files ≡ 0) × (tally.bytes ≡ 0)
 
 -- The tally after a step that counts a batch of files, of which `made` bytes are synthetic and not read. It counts `count` files,
 -- whose lengths add up to `lengths`. `before` and `after` are the files before and after the step.

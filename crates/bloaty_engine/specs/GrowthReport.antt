@@ -100,7 +100,7 @@ growth_sizes filter files bases path = record {
 -- The report of the growth of files from base files. The sizes of a path are the numbers of file bytes and of mapped
 -- addresses, of the files and of the base files, whose path of labels, by first covering claims, begins with it.
 --
--- paths, counted: The full paths with a size above 0 on one side, each once, have these sizes on both sides. Those of any set of
+-- paths, counted: The full paths with a size above 0 on at least one side, each once, have these sizes on both sides. Those of any set of
 --     paths add up to the numbers of bytes and addresses whose path is in the set.
 -- tree, order: The tree has these sizes of paths in the report's order: the row of a label has the sizes of its path on both
 --     sides. A label has a row or is left out if one of its shown sizes has changed, and its key is the difference. Within a

@@ -10,6 +10,8 @@ use Rattle.file_profile.specs.Counts.{filter_test}
 use Rattle.file_profile.specs.PairViews.{pair_view, pair_viewed}
 use Rattle.file_profile.specs.Plans.{Plans}
 use Rattle.file_profile.specs.Sources.{Chosen}
+use Rattle.size_options.specs.Answers.{IsOneInput}
+use Rattle.size_options.specs.declared.run_options.Options.{Options}
 use Rattle.run_outcome.specs.declared.outcome.Outcome.{Outcome}
 use Rattle.bloaty_engine.specs.Costs.{CostsAtMost, pair_cost, view_cost}
 use Rattle.bloaty_engine.specs.FileSteps.{ReadsBatch}
@@ -29,6 +31,14 @@ pub record FitPair (limits : Limits) (file debug : List ℕ) : Type 0 where
   pub fits : length file ≤ file_limit limits
   pub debug_fits : length debug ≤ file_limit limits
   pub lengths : length file ≤ total_limit limits
+
+-- A file can be counted with its debug file.
+--
+-- one: The options ask for one file.
+-- few: There are at most eight data sources.
+pub record CanPair (o : Options) (p : Plans) : Type 0 where
+  pub one : IsOneInput o.synth o.files
+  pub few : length p.sources ≤ 8
 
 -- A file and its debug file were counted, or the run ended at one of them.
 abbrev pub EndsPaired : Limits → List Chosen → Option (List ℕ → Bool) → List ℕ → List ℕ → List ℕ → Result Totals Outcome → Type 0

@@ -2,6 +2,7 @@
 use Rattle.std.specs.Prelude.{◌≡◌, ℕ, ◌+◌, ◌<◌, ⊤, List, [], ◌∷◌, ◌++◌, length, Option, None, Some, Result, Ok, Err, Vec, IsOk}
 use Rattle.std.specs.declared.alloc.Global.{Global}
 use Rattle.size_core.specs.declared.limits.Limits.{Limits}
+use Rattle.size_core.specs.declared.place.Place.{Place}
 use Rattle.outside.specs.declared.files.Files.{Ghosts as FilesGhosts}
 use Rattle.size_options.specs.Answers.{KeepsLimits}
 use Rattle.size_options.specs.declared.run_options.Options.{Options}
@@ -69,6 +70,17 @@ EndsFinding limits sources files o (Err end) = EndsBy (IsReadFile limits sources
 pub record IsReady (o : Options) (p : Plans) : Type 0 where
   pub limits : KeepsLimits o
   pub planned : IsPlanned o p
+
+-- The options ask for the report of a file with its debug file, which has this name. The plan is theirs.
+pub record AsksPair (o : Options) (p : Plans) (name : List ℕ) : Type 0 where
+  pub ready : IsReady o p
+  pub debug : o.debug ≡ Some name
+  pub no_place : o.place ≡ None
+
+-- The options ask for the explanation of this location. The plan is theirs.
+pub record AsksPlace (o : Options) (p : Plans) (location : Place) : Type 0 where
+  pub ready : IsReady o p
+  pub place : o.place ≡ Some location
 
 -- The effect of a step that reads the files of the options and then other files, whose numbers follow. `P` says which result the
 -- step has, by the bytes of the files. `before` and `after` are the files before and after it.

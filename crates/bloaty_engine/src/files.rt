@@ -1,8 +1,8 @@
 //! The files of a run, read and counted one after the other.
 
-ghost use Rattle.std.specs.Prelude.{◌≡◌, ◌≤◌, length};
+ghost use Rattle.std.specs.Prelude.{◌≡◌, length};
 ghost use Rattle.size_options.specs.Answers.{IsOneInput};
-ghost use Rattle.bloaty_engine.specs.FileSteps.{AddsFile, CanCount, CountsBatch, CountsMade, FitsTotal, ReadsFile};
+ghost use Rattle.bloaty_engine.specs.FileSteps.{AddsFile, CanCount, CanMake, CountsBatch, CountsMade, FitsTotal, ReadsFile};
 ghost use Rattle.run_outcome.specs.Names.{file_names};
 ghost use Rattle.bloaty_engine.specs.RunSteps.{IsBlankOf};
 ghost use Rattle.bloaty_engine.specs.Steps.{batch_of};
@@ -35,8 +35,7 @@ impl<L: Ledger> Tally<L> {
     /// Returns the tally before the first file is counted. `blank` opens the counter of steps.
     pub fn begin(blank: Blank) -> Tally<L>
         requires { IsBlankOf L.name L.parts blank.name blank.parts }
-        ensures none { (result.files ≡ 0) × (result.bytes ≡ 0) }
-        ensures steps { result.steps ≡ 0 }
+        ensures { result ≡ record { files = 0; bytes = 0; steps = 0 } }
     {
         Tally {
             files: 0,
@@ -186,9 +185,7 @@ pub fn count_made<L: Ledger>(
     n: u32,
     tally: &mut Tally<L>,
 ) -> Result<Rollup, Outcome>
-    requires number { n ≤ 1_000_000 }
-    requires few { length plan.now.sources ≤ 8 }
-    requires none { (tally.old.files ≡ 0) × (tally.old.bytes ≡ 0) }
+    requires { CanMake n plan.now tally.old }
     ensures { CountsMade run.now.limits plan.now n result tally.old tally.new }
 {
     let mut total = Rollup::new(run.alloc, plan.depth());

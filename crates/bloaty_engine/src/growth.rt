@@ -2,9 +2,8 @@
 
 ghost use Rattle.std.specs.Prelude.{◌≡◌, ◌++◌, length, IfOk, OnOk};
 ghost use Rattle.size_growth.specs.Trees.{IsGrowthTree};
-ghost use Rattle.bloaty_engine.specs.FileSteps.{CanCount, ReportsGrowth};
+ghost use Rattle.bloaty_engine.specs.FileSteps.{CanGrow, ReportsGrowth};
 ghost use Rattle.bloaty_engine.specs.GrowthReport.{PrintsGrowth, growth_printed};
-ghost use Rattle.bloaty_engine.specs.Steps.{batch_of};
 
 use crate::files::{Tally, count_files};
 use crate::request::Run;
@@ -64,10 +63,7 @@ pub fn growth_report<L: Ledger, F: Files>(
     files: &mut F,
     tally: &mut Tally<L>,
 ) -> Result<Vec<u8>, Outcome>
-    requires batch { let batch = batch_of tally.old.files tally.old.bytes run.now.options.bases in
-        CanCount run.now.limits plan.now.sources batch }
-    requires depth { length run.now.options.sources ≡ length plan.now.sources }
-    requires total { total.now.depth ≡ length plan.now.sources }
+    requires { CanGrow run.now.limits plan.now run.now.options total.now tally.old }
     ensures { ReportsGrowth F.Files run.now.limits plan.now run.now.options total.now.rows result
         files.old files.new tally.old tally.new }
 {

@@ -1,10 +1,10 @@
 //! A file with its debug file.
 
-ghost use Rattle.std.specs.Prelude.{◌≡◌, ◌^◌, ◌<◌, ◌≤◌, None, Some, length};
+ghost use Rattle.std.specs.Prelude.{◌≡◌, ◌^◌, ◌<◌, length};
 ghost use Rattle.data_sources.specs.Opened.{opened};
 ghost use Rattle.size_options.specs.Answers.{IsOneInput};
-ghost use Rattle.bloaty_engine.specs.PairSteps.{CountsOpened, CountsPair, FitPair, OpensFirst};
-ghost use Rattle.bloaty_engine.specs.Reports.{IsReady, Reports};
+ghost use Rattle.bloaty_engine.specs.PairSteps.{CanPair, CountsOpened, CountsPair, FitPair, OpensFirst};
+ghost use Rattle.bloaty_engine.specs.Reports.{AsksPair, Reports};
 ghost use Rattle.bloaty_engine.specs.Steps.{EndsAs};
 ghost use Rattle.bloaty_engine.specs.Verdict.{end_of_pair, first_name, if_sound};
 
@@ -59,8 +59,7 @@ fn count_opened<L: Ledger>(
     debug: &[u8],
     steps: &mut Steps<L>,
 ) -> Result<Rollup, Outcome>
-    requires one { IsOneInput run.now.options.synth run.now.options.files }
-    requires few { length plan.now.sources ≤ 8 }
+    requires can { CanPair run.now.options plan.now }
     requires fit { FitPair run.now.limits file.now debug.now }
     ensures { CountsOpened run.now.limits plan.now (first_name run.now.options)
         file.now debug.now result steps.old steps.new }
@@ -102,8 +101,7 @@ fn count_pair<L: Ledger, F: Files>(
     files: &mut F,
     steps: &mut Steps<L>,
 ) -> Result<Rollup, Outcome>
-    requires few { length plan.now.sources ≤ 8 }
-    requires one { IsOneInput run.now.options.synth run.now.options.files }
+    requires { CanPair run.now.options plan.now }
     ensures { CountsPair F.Files run.now.limits plan.now (first_name run.now.options) debug.now
         result files.old files.new steps.old steps.new }
 {
@@ -121,9 +119,7 @@ pub fn pair_report<L: Ledger, F: Files>(
     files: &mut F,
     steps: &mut Steps<L>,
 ) -> Result<Vec<u8>, Outcome>
-    requires ready { IsReady run.now.options plan.now }
-    requires debug { run.now.options.debug ≡ Some debug.now }
-    requires no_place { run.now.options.place ≡ None }
+    requires { AsksPair run.now.options plan.now debug.now }
     ensures { Reports F.Files run.now.limits plan.now run.now.options result
         files.old files.new steps.old steps.new }
 {

@@ -1,12 +1,12 @@
 //! The explanation of one location of the only file.
 
-ghost use Rattle.std.specs.Prelude.{◌≡◌, ◌≤◌, Some, length, min, IfOk};
+ghost use Rattle.std.specs.Prelude.{◌≡◌, ◌≤◌, min, IfOk};
 ghost use Rattle.elf_synth.specs.Made.{made};
 ghost use Rattle.report_text.specs.Places.{place_report_text};
 ghost use Rattle.size_options.specs.Answers.{IsOneInput, KeepsLimits};
 ghost use Rattle.bloaty_engine.specs.FileSteps.{ReadsFiles, UsesMade};
-ghost use Rattle.bloaty_engine.specs.PlaceSteps.{EndsExplained, explained_within};
-ghost use Rattle.bloaty_engine.specs.Reports.{IsPlanned, IsReady, MakesReport};
+ghost use Rattle.bloaty_engine.specs.PlaceSteps.{CanExplain, EndsExplained, explained_within};
+ghost use Rattle.bloaty_engine.specs.Reports.{AsksPlace, MakesReport};
 ghost use Rattle.bloaty_engine.specs.Steps.{Finds};
 ghost use Rattle.bloaty_engine.specs.Verdict.{end_of_place, file_limit, total_limit};
 
@@ -72,9 +72,7 @@ fn explained(
     place: &Place,
     file: &[u8],
 ) -> Result<Vec<PlaceSource>, Outcome>
-    requires one { IsOneInput run.now.options.synth run.now.options.files }
-    requires planned { IsPlanned run.now.options plan.now }
-    requires fits { length file.now ≤ file_limit run.now.limits }
+    requires { CanExplain run.now.limits run.now.options plan.now file.now }
     ensures { let o = run.now.options in
         let decided = explained_within run.now.limits plan.now.sources o place.now file.now in
         EndsExplained decided result }
@@ -118,8 +116,7 @@ pub fn place_report<F: Files>(
     place: &Place,
     files: &mut F,
 ) -> Result<Vec<u8>, Outcome>
-    requires ready { IsReady run.now.options plan.now }
-    requires place { run.now.options.place ≡ Some place.now }
+    requires { AsksPlace run.now.options plan.now place.now }
     ensures { MakesReport F.Files run.now.limits plan.now.sources run.now.options
         result files.old files.new }
 {

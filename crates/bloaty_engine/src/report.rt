@@ -1,13 +1,12 @@
 //! The report of a run, up to its text.
 
 ghost use Rattle.std.specs.Prelude.{◌≡◌, ◌+◌, None, length, IfSome};
-ghost use Rattle.size_options.specs.Answers.{HasInput, KeepsLimits};
+ghost use Rattle.size_options.specs.Answers.{KeepsLimits};
 ghost use Rattle.bloaty_engine.specs.Costs.{CostsAtMost, run_cost};
-ghost use Rattle.bloaty_engine.specs.FileSteps.{CanCount, CountsTotal};
+ghost use Rattle.bloaty_engine.specs.FileSteps.{CanTotal, CountsTotal};
 ghost use Rattle.run_outcome.specs.Names.{file_names};
 ghost use Rattle.bloaty_engine.specs.Reports.{BeginsReport, Reports, ReportsFiles};
 ghost use Rattle.bloaty_engine.specs.RunSteps.{MakesText};
-ghost use Rattle.bloaty_engine.specs.Steps.{batch_of};
 
 use crate::files::{Tally, count_files, count_made, file_count};
 use crate::growth::growth_report;
@@ -37,10 +36,7 @@ fn total_of<L: Ledger, F: Files>(
     files: &mut F,
     tally: &mut Tally<L>,
 ) -> Result<Rollup, Outcome>
-    requires batch { let batch = batch_of 0 0 (file_names run.now.options) in
-        CanCount run.now.limits plan.now.sources batch }
-    requires input { HasInput run.now.options.synth run.now.options.files }
-    requires none { (tally.old.files ≡ 0) × (tally.old.bytes ≡ 0) }
+    requires { CanTotal run.now.limits plan.now run.now.options tally.old }
     ensures { CountsTotal F.Files run.now.limits plan.now run.now.options result
         files.old files.new tally.old tally.new }
 {

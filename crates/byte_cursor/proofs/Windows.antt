@@ -4,13 +4,13 @@ use Rattle.std.proofs.lemmas.List.{get_or-take, get_or-drop, drop-drop, drop-tak
 use Rattle.std.proofs.lemmas.List.Quantifiers.{position-Some}
 use Rattle.std.proofs.lemmas.List.Sums.{position_or_len_is}
 use Rattle.std.proofs.lemmas.Grind.{common_steps}
-use Rattle.std.specs.Prelude.{ℤ, position, nat_lt, slice_index, if◌then◌else◌}
+use Rattle.std.specs.Prelude.{ℤ, position, if◌then◌else◌}
 use Rattle.std.specs.Option.{option_map}
 use Rattle.byte_cursor.proofs.Zeros.{at_place}
 use Rattle.std.specs.Int.{Width, byte_len, byte_worth, sum_through}
 use Rattle.byte_cursor.specs.declared.order.Order.{Order}
 use Rattle.byte_cursor.specs.declared.order.Order.TheVariants.{Little, Big}
-use Rattle.byte_cursor.specs.Numbers.{field, leb, uleb, sleb, signed, text}
+use Rattle.byte_cursor.specs.Numbers.{field, text}
 
 same_sum : (f g : ℕ → ℕ) (k : ℕ) → ((i : ℕ) → i ≤ k → f i ≡ g i) → sum_through f k ≡ sum_through g k
 same_sum f g zero same = same 0 (omega arith)
@@ -63,47 +63,3 @@ unfolding text
 text-window bytes start len at t le h =
     let e = rest_of bytes start len at le in
     text_at_found (drop (start + at) bytes) (len - at) (position (λ b. b == 0) (take (len - at) (drop (start + at) bytes))) t refl (rw e at h)
-
--- A LEB128 number at the start of the first n bytes is the one at the start of all bytes.
-leb_in_front : (ys : List ℕ) (n : ℕ) (x : ℕ × ℕ) → leb (take n ys) ≡ Some x → (leb ys ≡ Some x) × (0 < x.1) × (x.1 ≤ n)
-unfolding leb
-leb_in_front ys zero x h = cc
-leb_in_front [] (suc n) x h = cc
-leb_in_front (y ∷ ys) (suc n) x h = ends (λ z is. leb_in_front ys n z is) (nat_lt y 128) (leb (take n ys)) refl h
-  where
-    ends : ((z : ℕ × ℕ) → leb (take n ys) ≡ Some z → (leb ys ≡ Some z) × (0 < z.1) × (z.1 ≤ n)) → (small : Bool) (rest : Option (ℕ × ℕ)) → leb (take n ys) ≡ rest
-        → (if small then Some (y, 1) else option_map (λ (z : ℕ × ℕ). (y % 128 + 128 * z.0, z.1 + 1)) rest) ≡ Some x
-        → ((if small then Some (y, 1) else option_map (λ (z : ℕ × ℕ). (y % 128 + 128 * z.0, z.1 + 1)) (leb ys)) ≡ Some x) × (0 < x.1) × (x.1 ≤ suc n)
-    ends rests true rest is e =
-        let same : (y, 1) ≡ x = cc in
-        let one : 1 ≡ x.1 = ap (λ (p : ℕ × ℕ). p.1) same in
-        (e, omega arith, omega arith)
-    ends rests false None is e = cc
-    ends rests false (Some z) is e =
-        let front = rests z is in
-        let same : (y % 128 + 128 * z.0, z.1 + 1) ≡ x = cc in
-        let more : z.1 + 1 ≡ x.1 = ap (λ (p : ℕ × ℕ). p.1) same in
-        let fits : z.1 ≤ n = front.2 in
-        (rw front.0 e, omega arith, omega arith)
-
--- A LEB128 number in a window is the same number in the file.
-pub uleb-window : (bytes : List ℕ) (start len at : ℕ) (x : ℕ × ℕ) → at ≤ len → uleb (take len (drop start bytes)) at ≡ Some x → uleb bytes (start + at) ≡ Some x
-uleb-window bytes start len at x le h =
-    let e = rest_of bytes start len at le in
-    (leb_in_front (drop (start + at) bytes) (len - at) x (rw e at h)).0
-
--- A signed LEB128 number in a window is the same number in the file.
-pub sleb-window : (bytes : List ℕ) (start len at : ℕ) (x : ℤ × ℕ) → at ≤ len → sleb (take len (drop start bytes)) at ≡ Some x → sleb bytes (start + at) ≡ Some x
-sleb-window bytes start len at x le h = there (uleb (take len (drop start bytes)) at) refl h
-  where
-    there : (u : Option (ℕ × ℕ)) → uleb (take len (drop start bytes)) at ≡ u
-        → option_map (λ (z : ℕ × ℕ). (signed (slice_index (take len (drop start bytes)) (at + z.1 - 1)) z.1 z.0, z.1)) u ≡ Some x → sleb bytes (start + at) ≡ Some x
-    there None is e = cc
-    there (Some u) is e =
-        let front = leb_in_front (drop (start + at) bytes) (len - at) u (rw (rest_of bytes start len at le) at is) in
-        let some : 0 < u.1 = front.1 in
-        let fits : u.1 ≤ len - at = front.2 in
-        let last : get_or (take len (drop start bytes)) (at + u.1 - 1) 0 ≡ get_or bytes (start + (at + u.1 - 1)) 0 = get_or-take len (drop start bytes) (at + u.1 - 1) 0 (omega arith) ∙ get_or-drop start bytes (at + u.1 - 1) 0 in
-        let place : start + (at + u.1 - 1) ≡ start + at + u.1 - 1 = omega arith in
-        let byte : slice_index (take len (drop start bytes)) (at + u.1 - 1) ≡ slice_index bytes (start + at + u.1 - 1) = last ∙ ap (λ n. get_or bytes n 0) place in
-        rw (front.0, ← byte) e

@@ -105,9 +105,6 @@ pub number_is : (pool : List (List ℕ)) (claims : List Claim) (i : ℕ) (c : Cl
 number_is pool claims i c lt numbered =
     slice_get-get_or pool (get_or claims i c).label [] (numbered i c lt) ∙ ap (λ (t : List ℕ). Some t) (sym (label_at_number pool claims i c lt))
 
-pub claim_is : (pool : List (List ℕ)) (claims : List Claim) (i : ℕ) (c : Claim) (d : L) → i < length claims → get_or (texts pool claims) i d ≡ labelled pool (get_or claims i c)
-claim_is pool claims i c d lt = get_or-map (labelled pool) claims i c d lt
-
 -- a claim is pushed with the number of another claim's label
 pub pushes_like : (pool : List (List ℕ)) (claims after : List Claim) (i : ℕ) (other c : Claim) → i < length claims → AreNumbered pool claims → other ≡ get_or claims i other → c.label ≡ other.label → after ≡ claims ++ c ∷ []
     → Pushes pool pool claims after c (label_at (texts pool claims) i)

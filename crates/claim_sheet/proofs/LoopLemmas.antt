@@ -22,9 +22,6 @@ module _ {A : Type 0} (f : A → List LabelledClaim) where
   pub list_goes : (s t : Sheet) (x : A) (xs : List A) → t ≡ adding s (f x) → adding t (flat_map f xs) ≡ adding s (flat_map f (x ∷ xs))
   list_goes s t x xs e = rw e (adding_more s (f x) (flat_map f xs))
 
-  pub list_ends : (s : Sheet) → adding s (flat_map f []) ≡ s
-  list_ends s = adding_none s
-
 abbrev pub Reading : Type 0
 Reading = Result (List LabelledClaim) BadFile
 

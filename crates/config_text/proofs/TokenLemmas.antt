@@ -161,10 +161,6 @@ pub begins_name_first : (rest : List ℕ) → 1 ≤ length rest → begins_name 
 begins_name_first [] some = absurd (omega arith)
 begins_name_first (c ∷ cs) some = refl
 
-pub begins_string_first : (rest : List ℕ) → 1 ≤ length rest → begins_string rest ≡ is_quote (get_or rest 0 0)
-begins_string_first [] some = absurd (omega arith)
-begins_string_first (c ∷ cs) some = refl
-
 -- VALUES
 
 pub quoted_again : (at next : ℕ) (v more : List ℕ) (ts : List Placed) → quoted_before at v (quoted_before next more ts) ≡ quoted_before at (v ++ more) ts
@@ -228,19 +224,10 @@ value_missing field d p begins other =
     ap (λ (ts : List Placed). sources_from ts (Value field) d) s.is
     ∙ ap (sources_after s.later) (other_value field d p.at s.token s.holds)
 
--- A string after a value can't be read.
-pub value_broken : (start quote at : ℕ) (v : List ℕ) (p : Place) → ahead p ≡ (at, Broken quote) ∷ []
-    → quoted_before start v (ahead p) ≡ (start, Broken quote) ∷ []
-value_broken start quote at v p is = ap (quoted_before start v) is
-
 -- Blanks change no token.
 pub same_ahead : (old new : Place) → spelled new.rest Between new.at ≡ spelled old.rest Between old.at → ahead new ≡ ahead old
 unfolding tokens
 same_ahead old new same = ap joined same
-
-pub broken_ahead : (p : Place) (quote : ℕ) → spelled p.rest Between p.at ≡ (p.at, Broken quote) ∷ [] → ahead p ≡ (p.at, Broken quote) ∷ []
-unfolding tokens
-broken_ahead p quote is = ap joined is
 
 -- The next token is a mark.
 pub mark_ahead : (old new : Place) (at c : ℕ) (rest tail : List ℕ) → record { at = at; rest = rest } ≡ new

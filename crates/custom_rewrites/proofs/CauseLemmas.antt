@@ -5,19 +5,9 @@ use Rattle.std.proofs.lemmas.List.Elements.{All-push}
 use Rattle.std.proofs.lemmas.Option.{get_or_from_slice_get}
 use Rattle.config_text.specs.declared.config.Rewrite.{Rewrite}
 use Rattle.custom_rewrites.specs.Pattern.{IsPattern}
-use Rattle.custom_rewrites.specs.Rewriting.{HasBuilt, HasCause, HasOneCause, patterns_in}
+use Rattle.custom_rewrites.specs.Rewriting.{HasBuilt, HasOneCause, patterns_in}
 use Rattle.custom_rewrites.specs.declared.rewriting.RewriteAnswer.{RewriteAnswer}
 use Rattle.custom_rewrites.specs.declared.rewriting.RewriteAnswer.TheVariants.{PatternSyntax, PatternTooBig, NoMemory}
-
--- The cause of an error at one rewrite is its cause in the whole data source.
-pub cause_at : (rewrites : List Rewrite) (at : ℕ) (r : Rewrite) → slice_get rewrites at ≡ Some r → All (λ q. IsPattern q.pattern) (take at rewrites)
-    → (first before after : ℕ) (start old new : List ℕ) → first ≤ before → old ≡ start
-    → (e : RewriteAnswer) → HasOneCause r.pattern at before after old new e → HasCause rewrites first after start new e
-cause_at rewrites at r is read first before after start old new le same (PatternSyntax place) h =
-    ((r, ap (slice_get rewrites) h.0 ∙ is, h.1, rw h.0 read), h.2 ∙ same)
-cause_at rewrites at r is read first before after start old new le same (PatternTooBig place) h =
-    ((r, ap (slice_get rewrites) h.0 ∙ is, h.1, rw h.0 read), omega (arith, h.2, le))
-cause_at rewrites at r is read first before after start old new le same NoMemory h = h ∙ same
 
 module _ (rewrites : List Rewrite) (at : ℕ) (r : Rewrite) (lt : at < length rewrites) (is : slice_get rewrites at ≡ Some r) where
   more : take (at + 1) rewrites ≡ take at rewrites ++ r ∷ []

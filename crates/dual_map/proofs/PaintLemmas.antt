@@ -4,7 +4,7 @@ use Rattle.std.proofs.lemmas.Bool.{cases_lt}
 use Rattle.size_model.specs.declared.piece.Piece.{Piece}
 use Rattle.size_model.specs.Cut.{end_of, label_in, IsLaid}
 use Rattle.size_model.proofs.Cuts.{label_at_head, label_before_head}
-use Rattle.range_map.specs.Ranges.{EndsBy, IsMap}
+use Rattle.range_map.specs.Ranges.{EndsBy}
 use Rattle.range_map.proofs.Pieces.{either, label_in-append, label_past, EndsBy-weaker}
 use Rattle.dual_map.specs.declared.layers.Layer.{Layer}
 use Rattle.dual_map.specs.declared.paint.Cursor.{Cursor}
@@ -31,14 +31,6 @@ label_at_push ps p x ends a b =
 -- The first m numbers of a stretch.
 abbrev pub first_part : Stretch → ℕ → Stretch
 first_part s m = record { source = s.source; target = s.target; len = m }
-
-pub paints_none : (s : Stretch) (label : ℕ → ℕ → ℕ) (ps : List Piece) → EndsBy s.target ps → IsMap ps → Paints (first_part s 0) label ps ps
-paints_none s label ps e r = record {
-  ends = EndsBy-weaker ps s.target (s.target + 0) (omega arith) e;
-  pieces = r;
-  before = λ x h. refl;
-  filled = λ k h. absurd (omega arith);
-}
 
 -- One more range, as long as the label lasts.
 pub paints_more : (s : Stretch) (label : ℕ → ℕ → ℕ) (old ps new : List Piece) (m n : ℕ) (p : Piece) → Paints (first_part s m) label old ps → p.start ≡ s.target + m → p.len ≡ n → end_of p ≤ 2 ^ 97

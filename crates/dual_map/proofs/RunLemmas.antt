@@ -1,5 +1,5 @@
 -- Runs of positions with the same number.
-use Rattle.std.proofs.Common.{◌≡◌, ◌+◌, ◌-◌, ◌<◌, ◌≤◌, ℕ, min, List, None, Some, length, slice_get, ap, subst, ◌∙◌, inl, inr, arith}
+use Rattle.std.proofs.Common.{◌≡◌, ◌+◌, ◌-◌, ◌<◌, ◌≤◌, ℕ, List, None, Some, length, slice_get, ap, subst, ◌∙◌, inl, inr, arith}
 use Rattle.std.proofs.lemmas.Bool.{cases_lt}
 use Rattle.std.proofs.lemmas.Option.{slice_get_within, get_or_from_slice_get}
 use Rattle.size_model.specs.declared.piece.Piece.{Piece}
@@ -8,17 +8,13 @@ use Rattle.size_model.proofs.Cuts.{has_left, has_right}
 use Rattle.range_map.specs.Sweep.{at, no_piece}
 use Rattle.range_map.proofs.Opening.{label_in-none}
 use Rattle.range_map.proofs.LookUp.{label_at-get, ordered}
-use Rattle.dual_map.specs.declared.run.Run.{Run}
-use Rattle.dual_map.specs.Runs.{number_or, number_in, least, IsPast, IsAt, IsSteady}
+use Rattle.dual_map.specs.Runs.{number_or, number_in, IsPast, IsAt, IsSteady}
 
 pub at_from_get : (ps : List Piece) (n : ℕ) (p : Piece) → slice_get ps n ≡ Some p → at ps n ≡ p
 at_from_get ps n p e = get_or_from_slice_get ps n p no_piece e
 
 pub IsPast-weaker : (ps : List Piece) (n x y : ℕ) → IsPast ps n x → x ≤ y → IsPast ps n y
 IsPast-weaker ps n x y p h = record { within = p.within; past = λ k l. omega (arith, p.past k l) }
-
-pub IsPast-none : (ps : List Piece) (x : ℕ) → IsPast ps 0 x
-IsPast-none ps x = record { within = omega arith; past = λ k l. absurd (omega arith) }
 
 pub IsPast-next : (ps : List Piece) (n x : ℕ) → IsPast ps n x → n < length ps → end_of (at ps n) ≤ x → IsPast ps (n + 1) x
 IsPast-next ps n x p l h = record {
@@ -64,12 +60,6 @@ pub steady_piece : (none : ℕ) (ps : List Piece) (n x : ℕ) → IsTidy ps → 
 steady_piece none ps n x t l a b = record {
   some = omega arith;
   steady = λ k m. ap (number_or none) (label_at-get ps n no_piece (x + k) t l (omega arith) (omega arith));
-}
-
-pub steady_least : (f g : ℕ → ℕ) (a b : Run) → IsSteady f a → IsSteady g b → IsSteady (λ k. min (f k) (g k)) (least a b)
-steady_least f g a b s t = record {
-  some = (let u = s.some in let v = t.some in omega arith);
-  steady = λ k l. ap (λ n. min n (g k)) (s.steady k (omega arith)) ∙ ap (λ n. min a.number n) (t.steady k (omega arith));
 }
 
 -- The same, by a piece that was read.

@@ -43,9 +43,6 @@ pub record UpTo (labelling : ℕ → Option ℕ) (to : ℕ) (ps : List Piece) : 
   pub pieces : IsMap ps
   pub labels : (x : ℕ) → x < to → label_in ps x ≡ labelling x
 
-pub up_to_none : (labelling : ℕ → Option ℕ) → UpTo labelling 0 []
-up_to_none labelling = record { ends = tt; pieces = record { tidy = tt; fits = tt }; labels = λ x h. absurd (omega arith) }
-
 -- The targets of a stretch were added.
 pub up_to_more : (labelling : ℕ → Option ℕ) (s : Stretch) (label : ℕ → ℕ → ℕ) (old new : List Piece) → UpTo labelling s.target old → Paints s label old new
     → ((k : ℕ) → k < s.len → labelling (s.target + k) ≡ Some (label (s.target + k) (s.source + k))) → UpTo labelling (s.target + s.len) new

@@ -155,10 +155,6 @@ rest_of_head_below code w = if_below (suc (left w)) (code == 0) (Ok (None, w)) _
     (bind_below (left w) (suc (left w)) (uleb_from w) _ (uleb_below w) (λ tag less.
     bind_below (left tag.1) (suc (left w)) (byte_from tag.1) _ (byte_below tag.1) (λ children fewer. omega arith)))
 
--- The head of a declaration takes at least one byte.
-head_some : {X : Type 0} (n : ℕ) (r : Result (Option X × Window) BadFile) (next : Window) (i : X) → Below n r → r ≡ Ok (Some i, next) → left next < n
-head_some n r next i h is = below_at n r (Some i) next h is
-
 pub head_shortens : Shortens head_from
 unfolding head_from
 head_shortens w next i is = by_end (left w == 0) is

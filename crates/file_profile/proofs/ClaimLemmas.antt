@@ -93,22 +93,6 @@ file-refused i limit r (answers.Bad bad) many bads some = ap (λ s. within limit
 file-refused i limit r answers.TooManyClaims many bads some = within-many limit (of_file i r) (many-of-file i limit r (many refl))
 file-refused i limit r answers.NoMemory many bads some = absurd (some refl)
 
--- `TooManyClaims`, or the fault of the claims on the file itself.
-choice-err : (b : Bool) (claims : List LabelledClaim) (answer : SourceAnswer) → ◌≡◌ {A = Result (List LabelledClaim) SourceAnswer} (cond b (Err TooManyClaims) (Ok claims)) (Err answer)
-    → ◌≡◌ {A = Result (List LabelledClaim) SourceAnswer} (Err TooManyClaims) (Err answer)
-choice-err true claims answer e = e
-choice-err false claims answer e = let wrong : ⊥ = cc in absurd wrong
-
-or-too-many : (limit : ℕ) (r : Result (List LabelledClaim) SourceAnswer) (answer : SourceAnswer) → within limit r ≡ Err answer → or_too_many r ≡ Err answer
-or-too-many limit (Ok claims) answer e = choice-err (nat_lt limit (length claims)) claims answer e
-or-too-many limit (Err bad) answer e = e
-
-pub fault-or-many : (limit : ℕ) (r : Result (List LabelledClaim) SourceAnswer) (answer : SourceAnswer) → Refuses (within limit r) answer → Refuses (or_too_many r) answer
-fault-or-many limit r answer refuses some = or-too-many limit r answer (refuses some)
-
-pub sound-many : (limit : ℕ) (r : Result (List LabelledClaim) SourceAnswer) (made : List LabelledClaim) → within limit r ≡ Ok made → Refuses (or_too_many r) TooManyClaims
-sound-many limit r made e some = ap or_too_many (within-ok limit r made e).0
-
 -- Claims after others, within the rest of the limit.
 choice-after : (b : Bool) (first others : List LabelledClaim) → cond b (Err TooManyClaims) (Ok (first ++ others)) ≡ claims_after first (cond b (Err TooManyClaims) (Ok others))
 choice-after true first others = refl

@@ -2,6 +2,7 @@ pub mod AddedLemmas
 pub mod AloneLemmas
 pub mod ClaimLemmas
 pub mod CountLemmas
+pub mod EffectLemmas
 pub mod LawLemmas
 pub mod MapLemmas
 pub mod NumberLemmas

@@ -30,11 +30,13 @@ pub record AddsSizes {E : Type 0} (result : Result (Unit {0}) E) (old new : Tota
   pub file_sizes : OnOk result ((test : List (List ℕ) → Bool) → file_where test new.rows ≡ file_where test old.rows + file test)
   pub vm_sizes : OnOk result ((test : List (List ℕ) → Bool) → vm_where test new.rows ≡ vm_where test old.rows + vm test)
 
--- The sizes of a file were counted by these maps and fit into these totals, or they don't fit, or memory ran out.
+-- The sizes of a file were counted by these maps and fit into these totals, or the first of its length and its mapped size
+-- doesn't fit, or memory ran out.
 abbrev pub CountsMaps : Totals → Layout → FileMaps → Option (List Bool) → Result CountedFile RollupAnswer → Type 0
 CountsMaps t layout m marks (Ok f) = CountsFile layout m.maps.items marks f × FitsInto t f
 CountsMaps t layout m marks (Err TooManyBytes) = 2 ^ 63 - 1 < t.lengths + layout.len
-CountsMaps t layout m marks (Err MappedTooLarge) = 2 ^ 63 - 1 < t.mapped + mapped_count layout.loads
+CountsMaps t layout m marks (Err MappedTooLarge) =
+    (t.lengths + layout.len ≤ 2 ^ 63 - 1) × (2 ^ 63 - 1 < t.mapped + mapped_count layout.loads)
 CountsMaps t layout m marks (Err NoMemory) = Unit {0}
 
 -- A file is added if the mapped size of all files is then at most 2^63 - 1. Its length is within the limits of a run.

@@ -11,6 +11,7 @@ pub mod Numbering
 pub mod PairViews
 pub mod Patterns
 pub mod Plans
+pub mod Profiles
 pub mod Results
 pub mod Sources
 pub mod Views

@@ -1,15 +1,12 @@
 //! The sizes of a file with its debug file.
 
-ghost use Rattle.std.specs.Prelude.{◌≡◌, ◌+◌, ◌≤◌, ◌<◌, ◌^◌, ℕ, Bool, List, length, Ok, Err, IfOk, OnOk, OnErr};
+ghost use Rattle.std.specs.Prelude.{◌≡◌, ◌<◌, ◌^◌, length, IfOk};
 ghost use Rattle.std.specs.Option.{option_copied};
-ghost use Rattle.size_model.specs.declared.view.FileView.{FileView as FileViewSpec};
-ghost use Rattle.size_model.specs.Loads.{mapped_count};
-ghost use Rattle.path_rows.specs.Sums.{file_where, vm_where};
 ghost use Rattle.data_sources.specs.Groups.{bytes_of};
 ghost use Rattle.data_sources.specs.Opened.{opened};
-ghost use Rattle.file_profile.specs.Counts.{file_size_where, filter_test, step_bound, vm_size_where};
 ghost use Rattle.file_profile.specs.Identity.{is_pair, is_same};
 ghost use Rattle.file_profile.specs.PairViews.{OpensPair, PairAnswers, opened_as, opened_pair, pair_view, pair_viewed};
+ghost use Rattle.file_profile.specs.Profiles.{CanProfile, Profiles};
 
 use crate::answer::PairAnswer;
 use crate::plan::Plan;
@@ -102,44 +99,21 @@ pub fn profile_pair<L: Ledger>(
     limits: &Limits,
     steps: &mut Steps<L>,
 ) -> Result<(), PairAnswer>
-    requires short { length file.now < 2 ^ 32 }
-    requires short_debug { length debug.now < 2 ^ 32 }
-    requires depth { total.old.depth ≡ length plan.now.sources }
-    requires lengths { total.old.lengths + length file.now ≤ 2 ^ 62 }
+    requires file { CanProfile (length file.now) plan.now.sources total.old }
+    requires debug { length debug.now < 2 ^ 32 }
 
     // The result is the first fault or exceeded limit of the two files, unless memory runs out.
     ensures answer { PairAnswers result
         (pair_viewed total.old.mapped limits.now.claims name.now file.now debug.now
         plan.now.sources) }
-    ensures unchanged { OnErr result (total.new ≡ total.old) }
 
-    // For every set of paths (`test`), their sizes grow by the number of bytes whose path is in the set.
-    ensures file { OnOk result ((f : FileViewSpec) (test : List (List ℕ) → Bool)
-        → pair_viewed total.old.mapped limits.now.claims name.now file.now debug.now
-        plan.now.sources ≡ Ok f
-        → file_where test total.new.rows
-        ≡ file_where test total.old.rows + file_size_where (filter_test plan.now.filter) test f) }
-    ensures vm { OnOk result ((f : FileViewSpec) (test : List (List ℕ) → Bool)
-        → pair_viewed total.old.mapped limits.now.claims name.now file.now debug.now
-        plan.now.sources ≡ Ok f
-        → vm_where test total.new.rows
-        ≡ vm_where test total.old.rows + vm_size_where (filter_test plan.now.filter) test f) }
-
-    // What was added, filtered or not. The debug file's length and addresses are no part of it.
-    ensures depth { total.new.depth ≡ total.old.depth }
-    ensures lengths { OnOk result (total.new.lengths ≡ total.old.lengths + length file.now) }
-    ensures mapped { OnOk result ((f : FileViewSpec)
-        → pair_viewed total.old.mapped limits.now.claims name.now file.now debug.now
-        plan.now.sources ≡ Ok f
-        → total.new.mapped ≡ total.old.mapped + mapped_count f.loads) }
-
-    // The steps are bounded by the claims and the loads. No step is taken if a file or its claims have a fault.
-    ensures cost { (f : FileViewSpec)
-        → pair_view limits.now.claims name.now file.now debug.now plan.now.sources ≡ Ok f
-        → steps.new ≤ steps.old + step_bound f }
-    ensures free { (fault : PairAnswer)
-        → pair_view limits.now.claims name.now file.now debug.now plan.now.sources ≡ Err fault
-        → steps.new ≡ steps.old }
+    // What is added, and what it costs. The debug file's length and addresses are no part of it.
+    ensures effect { let claims = limits.now.claims in
+        let counted = pair_viewed total.old.mapped claims name.now file.now debug.now
+        plan.now.sources in
+        let view = pair_view claims name.now file.now debug.now plan.now.sources in
+        Profiles result counted view plan.now.filter (length file.now)
+        total.old total.new steps.old steps.new }
 {
     let subject = open_pair(alloc, name.as_bytes(), file, debug)?;
     profile_opened(plan, &subject, total, limits, steps)?;

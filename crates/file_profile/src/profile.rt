@@ -1,17 +1,16 @@
 //! The sizes of an opened file.
 
-ghost use Rattle.std.specs.Prelude.{◌≡◌, ◌+◌, ◌-◌, ◌≤◌, ◌<◌, ◌^◌, ℕ, Bool, List, length, map, Ok, Err, IfOk, OnOk, OnErr};
-ghost use Rattle.size_model.specs.declared.view.FileView.{FileView as FileViewSpec};
+ghost use Rattle.std.specs.Prelude.{◌≡◌, ◌+◌, ◌-◌, ◌≤◌, ◌^◌, length, map, IfOk};
 ghost use Rattle.size_model.specs.Loads.{mapped_count};
-ghost use Rattle.path_rows.specs.Sums.{file_where, vm_where};
 ghost use Rattle.rollup.specs.Adding.{piece_count};
 ghost use Rattle.custom_rewrites.specs.Pattern.{is_found};
 ghost use Rattle.data_sources.specs.Groups.{bytes_of};
 ghost use Rattle.data_sources.specs.Loads.{loads_of};
 ghost use Rattle.file_profile.specs.Added.{AddsSizes, CountsMaps, FitsIn, mapped_file_size, mapped_vm_size};
 ghost use Rattle.file_profile.specs.Claims.{layout_of};
-ghost use Rattle.file_profile.specs.Counts.{file_size_where, filter_test, marks_by, step_bound, vm_size_where};
+ghost use Rattle.file_profile.specs.Counts.{marks_by};
 ghost use Rattle.file_profile.specs.MapLabels.{AreOver};
+ghost use Rattle.file_profile.specs.Profiles.{CanProfile, Profiles};
 ghost use Rattle.file_profile.specs.Views.{OpenedAnswers, opened_view, opened_viewed};
 
 use crate::answer::OpenedAnswer;
@@ -102,32 +101,14 @@ pub fn profile_opened<L: Ledger>(
     limits: &Limits,
     steps: &mut Steps<L>,
 ) -> Result<(), OpenedAnswer>
-    requires short { length (bytes_of subject.now.binary) < 2 ^ 32 }
-    requires depth { total.old.depth ≡ length plan.now.sources }
-    requires lengths { total.old.lengths + length (bytes_of subject.now.binary) ≤ 2 ^ 62 }
+    requires { CanProfile (length (bytes_of subject.now.binary)) plan.now.sources total.old }
     ensures answer { OpenedAnswers result
         (opened_viewed total.old.mapped limits.now.claims subject.now plan.now.sources) }
-    ensures unchanged { OnErr result (total.new ≡ total.old) }
-    ensures file { OnOk result ((f : FileViewSpec) (test : List (List ℕ) → Bool)
-        → opened_viewed total.old.mapped limits.now.claims subject.now plan.now.sources ≡ Ok f
-        → file_where test total.new.rows
-        ≡ file_where test total.old.rows + file_size_where (filter_test plan.now.filter) test f) }
-    ensures vm { OnOk result ((f : FileViewSpec) (test : List (List ℕ) → Bool)
-        → opened_viewed total.old.mapped limits.now.claims subject.now plan.now.sources ≡ Ok f
-        → vm_where test total.new.rows
-        ≡ vm_where test total.old.rows + vm_size_where (filter_test plan.now.filter) test f) }
-    ensures depth { total.new.depth ≡ total.old.depth }
-    ensures lengths { OnOk result
-        (total.new.lengths ≡ total.old.lengths + length (bytes_of subject.now.binary)) }
-    ensures mapped { OnOk result ((f : FileViewSpec)
-        → opened_viewed total.old.mapped limits.now.claims subject.now plan.now.sources ≡ Ok f
-        → total.new.mapped ≡ total.old.mapped + mapped_count f.loads) }
-    ensures cost { (f : FileViewSpec)
-        → opened_view limits.now.claims subject.now plan.now.sources ≡ Ok f
-        → steps.new ≤ steps.old + step_bound f }
-    ensures free { (fault : OpenedAnswer)
-        → opened_view limits.now.claims subject.now plan.now.sources ≡ Err fault
-        → steps.new ≡ steps.old }
+    ensures effect { let file = subject.now in
+        let counted = opened_viewed total.old.mapped limits.now.claims file plan.now.sources in
+        let view = opened_view limits.now.claims file plan.now.sources in
+        Profiles result counted view plan.now.filter (length (bytes_of file.binary))
+        total.old total.new steps.old steps.new }
 {
     let maps = maps_of(plan, subject, limits.claims)?;
     add_maps(plan, subject, maps, total, steps)?;

@@ -43,11 +43,6 @@ addresses_whole xs i le all =
     let past : length (map placed_shown xs) ≤ i = omega (arith, length-map xs placed_shown) in
     record { small = rw (take_all i (map placed_shown xs) past) at all.small }
 
--- Key k of them.
-length-keys : (i : ℕ) (all : List SymbolRecord) → length (keys_from i all) ≡ length all
-length-keys i [] = refl
-length-keys i (s ∷ rest) = ap suc (length-keys (i + 1) rest)
-
 key_get : (i : ℕ) (all : List SymbolRecord) (k : ℕ) → slice_get (keys_from i all) k ≡ option_map (key_of (i + k)) (slice_get all k)
 key_get i [] k = refl
 key_get i (s ∷ rest) zero = let same : i + 0 ≡ i = omega arith in rw same refl

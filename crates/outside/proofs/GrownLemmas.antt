@@ -1,10 +1,10 @@
 -- How known bytes grow step by step.
-use Rattle.std.proofs.Common.{◌≡◌, ℕ, suc, ◌+◌, ◌-◌, ◌<◌, ◌≤◌, List, [], ◌∷◌, ◌++◌, length, take, drop, get_or, refl, sym, ap, subst, append_assoc, None, Some, OnErr, Result, Ok, Err, Bor, arith, ◌∙◌, length-append, drop-cons}
+use Rattle.std.proofs.Common.{◌≡◌, ℕ, suc, ◌+◌, ◌-◌, ◌<◌, ◌≤◌, List, [], ◌∷◌, ◌++◌, length, take, drop, get_or, sym, ap, subst, append_assoc, None, Some, OnErr, Result, Ok, Err, Bor, arith, ◌∙◌, length-append, drop-cons}
 use Rattle.std.specs.declared.option.Option.{Option}
 use Rattle.std.specs.Io.KnownBytes.{append_known, Consumes}
 use Rattle.std.proofs.Math.Seq.{take-add, take-append-add}
 use Rattle.std.proofs.lemmas.List.{take-take, take-append-le, take-append-drop}
-use Rattle.std.proofs.lemmas.Grind.{common_steps, flat_map-append}
+use Rattle.std.proofs.lemmas.Grind.{flat_map-append}
 use Rattle.outside.specs.Grown.{Grew, GrewByPart}
 use Rattle.outside.specs.Pieces.{joined}
 
@@ -12,11 +12,6 @@ use Rattle.outside.specs.Pieces.{joined}
 pub Grew-append : (old mid new : Option (List ℕ)) (xs ys : List ℕ) → Grew old mid xs → Grew mid new ys → Grew old new (xs ++ ys)
 Grew-append None mid new xs ys a b = b ∙ ap (λ k. append_known k ys) a
 Grew-append (Some w) mid new xs ys a b = b ∙ (ap (λ k. append_known k ys) a ∙ ap Some (append_assoc w xs ys))
-
--- A step of no bytes.
-pub Grew-none : (old : Option (List ℕ)) → Grew old old []
-Grew-none None = refl
-Grew-none (Some w) = grind (arith, common_steps)
 
 -- n more bytes of a list after its first i, as an index `[i..]` gives them.
 pub Grew-more : (i n : ℕ) (xs : List ℕ) (old mid new : Option (List ℕ)) → n ≤ length xs - i → Grew old mid (take i xs) → Grew mid new (take n (take (length xs - i) (drop i xs))) → Grew old new (take (i + n) xs)

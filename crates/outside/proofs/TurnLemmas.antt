@@ -1,5 +1,5 @@
 -- How turns add up to a reading.
-use Rattle.std.proofs.Common.{◌≡◌, ℕ, ◌+◌, ◌-◌, ◌<◌, ◌≤◌, List, [], ◌∷◌, ◌++◌, length, take, drop, refl, sym, ap, subst, append_assoc, arith, ◌∙◌, length-append, length-take, length-drop}
+use Rattle.std.proofs.Common.{◌≡◌, ℕ, ◌+◌, ◌-◌, ◌<◌, ◌≤◌, List, [], ◌∷◌, ◌++◌, length, take, drop, sym, ap, subst, append_assoc, arith, ◌∙◌, length-append, length-take, length-drop}
 use Rattle.std.specs.List.{All, concat}
 use Rattle.std.proofs.Math.Seq.{take-add, take-append-add}
 use Rattle.std.proofs.lemmas.List.{append-nil}
@@ -21,16 +21,6 @@ pub record Filled (before now : List (List ℕ)) (bytes : List ℕ) : Type 0 whe
   pub some : All HasByte made
   pub most : All IsInChunk made
 
--- No turn.
-pub Filled-none : (turns : List (List ℕ)) → Filled turns turns []
-Filled-none turns = record {
-  made = [];
-  behind = sym (append-nil turns);
-  whole = refl;
-  some = All-nil HasByte;
-  most = All-nil IsInChunk;
-}
-
 -- Such turns are a reading.
 pub Filled-took : (before now : List (List ℕ)) (bytes : List ℕ) → Filled before now bytes → Took before now bytes
 Filled-took before now bytes f = record {
@@ -40,9 +30,6 @@ Filled-took before now bytes f = record {
   some = All-take HasByte (length f.made - 1) f.made f.some;
   most = f.most;
 }
-
-pub Took-none : (turns : List (List ℕ)) → Took turns turns []
-Took-none turns = Filled-took turns turns [] (Filled-none turns)
 
 -- One turn is a reading.
 pub Took-one : (before now : List (List ℕ)) (turn : List ℕ) → now ≡ before ++ turn ∷ [] → length turn ≤ turn_most → Took before now turn

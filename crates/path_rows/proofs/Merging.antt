@@ -7,7 +7,7 @@ use Rattle.std.specs.Ordering.{ordering_reverse, is_eq, is_gt, is_le}
 use Rattle.std.specs.declared.cmp.Ordering.{Ordering}
 use Rattle.std.specs.declared.cmp.Ordering.TheVariants.{Less, Equal, Greater}
 use Rattle.std.proofs.lemmas.Bool.{cases_eq}
-use Rattle.std.proofs.lemmas.List.{append-nil, length-drop, length-reverse, length-take-le, get_or-append-add, get_or-drop, get_or-reverse, get_or-take, reverse-append, reverse-reverse, take-append-drop}
+use Rattle.std.proofs.lemmas.List.{append-nil, length-drop, length-reverse, length-take-le, get_or-append-add, get_or-drop, get_or-reverse, get_or-take, reverse-append, take-append-drop}
 use Rattle.std.proofs.lemmas.List.Sums.{sum_by-cons, sum_by_push, sum_by-append}
 use Rattle.std.proofs.lemmas.List.Elements.{All-from_recursion, recursion_from_All}
 use Rattle.std.proofs.lemmas.List.Sorted.{All-permutation, IsPermutation-reverse, sum_by-IsPermutation}
@@ -183,18 +183,6 @@ upto_pushed rows r s h = by_join (joins_last rows r.path) refl
     by_join true e = upto_enlarged rows r s e h
     by_join false e = upto_push rows r s h
 
-length-enlarged : (rows : List RollupRow) (r : RollupRow) → length (enlarged rows r) ≡ length rows
-length-enlarged [] r = refl
-length-enlarged (q ∷ []) r = refl
-length-enlarged (q ∷ s ∷ qs) r = ap suc (length-enlarged (s ∷ qs) r)
-
-pub length-pushed : (rows : List RollupRow) (r : RollupRow) → length (pushed rows r) ≤ length rows + 1
-length-pushed rows r = by_join (joins_last rows r.path)
-  where
-    by_join : (b : Bool) → length (cond b (enlarged rows r) (rows ++ r ∷ [])) ≤ length rows + 1
-    by_join true = omega (arith, length-enlarged rows r)
-    by_join false = omega (arith, length-append rows (r ∷ []))
-
 -- The last row, as `last` returns it.
 pub joins_last-get : (rows : List RollupRow) (p : List (List ℕ)) (d : RollupRow) (n : ℕ) → length rows ≡ suc n → joins_last rows p ≡ is_path (get_or rows n d).path p
 joins_last-get [] p d n e = absurd (omega arith)
@@ -267,9 +255,6 @@ pub moved_same : {X : Type 0} (rows above : List X) (kept : ℕ) → (rows ++ re
 moved_same rows above kept =
     append_assoc rows (reverse (drop kept above)) (reverse (take kept above))
     ∙ ap (λ l. rows ++ l) (sym (reverse-append (take kept above) (drop kept above)) ∙ ap reverse (take-append-drop kept above))
-
-pub parted_same : {X : Type 0} (rows above : List X) (kept : ℕ) → above ≡ [] ++ reverse (drop kept rows) → take kept rows ++ reverse above ≡ rows
-parted_same rows above kept e = ap (λ l. take kept rows ++ reverse l) e ∙ (ap (λ l. take kept rows ++ l) (reverse-reverse (drop kept rows)) ∙ take-append-drop kept rows)
 
 -- Old rows, and the upper ones of them, the greatest first: those that are not above a new row were moved back, and
 -- the new row comes after them.

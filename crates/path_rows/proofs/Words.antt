@@ -112,25 +112,6 @@ words_decide p q v w first second differ = by_order (Rattle.std.proofs.lemmas.Bo
     by_order (inr (inl less)) = nat_less v w less ∙ sym (less_words p q (omega (arith, first, second, less)))
     by_order (inr (inr more)) = nat_greater v w more ∙ sym (path_total.antisymm p q ∙ ap ordering_reverse (less_words q p (omega (arith, first, second, more))))
 
--- One step of a word: it reads the next byte, or there is none.
-pub after_none : (w n : ℕ) → 0 < n → word_after (w * 256) (n - 1) [] ≡ word_after w n []
-after_none w zero some = absurd (omega arith)
-after_none w (suc n) some = let back : suc n - 1 ≡ n = omega arith in ap (λ k. word_after (w * 256) k []) back
-
-pub after_digit : (w n x : ℕ) (xs : List ℕ) → 0 < n → x < 255 → word_after (w * 256 + x) (n - 1) xs ≡ word_after w n (x ∷ xs)
-after_digit w zero x xs some lt = absurd (omega arith)
-after_digit w (suc n) x xs some lt =
-    let back : suc n - 1 ≡ n = omega arith in
-    let yes : nat_lt x 255 ≡ true = grind (arith, nat_tests) in
-    ap (λ k. word_after (w * 256 + x) k xs) back ∙ sym (step (nat_lt x 255) w n x xs ∙ ap (λ b. word_after (w * 256 + digit b x) n (later b xs)) yes)
-
-pub after_end : (w n x : ℕ) (xs : List ℕ) → 0 < n → 255 ≤ x → word_after (w * 256 + 255) (n - 1) [] ≡ word_after w n (x ∷ xs)
-after_end w zero x xs some le = absurd (omega arith)
-after_end w (suc n) x xs some le =
-    let back : suc n - 1 ≡ n = omega arith in
-    let no : nat_lt x 255 ≡ false = grind (arith, nat_tests) in
-    ap (λ k. word_after (w * 256 + 255) k []) back ∙ sym (step (nat_lt x 255) w n x xs ∙ ap (λ b. word_after (w * 256 + digit b x) n (later b xs)) no)
-
 -- With its next digit, a word of at most eight digits fits a u64.
 pub record Holds (w n : ℕ) : Type 0 where
   pub fits : w * 256 + 255 < 2 ^ 64

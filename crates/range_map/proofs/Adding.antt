@@ -3,7 +3,7 @@ use Rattle.std.proofs.Common.{◌≡◌, ◌^◌, ◌<◌, ◌≤◌, ℕ, min, 
 use Rattle.std.proofs.lemmas.Bool.{cases_lt}
 use Rattle.size_model.specs.declared.piece.Piece.{Piece}
 use Rattle.size_model.specs.Cut.{end_of, label_in, IsTidy, IsLaid}
-use Rattle.range_map.specs.Ranges.{EndsBy, IsMap}
+use Rattle.range_map.specs.Ranges.{EndsBy}
 use Rattle.range_map.specs.Emit.{Fills}
 use Rattle.size_model.proofs.Cuts.{has_cases, label_at_head, label_past_head, label_before_head, label_before, StartsFrom, StartsFrom-Precedes}
 use Rattle.range_map.proofs.Pieces.{either, label_in-append, label_past, EndsBy-weaker}
@@ -71,22 +71,6 @@ pub record Swept (old : List Piece) (range : Piece) (rest : List Piece) (from : 
   pub rest_ends : EndsBy (2 ^ 97) rest
   pub rest_labels : (x : ℕ) → from ≤ x → label_in old x ≡ label_in rest x
   pub fits : from ≤ 2 ^ 97
-
-StartsFrom-zero : (ps : List Piece) → StartsFrom 0 ps
-StartsFrom-zero [] = tt
-StartsFrom-zero (p ∷ ps) = omega arith
-
-pub Swept-start : (old : List Piece) (range : Piece) → IsMap old → Swept old range old 0 []
-Swept-start old range m = record {
-  tidy = tt;
-  ends = tt;
-  done = λ x b. absurd (omega arith);
-  rest_tidy = m.tidy;
-  rest_starts = StartsFrom-zero old;
-  rest_ends = m.fits;
-  rest_labels = λ x a. refl;
-  fits = omega arith;
-}
 
 turn_done : (old : List Piece) (range p : Piece) (rest : List Piece) (from : ℕ) (new filled next : List Piece) → Swept old range (p ∷ rest) from new → Fills range from p.start new filled → IsLaid (filled ++ p ∷ []) next → (x : ℕ) → x < end_of p → label_in next x ≡ label_in (old ++ range ∷ []) x
 turn_done old range p rest from new filled next s f laid x b =

@@ -59,12 +59,6 @@ IsStarted-top claims from opened top s l e = subst (λ r. IsStarted claims from 
 pub IsStarted-later : (claims : List Piece) (from to : ℕ) (r : Reverse ℕ) → from ≤ to → IsStarted claims from r → IsStarted claims to r
 IsStarted-later claims from to r l s = record { within = s.within; started = (let a = s.started in omega arith) }
 
-pub IsOpen-later : (claims : List Piece) (from to : ℕ) (opened : List (Reverse ℕ)) → from ≤ to → IsOpen claims from opened → IsOpen claims to opened
-IsOpen-later claims from to opened l s = record {
-  heap = s.heap;
-  alive = λ k d b. IsStarted-later claims from to (get_or opened k d) l (s.alive k d b);
-}
-
 pub IsOpen-popped : (claims : List Piece) (from : ℕ) (old new : List (Reverse ℕ)) (x : Reverse ℕ) → IsOpen claims from old → IsPermutation old (x ∷ new) → IsHeap lowest_first new → IsOpen claims from new
 IsOpen-popped claims from old new x s perm heap = record {
   heap = heap;
@@ -76,12 +70,6 @@ IsOpen-pushed claims number old new l s perm heap = record {
   heap = heap;
   alive = All-permutation (IsStarted claims (at claims number).start) (numbered number ∷ old) new perm (All-cons (IsStarted claims (at claims number).start) (numbered number) old (record { within = l; started = omega arith }) s.alive);
 }
-
-pub Keeps-all : (claims : List Piece) (to : ℕ) (opened : List (Reverse ℕ)) → Keeps claims to opened opened
-Keeps-all claims to opened = record { kept = λ k b c. c }
-
-pub Keeps-later : (claims : List Piece) (from to : ℕ) (old new : List (Reverse ℕ)) → from ≤ to → Keeps claims from old new → Keeps claims to old new
-Keeps-later claims from to old new l s = record { kept = λ k b c. s.kept k (omega arith) c }
 
 pub Keeps-pushed : (claims : List Piece) (to : ℕ) (old new : List (Reverse ℕ)) → IsPermutation old new → Keeps claims to old new
 Keeps-pushed claims to old new perm = record { kept = λ k b c. Contains-permutation old new (numbered k) perm c }

@@ -1,12 +1,12 @@
 -- Lemmas on labelled ranges and tidy lists.
-use Rattle.std.proofs.Common.{◌≡◌, ◌-◌, ◌<◌, ◌≤◌, ℕ, true, false, cond, List, [], ◌∷◌, ◌++◌, Option, None, Some, length, get_or, set, slice_get, refl, sym, ap, ◌∙◌, suc, zero, arith}
+use Rattle.std.proofs.Common.{◌≡◌, ◌-◌, ◌<◌, ◌≤◌, ℕ, true, false, cond, List, [], ◌∷◌, ◌++◌, Option, None, Some, length, get_or, set, slice_get, refl, ap, ◌∙◌, suc, zero, arith}
 use Rattle.std.proofs.lemmas.Option.{slice_get_within, get_or_from_slice_get}
 use Rattle.std.proofs.lemmas.Bool.Decides.{nat_tests}
 use Rattle.size_model.specs.declared.piece.Piece.{Piece}
 use Rattle.size_model.specs.Cut.{end_of, has, label_in, IsTidy, IsLaid}
 use Rattle.range_map.specs.Ranges.{EndsBy}
 use Rattle.range_map.specs.Emit.{touches, joins_last, longer, lengthened}
-use Rattle.size_model.proofs.Cuts.{label_past_head, StartsFrom}
+use Rattle.size_model.proofs.Cuts.{label_past_head}
 
 -- The first of two labels.
 abbrev pub either : Option ℕ → Option ℕ → Option ℕ
@@ -21,10 +21,6 @@ label_in-append (p ∷ ps) qs x =
 pub label_past : (ps : List Piece) (at x : ℕ) → EndsBy at ps → at ≤ x → label_in ps x ≡ None
 label_past [] at x e h = refl
 label_past (p ∷ ps) at x e h = label_past_head p ps x (omega arith) ∙ label_past ps at x e.1 h
-
-pub StartsFrom-weaker : (a b : ℕ) (ps : List Piece) → a ≤ b → StartsFrom b ps → StartsFrom a ps
-StartsFrom-weaker a b [] l h = tt
-StartsFrom-weaker a b (q ∷ qs) l h = omega arith
 
 pub EndsBy-weaker : (ps : List Piece) (a b : ℕ) → a ≤ b → EndsBy a ps → EndsBy b ps
 EndsBy-weaker [] a b l e = tt
@@ -94,12 +90,6 @@ pub joins_last-last : (ps : List Piece) (q p : Piece) → slice_get ps (length p
 joins_last-last ps q p e =
     let w = last_place ps q e in
     joins_last-get ps p q w.0 w.1 ∙ ap (λ r. touches r p) w.2
-
-pub set_longer-last : (ps : List Piece) (q : Piece) (k : ℕ) → slice_get ps (length ps - 1) ≡ Some q → set ps (length ps - 1) (longer q k) ≡ lengthened ps k
-set_longer-last ps q k e =
-    let w = last_place ps q e in
-    let n : length ps - 1 ≡ w.0 = omega arith in
-    ap (λ i. set ps i (longer q k)) n ∙ (ap (λ r. set ps w.0 (longer r k)) (sym w.2) ∙ set_longer ps k q w.0 w.1)
 
 pub laid_push : (ps : List Piece) (p : Piece) → IsTidy ps → EndsBy p.start ps → joins_last ps p ≡ false → 0 < p.len → IsLaid (ps ++ p ∷ []) (ps ++ p ∷ [])
 laid_push ps p t e j h = record { tidy = IsTidy-push ps p t e j h; labels = λ x. refl }

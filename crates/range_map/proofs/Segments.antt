@@ -129,9 +129,6 @@ Holds-with_next cs starts i from opened perm sorted h = record {
       ];
 }
 
-pub HoldsFirst-none : (cs : List Piece) (starts : List (ℕ × ℕ)) (from : ℕ) (opened : List (Reverse ℕ)) → HoldsFirst cs starts 0 from opened
-HoldsFirst-none cs starts from opened = record { held = λ j b. absurd (omega arith) }
-
 pub HoldsFirst-kept : (cs : List Piece) (starts : List (ℕ × ℕ)) (i from to : ℕ) (old new : List (Reverse ℕ)) → from ≤ to → HoldsFirst cs starts i from old → Keeps cs to old new → HoldsFirst cs starts i to new
 HoldsFirst-kept cs starts i from to old new l h s = record {
   held = λ j b a. s.kept (number_at starts j) a (h.held j b (omega arith));
@@ -155,9 +152,6 @@ pub HoldsFirst-begun : (cs : List Piece) (starts : List (ℕ × ℕ)) (i from to
 HoldsFirst-begun cs starts i from to s old kept new r l m h k b =
     let start = r.start in
     HoldsFirst-more cs starts i s.0 to kept new (omega arith) (HoldsFirst-kept cs starts i from s.0 old kept l h k) (subst (λ n. Keeps cs to (numbered n ∷ kept) new) (sym r.number) b)
-
-pub IsLaidTo-none : (cs : List Piece) → IsLaidTo cs 0 []
-IsLaidTo-none cs = record { tidy = tt; ends = tt; labels = λ x b. absurd (omega arith) }
 
 -- The part of a range that labels the next positions is appended.
 pub IsLaidTo-filled : (cs : List Piece) (range : Piece) (from to : ℕ) (old new : List Piece) → IsLaidTo cs from old → Fills range from to old new → ((x : ℕ) → from ≤ x → x < to → label_in cs x ≡ label_in (range ∷ []) x) → IsLaidTo cs to new

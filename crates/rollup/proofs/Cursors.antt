@@ -103,16 +103,6 @@ first_at ps t = make_at ps 0 0 t (omega arith) (λ x low. refl) (from ps) (omega
     from [] = tt
     from (p ∷ ps) = omega arith
 
--- If the current piece ends, there is a next piece to read.
-pub passed_within : (ps : List Piece) (to : ℕ) (c : Cursor) → IsReached ps to c → c.end ≤ to → to ≤ 2 ^ 97 → c.passed < length ps
-passed_within ps to c h ends fits = by_piece (slice_get ps c.passed) refl
-  where
-    by_piece : (o : Option Piece) → slice_get ps c.passed ≡ o → c.passed < length ps
-    by_piece None e =
-        let end : c.end ≡ 2 ^ 128 - 1 = ap (λ (d : Cursor). d.end) (h.is ∙ ap (cursor_at c.passed) e) in
-        absurd (omega arith)
-    by_piece (Some p) e = slice_get_within ps c.passed p e
-
 pub next_at : (ps : List Piece) (to : ℕ) (c : Cursor) → IsReached ps to c → c.end ≤ to → to ≤ 2 ^ 97 → IsAt ps to (cursor_of ps (c.passed + 1))
 next_at ps to c h ends fits = by_piece (slice_get ps c.passed) refl
   where

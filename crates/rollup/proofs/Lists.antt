@@ -1,8 +1,7 @@
 -- Sizes of lists of numbers, each a part of the numbers of all lists.
-use Rattle.std.proofs.Common.{◌≡◌, ◌+◌, ◌<◌, ◌≤◌, ℕ, suc, List, [], ◌∷◌, ◌++◌, length, get_or, set, map, take, drop, refl, sym, ap, ◌∙◌, arith, length-append}
+use Rattle.std.proofs.Common.{◌≡◌, ◌+◌, ◌<◌, ◌≤◌, ℕ, suc, List, [], ◌∷◌, ◌++◌, length, get_or, set, map, take, drop, refl, sym, ap, ◌∙◌, arith}
 use Rattle.std.specs.Prelude.{All}
 use Rattle.std.proofs.lemmas.List.{drop-append-le, drop_all, get_or-map, length-drop, map-append, map-set, take-append-le, take_all}
-use Rattle.std.proofs.lemmas.List.Elements.{All-push}
 use Rattle.rollup.specs.declared.cursor.Part.{Part}
 use Rattle.rollup.specs.declared.sizes.ListSize.{ListSize}
 use Rattle.rollup.specs.declared.sizes.Sizes.{Sizes}
@@ -46,9 +45,3 @@ module _ (ns xs : List ℕ) (items : List ListSize) (s : Sizes) (h : Within (len
   pushed-list =
       map-append (entry_of_list (ns ++ xs)) items (new ∷ [])
       ∙ (ap (λ l. l ++ entry_of_list (ns ++ xs) new ∷ []) (all_kept ns xs items h) ∙ ap (λ l. map (entry_of_list ns) items ++ entry_of l s ∷ []) whole)
-
-  pub still-within : Within (length (ns ++ xs)) items
-  still-within k d lt = omega (arith, h k d lt, length-append ns xs)
-
-  pub pushed-within : Within (length (ns ++ xs)) (items ++ new ∷ [])
-  pushed-within = All-push (λ (i : ListSize). i.first + i.len ≤ length (ns ++ xs)) items new still-within (omega (arith, length-append ns xs))

@@ -21,9 +21,6 @@ moved_fits rows others moved p h = record {
   file = omega (arith, sum_by-IsPermutation (λ (q : RollupRow). q.file) others moved p, h.file);
 }
 
-pub alone_fits : (rows others : List RollupRow) → FitTogether rows others → FitTogether [] others
-alone_fits rows others h = record { vm = omega (arith, h.vm); file = omega (arith, h.file) }
-
 pub merges_moved : (rows others moved merged : List RollupRow) → IsPermutation others moved → Merges rows moved merged → Merges rows others merged
 merges_moved rows others moved merged p m = record {
   exact = record { order = m.exact.order; same = IsPermutation-trans others moved m.exact.order p m.exact.same; is = m.exact.is };

@@ -42,7 +42,7 @@ pub record FitsInto (t : Totals) (f : CountedFile) : Type 0 where
   pub lengths : t.lengths + f.len ≤ 2 ^ 63 - 1
   pub mapped : t.mapped + f.mapped ≤ 2 ^ 63 - 1
 
--- The sizes of a file were counted, if it fits into these totals.
+-- The result of counting the sizes of a file that is to be added to these totals.
 --
 -- counts, fits: What was counted is the file's, and it fits.
 -- too_many_bytes: The length of the file doesn't fit.

@@ -131,15 +131,6 @@ apart a b less = at (bytes_eq b a) refl
         absurd (cc (same, tied_itself nat_list_cmp_total a))
     at false e = refl
 
-apart-back : (a b : List ℕ) → before a b → bytes_eq a b ≡ false
-apart-back a b less = at (bytes_eq a b) refl
-  where
-    at : (c : Bool) → bytes_eq a b ≡ c → c ≡ false
-    at true e =
-        let same : slice_cmp nat_cmp a a ≡ Less = subst (λ l. slice_cmp nat_cmp a l ≡ Less) (sym (same_bytes a b e)) less in
-        absurd (cc (same, tied_itself nat_list_cmp_total a))
-    at false e = refl
-
 all-apart : (a : List ℕ) (ls : List (List ℕ)) → AllByRecursion (λ l. before a l) ls → AllByRecursion (λ l. bytes_eq l a ≡ false) ls
 all-apart a [] h = tt
 all-apart a (l ∷ ls) h = (apart a l h.0, all-apart a ls h.1)

@@ -78,12 +78,6 @@ map_more f xs i x e = let one : i + 1 ≡ suc i = omega arith in rw one (map_suc
     map_suc f (y ∷ ys) zero x e = ap (λ z. f z ∷ []) (sym (same_Some y x e))
     map_suc f (y ∷ ys) (suc i) x e = ap (λ zs. f y ∷ zs) (map_suc f ys i x e)
 
-pub map_all : {X Y : Type 0} (f : X → Y) (xs : List X) (i : ℕ) → length xs ≤ i → map f (take i xs) ≡ map f xs
-map_all f [] zero le = refl
-map_all f [] (suc i) le = refl
-map_all f (x ∷ xs) zero le = absurd (omega arith)
-map_all f (x ∷ xs) (suc i) le = ap (λ ys. f x ∷ ys) (map_all f xs i (omega arith))
-
 pub any-first : (test : List ℕ → Bool) (path : List (List ℕ)) → list_any test path ≡ first_label test (λ (x : List ℕ). true) false path
 any-first test [] = refl
 any-first test (x ∷ xs) = step (test x) (any-first test xs)

@@ -1,10 +1,9 @@
 //! Data sources of a configuration, and patterns that aren't compiled.
 
+use crate::written::assert_runs;
 use bloaty_engine::Outcome;
 use sample_files::{Input, bytes_of};
-use sample_runs::{Devices, NamedFile, Ran, is_end, is_report, run, run_over, sound};
-use size_core::NoMemory;
-use std::alloc::Global;
+use sample_runs::{NamedFile, is_end, run, run_over, sound};
 use std::test::Fail;
 
 // The new label of `.text` is empty: it is a group that takes no part in the match.
@@ -41,167 +40,87 @@ custom_data_source {
 }
 ";
 
-fn with_config(
-    alloc: Global,
-    words: &[&str],
-    input: Input,
-    config: &[u8],
-    devices: Devices,
-) -> Result<Ran, NoMemory> {
-    let file = bytes_of(alloc, input)?;
-    let config = config.to_vec(alloc)?;
-    let files: [NamedFile<'_>; 2] = [("a.elf", &file), ("conf", &config)];
-    run_over(alloc, words, &files, devices)
-}
+// The second pattern has no end.
+const BAD_PATTERN: &[u8] =
+    b"custom_data_source { name: 'm' base_data_source: 'symbols' rewrite { pattern: 'a' replacement: '' } }
+custom_data_source { name: 'n' base_data_source: 'symbols' rewrite { pattern: '(' replacement: '' } }";
 
-// Arguments, a file and a configuration, and the lines of the report.
-struct Case<'a> {
-    words: &'a [&'a str],
-    file: Input,
-    config: &'a [u8],
-    report: &'a [&'a str],
-}
-
-const CASES: [Case<'static>; 5] = [
-    Case {
-        words: &["--csv", "-n", "0", "-c", "conf", "-d", "mine", "a.elf"],
-        file: Input::Plain,
-        config: EMPTY,
-        report: &[
-            "mine,vmsize,filesize",
-            "[ELF Section Headers],0,192",
-            "[ELF Header],64,64",
-            "[ELF Program Headers],56,56",
-            ".shstrtab,0,17",
-            ",16,16",
-            "[Unmapped],0,7",
-        ],
-    },
-    Case {
-        words: &[
-            "--csv",
-            "-n",
-            "0",
-            "-c",
-            "conf",
-            "-d",
-            "parts,same",
-            "--source-filter=party",
-            "--domain=file",
-            "a.elf",
-        ],
-        file: Input::SourceNames,
-        config: FOLDERS,
-        report: &[
-            "parts,same,filesize",
-            "third_party/abc,../third_party/abc/x.c,9",
-            "third_party/abc,third_party/abc/y.c,4",
-            "src/third_party/abc,src/third_party/abc,8",
-        ],
-    },
-    // Labels in brackets are rewritten as all others are.
-    Case {
-        words: &[
-            "--csv",
-            "-n",
-            "0",
-            "-c",
-            "conf",
-            "-d",
-            "parts",
-            "--domain=file",
-            "a.elf",
-        ],
-        file: Input::Plain,
-        config: FOLDERS,
-        report: &["parts,filesize", "[none],319", ".shstrtab,17", ".text,16"],
-    },
-    // The filter tests the new labels, and not those of the base.
-    Case {
-        words: &[
-            "--csv",
-            "-c",
-            "conf",
-            "-d",
-            "parts",
-            "--source-filter=ELF",
-            "--domain=file",
-            "a.elf",
-        ],
-        file: Input::Plain,
-        config: FOLDERS,
-        report: &["parts,filesize"],
-    },
-    Case {
-        words: &[
-            "--csv",
-            "-c",
-            "conf",
-            "-d",
-            "units,files",
-            "--domain=vm",
-            "a.elf",
-        ],
-        file: Input::Units(4),
-        config: UNITS,
-        report: &[
-            "units,files,vmsize",
-            "unit a,a.c,16",
-            "unit a,[section .text],8",
-            "[LOAD #1 [RW]],[LOAD #1 [RW]],16",
-            "unit b,[section .text],16",
-            "[section .text],[section .text],8",
-        ],
-    },
+const FILES: [(&str, Input); 7] = [
+    ("plain.elf", Input::Plain),
+    ("source-names.elf", Input::SourceNames),
+    ("units-4.elf", Input::Units(4)),
+    ("empty-label.conf", Input::Text(EMPTY)),
+    ("folders.conf", Input::Text(FOLDERS)),
+    ("units.conf", Input::Text(UNITS)),
+    ("bad-pattern.conf", Input::Text(BAD_PATTERN)),
 ];
+
+const LABELS: &str = r#"
+$ bloaty --csv -n 0 -c empty-label.conf -d mine plain.elf
+mine,vmsize,filesize
+[ELF Section Headers],0,192
+[ELF Header],64,64
+[ELF Program Headers],56,56
+.shstrtab,0,17
+,16,16
+[Unmapped],0,7
+
+$ bloaty --csv -n 0 -c folders.conf -d parts,same --source-filter=party --domain=file source-names.elf
+parts,same,filesize
+third_party/abc,../third_party/abc/x.c,9
+third_party/abc,third_party/abc/y.c,4
+src/third_party/abc,src/third_party/abc,8
+
+# Labels in brackets are rewritten as all others are.
+$ bloaty --csv -n 0 -c folders.conf -d parts --domain=file plain.elf
+parts,filesize
+[none],319
+.shstrtab,17
+.text,16
+
+# The filter tests the new labels, and not those of the base.
+$ bloaty --csv -c folders.conf -d parts --source-filter=ELF --domain=file plain.elf
+parts,filesize
+
+$ bloaty --csv -c units.conf -d units,files --domain=vm units-4.elf
+units,files,vmsize
+unit a,a.c,16
+unit a,[section .text],8
+[LOAD #1 [RW]],[LOAD #1 [RW]],16
+unit b,[section .text],16
+[section .text],[section .text],8
+"#;
 
 #[test]
 fn rewritten_labels(rt: HostRuntime) -> Result<(), Fail> {
-    let alloc = rt.alloc();
-    for case in &CASES {
-        let ran = with_config(alloc, case.words, case.file, case.config, sound(alloc))?;
-        assert!(rt; is_report(&ran, case.report));
-    }
-    Ok(())
+    assert_runs(&rt, rt.alloc(), &FILES, LABELS)
 }
+
+const NO_PATTERNS: &str = r#"
+$ bloaty --source-filter ( plain.elf
+bloaty: pattern 0: bad syntax
+status 2
+
+# All patterns of the configuration are compiled, whether `-d` names their data sources or not.
+$ bloaty -c bad-pattern.conf --source-filter=a plain.elf
+bloaty: pattern 2: bad syntax
+status 2
+
+$ bloaty -c bad-pattern.conf --source-filter=[ plain.elf
+bloaty: pattern 0: bad syntax
+status 2
+"#;
 
 #[test]
 fn patterns_that_are_none(rt: HostRuntime) -> Result<(), Fail> {
-    let alloc = rt.alloc();
-    let config =
-        b"custom_data_source { name: 'm' base_data_source: 'symbols' rewrite { pattern: 'a' replacement: '' } }
-custom_data_source { name: 'n' base_data_source: 'symbols' rewrite { pattern: '(' replacement: '' } }";
-    for (words, number, line) in [
-        (
-            ["--source-filter", "(", "a.elf"].as_slice(),
-            0,
-            "bloaty: pattern 0: bad syntax",
-        ),
-        // All patterns of the configuration are compiled, whether `-d` names their data sources or not.
-        (
-            ["-c", "conf", "--source-filter=a", "a.elf"].as_slice(),
-            2,
-            "bloaty: pattern 2: bad syntax",
-        ),
-        (
-            ["-c", "conf", "--source-filter=[", "a.elf"].as_slice(),
-            0,
-            "bloaty: pattern 0: bad syntax",
-        ),
-    ] {
-        let ran = with_config(alloc, words, Input::Plain, config.as_slice(), sound(alloc))?;
-        assert!(rt;
-            is_end(&ran, Outcome::PatternSyntax(number), 2, line),
-            "{line}"
-        );
-    }
-    Ok(())
+    assert_runs(&rt, rt.alloc(), &FILES, NO_PATTERNS)
 }
 
 #[test]
 fn patterns_that_are_refused_for_their_size(rt: HostRuntime) -> Result<(), Fail> {
     let alloc = rt.alloc();
     let file = bytes_of(alloc, Input::Plain)?;
+    let files: [NamedFile<'_>; 2] = [("a.elf", &file), ("conf", FOLDERS)];
     let words = ["--source-filter=zzz", "a.elf"];
     let ran = run(alloc, &words, &file, sound(alloc))?;
     assert_eq!(rt; ran.outcome, Outcome::Done);
@@ -218,7 +137,7 @@ fn patterns_that_are_refused_for_their_size(rt: HostRuntime) -> Result<(), Fail>
         let mut devices = sound(alloc);
         devices.refused_patterns.push(2)?;
         let words = ["-c", "conf", filter, "a.elf"];
-        let ran = with_config(alloc, &words, Input::Plain, FOLDERS, devices)?;
+        let ran = run_over(alloc, &words, &files, devices)?;
         assert!(rt;
             is_end(&ran, Outcome::PatternTooBig(number), 2, line),
             "{line}"

@@ -10,3 +10,5 @@ mod growth;
 mod many;
 #[cfg(test)]
 mod pairs;
+#[cfg(test)]
+mod written;

@@ -1,109 +1,90 @@
 //! Configurations: the custom data sources that they declare, and their faults.
 
+use crate::cases::{cases, same};
 use config_text::{ConfigAnswer, ConfigKind, CustomSource, parse};
 use size_core::Source;
 use std::alloc::Global;
 use std::process::Abort;
 
-// A configuration, and the kind and the offset of its first fault. After `custom_data_source { ` the offset is 21.
-type Faulty<'a> = (&'a [u8], ConfigKind, u64);
+const NAME_FAULTS: &str =
+    r#"# A configuration => the kind and the offset of its first fault. After `custom_data_source { ` the offset is 21.
+x => UnknownField 0
+@ => Syntax 0
+1a => Syntax 0
+"x => Syntax 0
+'x' "y => Syntax 0
+custom_data_sources { => UnknownField 0
+custom_data_source => Syntax 18
+custom_data_source # { => Syntax 22
+custom_data_source :: { => Syntax 20
+custom_data_source { => Syntax 20
+custom_data_source { , } => Syntax 21
+custom_data_source { Name: 'm' } => UnknownField 21
+custom_data_source { pattern: 'm' } => UnknownField 21
+custom_data_source { name 'm' } => Syntax 26
+custom_data_source { name: m } => Syntax 27
+custom_data_source { name: 'm',; } => Syntax 31
+custom_data_source { name: 'm', 'n } => Syntax 32
+custom_data_source { name: 'm' => Syntax 30
+custom_data_source { name: 'm' name => RepeatedField 31
+custom_data_source { rewrite { name: 'm' => UnknownField 31
+custom_data_source { rewrite: { } => MissingField 32
+custom_data_source { rewrite { pattern: '' } } => MissingField 43
+custom_data_source { rewrite { pattern: '' pattern => RepeatedField 43
+custom_data_source { rewrite { pattern: '' 'a' # } => Syntax 50
+"#;
 
-const NAME_FAULTS: [Faulty<'static>; 26] = [
-    (b"x", ConfigKind::UnknownField, 0),
-    (b"@", ConfigKind::Syntax, 0),
-    (b"1a", ConfigKind::Syntax, 0),
-    (b"\"x", ConfigKind::Syntax, 0),
-    (b"'x' \"y", ConfigKind::Syntax, 0),
-    (b"# x\n; y", ConfigKind::Syntax, 4),
-    (b"# \"x\r\n\t y", ConfigKind::UnknownField, 8),
-    (b"custom_data_sources {", ConfigKind::UnknownField, 0),
-    (b"custom_data_source", ConfigKind::Syntax, 18),
-    (b"custom_data_source # {", ConfigKind::Syntax, 22),
-    (b"custom_data_source :: {", ConfigKind::Syntax, 20),
-    (b"custom_data_source {", ConfigKind::Syntax, 20),
-    (b"custom_data_source { , }", ConfigKind::Syntax, 21),
-    (
-        b"custom_data_source { Name: 'm' }",
-        ConfigKind::UnknownField,
-        21,
-    ),
-    (
-        b"custom_data_source { pattern: 'm' }",
-        ConfigKind::UnknownField,
-        21,
-    ),
-    (b"custom_data_source { name 'm' }", ConfigKind::Syntax, 26),
-    (b"custom_data_source { name: m }", ConfigKind::Syntax, 27),
-    (
-        b"custom_data_source { name: 'm',; }",
-        ConfigKind::Syntax,
-        31,
-    ),
-    (
-        b"custom_data_source { name: 'm', 'n }",
-        ConfigKind::Syntax,
-        32,
-    ),
-    (b"custom_data_source { name: 'm'", ConfigKind::Syntax, 30),
-    (
-        b"custom_data_source { name: 'm' name",
-        ConfigKind::RepeatedField,
-        31,
-    ),
-    (
-        b"custom_data_source { rewrite { name: 'm'",
-        ConfigKind::UnknownField,
-        31,
-    ),
-    (
-        b"custom_data_source { rewrite: { }",
-        ConfigKind::MissingField,
-        32,
-    ),
-    (
-        b"custom_data_source { rewrite { pattern: '' } }",
-        ConfigKind::MissingField,
-        43,
-    ),
-    (
-        b"custom_data_source { rewrite { pattern: '' pattern",
-        ConfigKind::RepeatedField,
-        43,
-    ),
-    (
-        b"custom_data_source { rewrite { pattern: '' 'a' # }",
-        ConfigKind::Syntax,
-        50,
-    ),
-];
+const VALUE_FAULTS: &str =
+    r#"# A configuration => the kind and the offset of its first fault. After `name: ` the offset is 27.
+custom_data_source { name: "m => BadString 27
+custom_data_source { name: 'm" } => BadString 27
+custom_data_source { name: '\x6d' } => BadString 27
+custom_data_source { name: 'm\ => BadString 27
+custom_data_source { name: '' "\0" } => BadString 30
+custom_data_source { name: '' @ => BadName 27
+custom_data_source { name: 'm' ',' } => BadName 27
+custom_data_source: { name: "sections" base_data_source: "symbols" } => BadName 28
+custom_data_source { name: "m" } => MissingField 31
+custom_data_source { base_data_source: 'symbols' } => MissingField 49
+custom_data_source { name: "m" base_data_source: "q" } => BadBase 49
+custom_data_source { rewrite { replacement: '\\q' } => BadReplacement 44
+custom_data_source { rewrite { replacement: '\\1\\' } => BadReplacement 44
+custom_data_source { name: 'm' base_data_source: 'symbols' } custom_data_source { name: 'm' } => BadName 88
+custom_data_source { name: 'm' base_data_source: 'symbols' };,  => Syntax 61
+"#;
 
-#[test]
-fn faults_of_names_and_marks(rt: HostRuntime) {
-    let alloc = rt.alloc();
-    for &(text, kind, at) in &NAME_FAULTS {
-        assert_eq!(rt; parse(alloc, text).err(), Some(ConfigAnswer::Bad(kind, at)));
+// The first fault of a configuration has this kind and this offset.
+fn has_fault(rt: &impl Abort, alloc: Global, text: &str, wanted: &str) {
+    let Some(ConfigAnswer::Bad(kind, at)) = parse(alloc, text.as_bytes()).err() else {
+        panic!(rt; "no fault in {text}");
+    };
+    let found = format!(in alloc; "{kind:?} {at}").expect(rt, "memory");
+    same(rt, text, found.as_str(), wanted);
+}
+
+fn have_faults(rt: &impl Abort, alloc: Global, text: &str, count: usize) {
+    let cases = cases(rt, alloc, text, count);
+    for &(text, wanted) in cases.as_slice() {
+        has_fault(rt, alloc, text, wanted);
     }
 }
 
-const VALUE_FAULTS: [Faulty<'static>; 19] = [
-    (b"custom_data_source { name: \"m", ConfigKind::BadString, 27),
+#[test]
+fn faults_of_names_and_marks(rt: HostRuntime) {
+    have_faults(&rt, rt.alloc(), NAME_FAULTS, 24);
+}
+
+#[test]
+fn faults_of_values(rt: HostRuntime) {
+    have_faults(&rt, rt.alloc(), VALUE_FAULTS, 15);
+}
+
+// Configurations of more than one line, or that aren't UTF-8, with the kind and the offset of the first fault.
+const OTHER_FAULTS: [(&[u8], ConfigKind, u64); 6] = [
+    (b"# x\n; y", ConfigKind::Syntax, 4),
+    (b"# \"x\r\n\t y", ConfigKind::UnknownField, 8),
     (
         b"custom_data_source { name: \"m\n\" }",
-        ConfigKind::BadString,
-        27,
-    ),
-    (
-        b"custom_data_source { name: 'm\" }",
-        ConfigKind::BadString,
-        27,
-    ),
-    (
-        b"custom_data_source { name: '\\x6d' }",
-        ConfigKind::BadString,
-        27,
-    ),
-    (
-        b"custom_data_source { name: 'm\\",
         ConfigKind::BadString,
         27,
     ),
@@ -113,72 +94,21 @@ const VALUE_FAULTS: [Faulty<'static>; 19] = [
         36,
     ),
     (
-        b"custom_data_source { name: '' \"\\0\" }",
-        ConfigKind::BadString,
-        30,
-    ),
-    (b"custom_data_source { name: '' @", ConfigKind::BadName, 27),
-    (
-        b"custom_data_source { name: 'm' ',' }",
-        ConfigKind::BadName,
-        27,
-    ),
-    (
         b"custom_data_source { name: ',\xff' }",
         ConfigKind::NotUtf8,
         27,
-    ),
-    (
-        b"custom_data_source: { name: \"sections\" base_data_source: \"symbols\" }",
-        ConfigKind::BadName,
-        28,
-    ),
-    (
-        b"custom_data_source { name: \"m\" }",
-        ConfigKind::MissingField,
-        31,
-    ),
-    (
-        b"custom_data_source { base_data_source: 'symbols' }",
-        ConfigKind::MissingField,
-        49,
-    ),
-    (
-        b"custom_data_source { name: \"m\" base_data_source: \"q\" }",
-        ConfigKind::BadBase,
-        49,
-    ),
-    (
-        b"custom_data_source { rewrite { replacement: '\\\\q' }",
-        ConfigKind::BadReplacement,
-        44,
-    ),
-    (
-        b"custom_data_source { rewrite { replacement: '\\\\1\\\\' }",
-        ConfigKind::BadReplacement,
-        44,
     ),
     (
         b"custom_data_source { rewrite { replacement: '\\\\\xc3' }",
         ConfigKind::NotUtf8,
         44,
     ),
-    (
-        b"custom_data_source { name: 'm' base_data_source: 'symbols' } custom_data_source { name: 'm' }",
-        ConfigKind::BadName,
-        88,
-    ),
-    (
-        b"custom_data_source { name: 'm' base_data_source: 'symbols' };, ",
-        ConfigKind::Syntax,
-        61,
-    ),
 ];
 
 #[test]
-fn faults_of_values(rt: HostRuntime) {
+fn faults_after_a_line_and_outside_utf8(rt: HostRuntime) {
     let alloc = rt.alloc();
-    for &(text, kind, at) in &VALUE_FAULTS {
+    for &(text, kind, at) in &OTHER_FAULTS {
         assert_eq!(rt; parse(alloc, text).err(), Some(ConfigAnswer::Bad(kind, at)));
     }
 }

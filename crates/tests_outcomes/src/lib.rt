@@ -10,3 +10,5 @@ mod faults;
 mod places;
 #[cfg(test)]
 mod refusals;
+#[cfg(test)]
+mod written;

@@ -1,369 +1,343 @@
 //! Arguments, files and configurations that end a run without a report, and the line that reports why.
 
+use crate::written::assert_runs;
 use bloaty_engine::{Outcome, UsageKind};
-use config_text::ConfigKind;
 use sample_files::{Input, bytes_of};
-use sample_runs::{COMMAND, NamedFile, is_end, is_report, run, run_over, sound};
-use size_core::{FULL, Fault, Limits};
+use sample_runs::{COMMAND, is_end, run, sound};
+use size_core::{FULL, Limits};
 use std::test::Fail;
 
-// Arguments, the kind of their misuse, and the line that reports it.
-type Misuse<'a> = (&'a [&'a str], UsageKind, &'a str);
-
-const MISUSES: [Misuse<'static>; 22] = [
-    (&[], UsageKind::NoFile, "bloaty: usage: no file"),
-    (&["--csv"], UsageKind::NoFile, "bloaty: usage: no file"),
-    (
-        &["-n", "x", "a.elf"],
-        UsageKind::BadNumber,
-        "bloaty: usage: bad number",
-    ),
-    (
-        &["-n", "4294967296", "a.elf"],
-        UsageKind::BadNumber,
-        "bloaty: usage: bad number",
-    ),
-    (
-        &["--synth", "1000001"],
-        UsageKind::BadNumber,
-        "bloaty: usage: bad number",
-    ),
-    (
-        &["--synth=", "a.elf"],
-        UsageKind::BadNumber,
-        "bloaty: usage: bad number",
-    ),
-    (
-        &["-s", "name", "a.elf"],
-        UsageKind::BadSort,
-        "bloaty: usage: bad sort order",
-    ),
-    (
-        &["--domain=disk", "a.elf"],
-        UsageKind::BadDomain,
-        "bloaty: usage: bad domain",
-    ),
-    (
-        &["--csv", "--tsv", "a.elf"],
-        UsageKind::TwoFormats,
-        "bloaty: usage: --csv with --tsv",
-    ),
-    (
-        &["-d", "sections,,", "a.elf"],
-        UsageKind::BadSourceList,
-        "bloaty: usage: bad source list",
-    ),
-    (
-        &["-d", "", "a.elf"],
-        UsageKind::BadSourceList,
-        "bloaty: usage: bad source list",
-    ),
-    (
-        &["-d", "a,a,a,a,a,a,a,a,a", "a.elf"],
-        UsageKind::BadSourceList,
-        "bloaty: usage: bad source list",
-    ),
-    (
-        &["--synth", "0", "a.elf"],
-        UsageKind::SynthWithFile,
-        "bloaty: usage: --synth with a file",
-    ),
-    (
-        &["a.elf", "--"],
-        UsageKind::NoBase,
-        "bloaty: usage: no base file",
-    ),
-    (
-        &["--synth", "0", "--"],
-        UsageKind::NoBase,
-        "bloaty: usage: no base file",
-    ),
-    (
-        &["--", "a.elf"],
-        UsageKind::NoFile,
-        "bloaty: usage: no file",
-    ),
-    (
-        &["--nope", "a.elf"],
-        UsageKind::Words,
-        "bloaty: usage: unreadable words",
-    ),
-    (
-        &["--help"],
-        UsageKind::Words,
-        "bloaty: usage: unreadable words",
-    ),
-    (
-        &["a.elf", "-d"],
-        UsageKind::Words,
-        "bloaty: usage: unreadable words",
-    ),
-    (
-        &["--csv=yes", "a.elf"],
-        UsageKind::Words,
-        "bloaty: usage: unreadable words",
-    ),
-    // Of two misuses the earlier kind is reported.
-    (
-        &["-n", "x", "-s", "name", "--csv", "--tsv"],
-        UsageKind::BadNumber,
-        "bloaty: usage: bad number",
-    ),
-    (
-        &["--csv", "--tsv", "-d", ","],
-        UsageKind::TwoFormats,
-        "bloaty: usage: --csv with --tsv",
-    ),
+const FILES: [(&str, Input); 10] = [
+    ("plain.elf", Input::Plain),
+    ("empty", Input::Text(b"")),
+    ("text.txt", Input::Text(b"a text file\n")),
+    ("archive.a", Input::Text(b"!<arch>\n")),
+    ("universal.macho", Input::Text(b"\xca\xfe\xba\xbe")),
+    ("cut-63.elf", Input::Cut(63)),
+    ("cut-351.elf", Input::Cut(351)),
+    ("past-the-top.elf", Input::AtTheTop(4097)),
+    ("too-large.elf", Input::Mapped(1 << 63)),
+    ("half-too-large.elf", Input::Mapped(1 << 62)),
 ];
+
+const MISUSES: &str = r#"
+$ bloaty
+bloaty: usage: no file
+status 2
+
+$ bloaty --csv
+bloaty: usage: no file
+status 2
+
+$ bloaty -n x plain.elf
+bloaty: usage: bad number
+status 2
+
+$ bloaty -n 4294967296 plain.elf
+bloaty: usage: bad number
+status 2
+
+$ bloaty --synth 1000001
+bloaty: usage: bad number
+status 2
+
+$ bloaty --synth= plain.elf
+bloaty: usage: bad number
+status 2
+
+$ bloaty -s name plain.elf
+bloaty: usage: bad sort order
+status 2
+
+$ bloaty --domain=disk plain.elf
+bloaty: usage: bad domain
+status 2
+
+$ bloaty --csv --tsv plain.elf
+bloaty: usage: --csv with --tsv
+status 2
+
+$ bloaty -d sections,, plain.elf
+bloaty: usage: bad source list
+status 2
+
+$ bloaty -d a,a,a,a,a,a,a,a,a plain.elf
+bloaty: usage: bad source list
+status 2
+
+$ bloaty --synth 0 plain.elf
+bloaty: usage: --synth with a file
+status 2
+
+$ bloaty plain.elf --
+bloaty: usage: no base file
+status 2
+
+$ bloaty --synth 0 --
+bloaty: usage: no base file
+status 2
+
+$ bloaty -- plain.elf
+bloaty: usage: no file
+status 2
+
+$ bloaty --nope plain.elf
+bloaty: usage: unreadable words
+status 2
+
+$ bloaty --help
+bloaty: usage: unreadable words
+status 2
+
+$ bloaty plain.elf -d
+bloaty: usage: unreadable words
+status 2
+
+$ bloaty --csv=yes plain.elf
+bloaty: usage: unreadable words
+status 2
+
+# Of two misuses the earlier kind is reported.
+$ bloaty -n x -s name --csv --tsv
+bloaty: usage: bad number
+status 2
+
+$ bloaty --csv --tsv -d ,
+bloaty: usage: --csv with --tsv
+status 2
+"#;
 
 #[test]
 fn misused_words(rt: HostRuntime) -> Result<(), Fail> {
     let alloc = rt.alloc();
+    assert_runs(&rt, alloc, &FILES, MISUSES)?;
+    // An argument without a byte.
     let file = bytes_of(alloc, Input::Plain)?;
-    for &(words, kind, line) in &MISUSES {
-        let ran = run(alloc, words, &file, sound(alloc))?;
-        assert!(rt; is_end(&ran, Outcome::Usage(kind), 2, line), "{line}");
-    }
+    let ran = run(alloc, &["-d", "", "a.elf"], &file, sound(alloc))?;
+    let outcome = Outcome::Usage(UsageKind::BadSourceList);
+    let line = "bloaty: usage: bad source list";
+    assert!(rt; is_end(&ran, outcome, 2, line), "{line}");
     Ok(())
 }
+
+const NO_SOURCES: &str = r#"
+$ bloaty -d nope plain.elf
+bloaty: unknown source: nope
+status 2
+
+$ bloaty -d sections,Sections,nope plain.elf
+bloaty: unknown source: Sections
+status 2
+
+$ bloaty -d sections,symbols,mine plain.elf
+bloaty: unknown source: mine
+status 2
+"#;
 
 #[test]
 fn names_of_no_source(rt: HostRuntime) -> Result<(), Fail> {
-    let alloc = rt.alloc();
-    let file = bytes_of(alloc, Input::Plain)?;
-    for (list, number, line) in [
-        ("nope", 1, "bloaty: unknown source: nope"),
-        (
-            "sections,Sections,nope",
-            2,
-            "bloaty: unknown source: Sections",
-        ),
-        ("sections,symbols,mine", 3, "bloaty: unknown source: mine"),
-    ] {
-        let ran = run(alloc, &["-d", list, "a.elf"], &file, sound(alloc))?;
-        assert!(rt;
-            is_end(&ran, Outcome::UnknownSource(number), 2, line),
-            "{line}"
-        );
-    }
-    Ok(())
+    assert_runs(&rt, rt.alloc(), &FILES, NO_SOURCES)
 }
 
-// A configuration, its fault, and the line that reports it.
-type BadConfig<'a> = (&'a [u8], ConfigKind, u64, &'a str);
-
-const BAD_CONFIGS: [BadConfig<'static>; 12] = [
+const CONFIGS: [(&str, Input); 14] = [
+    ("plain.elf", Input::Plain),
     (
-        b"custom_data_source: { name: \"sections\" base_data_source: \"symbols\" }",
-        ConfigKind::BadName,
-        28,
-        "bloaty: conf: offset 28: config fault 7",
+        "reserved-name.conf",
+        Input::Text(b"custom_data_source: { name: \"sections\" base_data_source: \"symbols\" }"),
+    ),
+    ("unknown-field.conf", Input::Text(b"x")),
+    (
+        "missing-base.conf",
+        Input::Text(b"custom_data_source { name: \"m\" }"),
     ),
     (
-        b"x",
-        ConfigKind::UnknownField,
-        0,
-        "bloaty: conf: offset 0: config fault 4",
+        "unknown-base.conf",
+        Input::Text(b"custom_data_source { name: \"m\" base_data_source: \"q\" }"),
     ),
     (
-        b"custom_data_source { name: \"m\" }",
-        ConfigKind::MissingField,
-        31,
-        "bloaty: conf: offset 31: config fault 6",
+        "open-string.conf",
+        Input::Text(b"custom_data_source { name: \"m"),
     ),
     (
-        b"custom_data_source { name: \"m\" base_data_source: \"q\" }",
-        ConfigKind::BadBase,
-        49,
-        "bloaty: conf: offset 49: config fault 8",
+        "name-twice.conf",
+        Input::Text(b"custom_data_source { name: \"m\" name: \"m\" }"),
     ),
     (
-        b"custom_data_source { name: \"m",
-        ConfigKind::BadString,
-        27,
-        "bloaty: conf: offset 27: config fault 2",
+        "not-utf8.conf",
+        Input::Text(b"custom_data_source { name: \"\xff\" }"),
     ),
     (
-        b"custom_data_source { name: \"m\" name: \"m\" }",
-        ConfigKind::RepeatedField,
-        31,
-        "bloaty: conf: offset 31: config fault 5",
+        "comma-in-name.conf",
+        Input::Text(b"custom_data_source { name: \"a,b\" }"),
     ),
     (
-        b"custom_data_source { name: \"\xff\" }",
-        ConfigKind::NotUtf8,
-        27,
-        "bloaty: conf: offset 27: config fault 3",
+        "bad-replacement.conf",
+        Input::Text(b"custom_data_source { rewrite { replacement: \"\\\\x\" } }"),
     ),
+    ("no-brace.conf", Input::Text(b"custom_data_source")),
+    ("stray-brace.conf", Input::Text(b"# a comment alone\n}")),
     (
-        b"custom_data_source { name: \"a,b\" }",
-        ConfigKind::BadName,
-        27,
-        "bloaty: conf: offset 27: config fault 7",
+        "name-without-quotes.conf",
+        Input::Text(b"custom_data_source { name: m }"),
     ),
-    (
-        b"custom_data_source { rewrite { replacement: \"\\\\x\" } }",
-        ConfigKind::BadReplacement,
-        44,
-        "bloaty: conf: offset 44: config fault 9",
-    ),
-    (
-        b"custom_data_source",
-        ConfigKind::Syntax,
-        18,
-        "bloaty: conf: offset 18: config fault 1",
-    ),
-    (
-        b"# a comment alone\n}",
-        ConfigKind::Syntax,
-        18,
-        "bloaty: conf: offset 18: config fault 1",
-    ),
-    // The fault of a name that isn't a string has the name's own offset.
-    (
-        b"custom_data_source { name: m }",
-        ConfigKind::Syntax,
-        27,
-        "bloaty: conf: offset 27: config fault 1",
-    ),
+    ("empty.conf", Input::Text(b"")),
 ];
+
+// The configuration is read before the names in `-d` are resolved.
+const BAD_CONFIGS: &str = r#"
+$ bloaty -c reserved-name.conf -d nope plain.elf
+bloaty: reserved-name.conf: offset 28: config fault 7
+status 2
+
+$ bloaty -c unknown-field.conf -d nope plain.elf
+bloaty: unknown-field.conf: offset 0: config fault 4
+status 2
+
+$ bloaty -c missing-base.conf -d nope plain.elf
+bloaty: missing-base.conf: offset 31: config fault 6
+status 2
+
+$ bloaty -c unknown-base.conf -d nope plain.elf
+bloaty: unknown-base.conf: offset 49: config fault 8
+status 2
+
+$ bloaty -c open-string.conf -d nope plain.elf
+bloaty: open-string.conf: offset 27: config fault 2
+status 2
+
+$ bloaty -c name-twice.conf -d nope plain.elf
+bloaty: name-twice.conf: offset 31: config fault 5
+status 2
+
+$ bloaty -c not-utf8.conf -d nope plain.elf
+bloaty: not-utf8.conf: offset 27: config fault 3
+status 2
+
+$ bloaty -c comma-in-name.conf -d nope plain.elf
+bloaty: comma-in-name.conf: offset 27: config fault 7
+status 2
+
+$ bloaty -c bad-replacement.conf -d nope plain.elf
+bloaty: bad-replacement.conf: offset 44: config fault 9
+status 2
+
+$ bloaty -c no-brace.conf -d nope plain.elf
+bloaty: no-brace.conf: offset 18: config fault 1
+status 2
+
+$ bloaty -c stray-brace.conf -d nope plain.elf
+bloaty: stray-brace.conf: offset 18: config fault 1
+status 2
+
+# The fault of a name that isn't a string has the name's own offset.
+$ bloaty -c name-without-quotes.conf -d nope plain.elf
+bloaty: name-without-quotes.conf: offset 27: config fault 1
+status 2
+"#;
 
 #[test]
 fn configurations_with_a_fault(rt: HostRuntime) -> Result<(), Fail> {
-    let alloc = rt.alloc();
-    let file = bytes_of(alloc, Input::Plain)?;
-    for &(text, kind, offset, line) in &BAD_CONFIGS {
-        let files: [NamedFile<'_>; 2] = [("a.elf", &file), ("conf", text)];
-        // The configuration is read before the names in `-d` are resolved.
-        let words = ["-c", "conf", "-d", "nope", "a.elf"];
-        let ran = run_over(alloc, &words, &files, sound(alloc))?;
-        assert!(rt;
-            is_end(&ran, Outcome::Config(kind, offset), 2, line),
-            "{line}"
-        );
-    }
-    Ok(())
+    assert_runs(&rt, rt.alloc(), &CONFIGS, BAD_CONFIGS)
 }
+
+const EMPTY_CONFIG: &str = r#"
+$ bloaty -c empty.conf --csv -n 1 --domain=file plain.elf
+sections,filesize
+[ELF Section Headers],192
+[5 Others],160
+
+$ bloaty -c empty.conf -d mine plain.elf
+bloaty: unknown source: mine
+status 2
+"#;
 
 #[test]
 fn an_empty_configuration_has_no_source(rt: HostRuntime) -> Result<(), Fail> {
-    let alloc = rt.alloc();
-    let file = bytes_of(alloc, Input::Plain)?;
-    let files: [NamedFile<'_>; 2] = [("a.elf", &file), ("conf", b"")];
-    let words = ["-c", "conf", "--csv", "-n", "1", "--domain=file", "a.elf"];
-    let ran = run_over(alloc, &words, &files, sound(alloc))?;
-    assert!(rt;
-        is_report(
-            &ran,
-            &[
-                "sections,filesize",
-                "[ELF Section Headers],192",
-                "[5 Others],160",
-            ]
-        )
-    );
-    let words = ["-c", "conf", "-d", "mine", "a.elf"];
-    let ran = run_over(alloc, &words, &files, sound(alloc))?;
-    let line = "bloaty: unknown source: mine";
-    assert!(rt; is_end(&ran, Outcome::UnknownSource(1), 2, line), "{line}");
-    Ok(())
+    assert_runs(&rt, rt.alloc(), &CONFIGS, EMPTY_CONFIG)
 }
 
-// A file, its first fault, and the line that reports it.
-type BadInput<'a> = (Input, Fault, u64, &'a str);
+const BAD_INPUTS: &str = r#"
+$ bloaty empty
+bloaty: empty: offset 0: UnknownFormat
+status 1
 
-const BAD_INPUTS: [BadInput<'static>; 7] = [
-    (
-        Input::Text(b""),
-        Fault::UnknownFormat,
-        0,
-        "bloaty: a.elf: offset 0: UnknownFormat",
-    ),
-    (
-        Input::Text(b"a text file\n"),
-        Fault::UnknownFormat,
-        0,
-        "bloaty: a.elf: offset 0: UnknownFormat",
-    ),
-    (
-        Input::Text(b"!<arch>\n"),
-        Fault::Archive,
-        0,
-        "bloaty: a.elf: offset 0: Archive",
-    ),
-    (
-        Input::Text(b"\xca\xfe\xba\xbe"),
-        Fault::Universal,
-        0,
-        "bloaty: a.elf: offset 0: Universal",
-    ),
-    (
-        Input::Cut(63),
-        Fault::Truncated,
-        0,
-        "bloaty: a.elf: offset 0: Truncated",
-    ),
-    (
-        Input::Cut(351),
-        Fault::TablePastEnd,
-        160,
-        "bloaty: a.elf: offset 160: TablePastEnd",
-    ),
-    (
-        Input::AtTheTop(4097),
-        Fault::RangeOverflow,
-        64,
-        "bloaty: a.elf: offset 64: RangeOverflow",
-    ),
-];
+$ bloaty text.txt
+bloaty: text.txt: offset 0: UnknownFormat
+status 1
+
+$ bloaty archive.a
+bloaty: archive.a: offset 0: Archive
+status 1
+
+$ bloaty universal.macho
+bloaty: universal.macho: offset 0: Universal
+status 1
+
+$ bloaty cut-63.elf
+bloaty: cut-63.elf: offset 0: Truncated
+status 1
+
+$ bloaty cut-351.elf
+bloaty: cut-351.elf: offset 160: TablePastEnd
+status 1
+
+$ bloaty past-the-top.elf
+bloaty: past-the-top.elf: offset 64: RangeOverflow
+status 1
+
+# Faults of the second file.
+$ bloaty plain.elf empty
+bloaty: empty: offset 0: UnknownFormat
+status 1
+
+$ bloaty plain.elf text.txt
+bloaty: text.txt: offset 0: UnknownFormat
+status 1
+
+$ bloaty plain.elf archive.a
+bloaty: archive.a: offset 0: Archive
+status 1
+
+$ bloaty plain.elf universal.macho
+bloaty: universal.macho: offset 0: Universal
+status 1
+
+$ bloaty plain.elf cut-63.elf
+bloaty: cut-63.elf: offset 0: Truncated
+status 1
+
+$ bloaty plain.elf cut-351.elf
+bloaty: cut-351.elf: offset 160: TablePastEnd
+status 1
+
+$ bloaty plain.elf past-the-top.elf
+bloaty: past-the-top.elf: offset 64: RangeOverflow
+status 1
+"#;
 
 #[test]
 fn files_with_a_fault(rt: HostRuntime) -> Result<(), Fail> {
-    let alloc = rt.alloc();
-    let plain = bytes_of(alloc, Input::Plain)?;
-    for &(input, fault, offset, line) in &BAD_INPUTS {
-        let bad = bytes_of(alloc, input)?;
-        let ran = run(alloc, &["a.elf"], &bad, sound(alloc))?;
-        let outcome = Outcome::Bad {
-            file: 1,
-            fault,
-            offset,
-        };
-        assert!(rt; is_end(&ran, outcome, 1, line), "{line}");
-        // After a sound file it is the second one.
-        let files: [NamedFile<'_>; 2] = [("b.elf", &plain), ("a.elf", &bad)];
-        let ran = run_over(alloc, &["b.elf", "a.elf"], &files, sound(alloc))?;
-        let outcome = Outcome::Bad {
-            file: 2,
-            fault,
-            offset,
-        };
-        assert!(rt; is_end(&ran, outcome, 1, line), "{line}");
-    }
-    Ok(())
+    assert_runs(&rt, rt.alloc(), &FILES, BAD_INPUTS)
 }
 
-// Arguments over files that go past limits, the outcome, and the line that reports it.
-type Passed<'a> = (&'a [&'a str], Input, Limits, Outcome, &'a str);
+// Arguments over the plain file, the limits that it passes, the outcome, and the line that reports it.
+type Passed<'a> = (&'a [&'a str], Limits, Outcome, &'a str);
 
-const PASSED_LIMITS: [Passed<'static>; 7] = [
+const PASSED_LIMITS: [Passed<'static>; 4] = [
     (
         &["a.elf"],
-        Input::Plain,
         Limits { file: 351, ..FULL },
         Outcome::TooLong(1),
         "bloaty: a.elf: too long",
     ),
     (
         &["a.elf", "a.elf"],
-        Input::Plain,
         Limits { total: 703, ..FULL },
         Outcome::TooLong(2),
         "bloaty: a.elf: too long",
     ),
     (
         &["--synth", "1"],
-        Input::Plain,
         Limits { file: 546, ..FULL },
         Outcome::TooLong(1),
         "bloaty: synth: too long",
@@ -371,46 +345,43 @@ const PASSED_LIMITS: [Passed<'static>; 7] = [
     // The claims of all sources together: four of segments and six of sections.
     (
         &["-d", "segments,sections", "a.elf"],
-        Input::Plain,
         Limits { claims: 9, ..FULL },
         Outcome::TooManyClaims(1),
         "bloaty: a.elf: too many claims",
-    ),
-    (
-        &["a.elf"],
-        Input::Mapped(1 << 63),
-        FULL,
-        Outcome::MappedTooLarge,
-        "bloaty: mapped size too large",
-    ),
-    (
-        &["a.elf", "a.elf"],
-        Input::Mapped(1 << 62),
-        FULL,
-        Outcome::MappedTooLarge,
-        "bloaty: mapped size too large",
-    ),
-    // What the filter leaves out is mapped all the same.
-    (
-        &["--source-filter=text", "a.elf", "a.elf"],
-        Input::Mapped(1 << 62),
-        FULL,
-        Outcome::MappedTooLarge,
-        "bloaty: mapped size too large",
     ),
 ];
 
 #[test]
 fn passed_limits(rt: HostRuntime) -> Result<(), Fail> {
     let alloc = rt.alloc();
-    for &(words, input, limits, outcome, line) in &PASSED_LIMITS {
-        let file = bytes_of(alloc, input)?;
+    let file = bytes_of(alloc, Input::Plain)?;
+    for &(words, limits, outcome, line) in &PASSED_LIMITS {
         let mut devices = sound(alloc);
         devices.limits = limits;
         let ran = run(alloc, words, &file, devices)?;
         assert!(rt; is_end(&ran, outcome, 6, line), "{line}");
     }
     Ok(())
+}
+
+const TOO_LARGE: &str = r#"
+$ bloaty too-large.elf
+bloaty: mapped size too large
+status 6
+
+$ bloaty half-too-large.elf half-too-large.elf
+bloaty: mapped size too large
+status 6
+
+# What the filter leaves out is mapped all the same.
+$ bloaty --source-filter=text half-too-large.elf half-too-large.elf
+bloaty: mapped size too large
+status 6
+"#;
+
+#[test]
+fn a_mapped_size_that_is_too_large(rt: HostRuntime) -> Result<(), Fail> {
+    assert_runs(&rt, rt.alloc(), &FILES, TOO_LARGE)
 }
 
 // Six claims, by each smaller limit and by their number.

@@ -11,3 +11,5 @@ mod one_file;
 mod reports;
 #[cfg(test)]
 mod units;
+#[cfg(test)]
+mod written;

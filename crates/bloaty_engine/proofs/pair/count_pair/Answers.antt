@@ -123,3 +123,6 @@ count_opened-requires-clause-fit g c =
       debug_fits = omega (arith, second.finds.1, ap length second.finds.0, ap length c.deref-2.ensures.value, limit);
       lengths = omega (arith, fits, ap length first.ends.0, ap length c.deref.ensures.value);
     }
+
+pub count_opened-requires-clause-can : goal.count_opened-requires-clause-can
+count_opened-requires-clause-can g c = c.requires

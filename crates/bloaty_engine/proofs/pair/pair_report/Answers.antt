@@ -1,5 +1,5 @@
 -- The pair is counted, and then there is the report of its sizes.
-use Rattle.std.proofs.Common.{◌∷◌, [], refl}
+use Rattle.std.proofs.Common.{◌∷◌, [], refl, arith}
 use Rattle.std.proofs.lemmas.Result.{err_from_is_err_and}
 use Rattle.bloaty_engine.specs.Reading.{files_to_read, reading_for}
 use Rattle.bloaty_engine.specs.Steps.{batch_of, batch_reading}
@@ -37,8 +37,11 @@ returns-in_err-total g c =
       cost = costs-pair c.args.run.now.limits c.args.plan.now.sources c.args.run.now.options c.args.debug.now (g.F.Files.gave c.args.files.now) (g.F.Files.gave c.count_pair.new.files) c.args.steps.now c.count_pair.new.steps c.requires.no_place c.requires.debug c.count_pair.ensures.cost;
     }
 
-pub count_pair-requires-clause-one : goal.count_pair-requires-clause-one
-count_pair-requires-clause-one g c = pair-one-input c.args.run.now.options (c.requires.ready.limits.debug _ c.requires.debug)
+pub count_pair-requires : goal.count_pair-requires
+count_pair-requires g c = record {
+  one = pair-one-input c.args.run.now.options (c.requires.ready.limits.debug _ c.requires.debug);
+  few = omega (arith, c.requires.ready.limits.few_sources, c.requires.ready.planned.depth);
+}
 
 pub returns-in_err-report_of : goal.returns-in_err-report_of
 returns-in_err-report_of g c =

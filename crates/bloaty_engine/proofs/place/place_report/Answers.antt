@@ -1,6 +1,6 @@
 -- The only file is read, and then a location of it is explained.
-use Rattle.std.proofs.Common.{◌+◌, length, Err, refl, ap, ◌∙◌, arith}
-use Rattle.std.proofs.Common.{subst}
+use Rattle.std.proofs.Common.{◌+◌, length, Err, refl, ap, subst, ◌∙◌, arith, rules}
+use Rattle.std.proofs.lemmas.Grind.{common_steps}
 use Rattle.std.proofs.lemmas.Result.{err_from_is_err_and}
 use Rattle.bloaty_engine.specs.PlaceSteps.{EndsExplained, explained_within}
 use Rattle.file_profile.proofs.MapLemmas.{err-same}
@@ -11,6 +11,13 @@ use Rattle.bloaty_engine.proofs.GivenLemmas.{gives-stops, gives-then}
 use Rattle.bloaty_engine.proofs.PlaceLemmas.{no-other-names, no-others-held, only-ends, place-ends, place-found}
 use Rattle.bloaty_engine.proofs.StepLemmas.{same-run, stops, then-no-memory, then-ok, then-unread}
 use Rattle.bloaty_engine.proofs.place.place_report.Goals as goal
+
+pub explained-requires : goal.explained-requires
+explained-requires g c = record {
+  one = (c.requires.ready.limits.place _ c.requires.place).one_file;
+  planned = c.requires.ready.planned;
+  fits = first_of (search rules, grind (arith, common_steps));
+}
 
 pub returns-in_err-file : goal.returns-in_err-file
 returns-in_err-file g c =

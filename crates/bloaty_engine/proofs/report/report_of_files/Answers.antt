@@ -14,27 +14,29 @@ use Rattle.bloaty_engine.proofs.StepLemmas.{base-part, follows, same-run, stops,
 use Rattle.bloaty_engine.proofs.CostLemmas.{costs-bases, costs-none}
 use Rattle.bloaty_engine.proofs.report.report_of_files.Goals as goal
 
-pub total_of-requires-clause-batch : goal.total_of-requires-clause-batch
-total_of-requires-clause-batch g c = record {
-  few = omega (arith, c.requires.begins.ready.limits.few_sources, c.requires.begins.ready.planned.depth);
-  numbers = first_of (search rules, grind (arith, common_steps));
-  room = omega arith;
+pub total_of-requires : goal.total_of-requires
+total_of-requires g c = record {
+  batch = record {
+    few = omega (arith, c.requires.begins.ready.limits.few_sources, c.requires.begins.ready.planned.depth);
+    numbers = first_of (search rules, grind (arith, common_steps));
+    room = omega arith;
+  };
+  input = c.requires.begins.ready.limits.input;
+  none = c.requires.begins.none;
 }
 
-pub total_of-requires-clause-input : goal.total_of-requires-clause-input
-total_of-requires-clause-input g c = c.requires.begins.ready.limits.input
-
-pub total_of-requires-clause-none : goal.total_of-requires-clause-none
-total_of-requires-clause-none g c = c.requires.begins.none
-
-pub growth_report-requires-clause-batch : goal.growth_report-requires-clause-batch
-growth_report-requires-clause-batch g c =
+pub growth_report-requires : goal.growth_report-requires
+growth_report-requires g c =
     let tally = c.in_ok-total.ensures.tally in
     let files : c.total_of.new.tally.files ≡ length (file_names c.args.run.now.options) = omega (arith, tally.counts.0) in
     record {
-      few = omega (arith, c.requires.begins.ready.limits.few_sources, c.requires.begins.ready.planned.depth);
-      numbers = first_of (search rules, grind (arith, common_steps));
-      room = tally.room;
+      batch = record {
+        few = omega (arith, c.requires.begins.ready.limits.few_sources, c.requires.begins.ready.planned.depth);
+        numbers = first_of (search rules, grind (arith, common_steps));
+        room = tally.room;
+      };
+      depth = c.requires.begins.ready.planned.depth;
+      total = first_of (search rules, grind (arith, common_steps));
     }
 
 pub returns-then-is_none : goal.returns-then-is_none

@@ -1,7 +1,19 @@
 -- Without a location and a debug file all files are counted.
+use Rattle.std.proofs.Common.{arith, rules}
+use Rattle.std.proofs.lemmas.Grind.{common_steps}
 use Rattle.bloaty_engine.proofs.CostLemmas.{costs-alone}
 use Rattle.bloaty_engine.proofs.KindLemmas.{counting-found, no-debug-names}
 use Rattle.bloaty_engine.proofs.report.report_of_kind.Goals as goal
+
+pub place_report-requires : goal.place_report-requires
+place_report-requires g c = record { ready = c.requires.ready; place = first_of (search rules, grind (arith, common_steps)) }
+
+pub pair_report-requires : goal.pair_report-requires
+pair_report-requires g c = record {
+  ready = c.requires.ready;
+  debug = first_of (search rules, grind (arith, common_steps));
+  no_place = first_of (search rules, grind (arith, common_steps));
+}
 
 pub returns-in-None-None : goal.returns-in-None-None
 returns-in-None-None g c =

@@ -1,5 +1,6 @@
 -- The files are those that are read, or the synthetic one.
-use Rattle.std.proofs.Common.{◌≡◌, ℕ, ◌-◌, [], length, Option, refl, ap, arith}
+use Rattle.std.proofs.Common.{◌≡◌, ℕ, ◌-◌, [], length, Option, refl, ap, arith, rules}
+use Rattle.std.proofs.lemmas.Grind.{common_steps}
 use Rattle.elf_synth.specs.Made.{made}
 use Rattle.outside.specs.Held.{IsTaken, Pairs}
 use Rattle.run_outcome.specs.Names.{file_names, names_of}
@@ -27,6 +28,13 @@ count_files-requires g c =
       numbers = omega (arith, c.requires.batch.numbers, names, c.requires.none.0);
       room = omega (arith, c.requires.none.1);
     }
+
+pub count_made-requires : goal.count_made-requires
+count_made-requires g c = record {
+  number = first_of (search rules, grind (arith, common_steps));
+  few = c.requires.batch.few;
+  none = c.requires.none;
+}
 
 pub returns-in-Some : goal.returns-in-Some
 returns-in-Some g c =
