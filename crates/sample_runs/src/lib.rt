@@ -1,10 +1,9 @@
 //! One run of the whole tool over files and sinks in memory, and checks of how it ended and what it wrote. The crate
 //! has no contracts: each test states how its run ends. A library can't assert, since only tests may abort, so a test
-//! asserts `is_report` or `is_end` itself, or that a text of runs has no `first_wrong`.
+//! asserts `is_report` or `is_end` itself.
 #![tactic(auto)]
 
 mod runs;
-mod transcript;
 
 use bloaty_engine::{Outcome, bloaty};
 use custom_rewrites::RegexPatterns;
@@ -12,7 +11,6 @@ use outside::{MemFiles, MemSink};
 pub use runs::{COMMAND, is_end, is_report};
 use size_core::{FULL, Limits, NoMemory};
 use std::alloc::Global;
-pub use transcript::first_wrong;
 
 /// How the devices of a run fail, and the limits of the run. Calls are counted from 1.
 #[derive(Drop)]
@@ -76,20 +74,21 @@ fn pairs_of(alloc: Global, files: &[NamedFile<'_>]) -> Result<Vec<(String, Vec<u
     Ok(pairs)
 }
 
-// Runs the arguments over pairs of a name and its bytes.
-fn run_words(
+/// Runs the arguments over files of these names.
+pub fn run_over(
     alloc: Global,
-    words: &[String],
-    files: Vec<(String, Vec<u8>)>,
+    words: &[&str],
+    files: &[NamedFile<'_>],
     devices: Devices,
 ) -> Result<Ran, NoMemory> {
-    let mut files = MemFiles::new(files, devices.failing_reads);
+    let words = words_of(alloc, words)?;
+    let mut files = MemFiles::new(pairs_of(alloc, files)?, devices.failing_reads);
     let mut patterns = RegexPatterns::new(devices.refused_patterns);
     let mut out = MemSink::new(alloc, ROOM, devices.take, devices.failing_writes)?;
     let mut err = MemSink::new(alloc, ROOM, ROOM, devices.failing_lines)?;
     let outcome = bloaty(
         alloc,
-        words,
+        &words,
         &mut files,
         &mut patterns,
         &mut out,
@@ -101,17 +100,6 @@ fn run_words(
         out: out.written().to_vec(alloc)?,
         err: err.written().to_vec(alloc)?,
     })
-}
-
-/// Runs the arguments over files of these names.
-pub fn run_over(
-    alloc: Global,
-    words: &[&str],
-    files: &[NamedFile<'_>],
-    devices: Devices,
-) -> Result<Ran, NoMemory> {
-    let words = words_of(alloc, words)?;
-    run_words(alloc, &words, pairs_of(alloc, files)?, devices)
 }
 
 /// Runs the arguments over one file named `a.elf`.

@@ -1,4 +1,0 @@
-use Rattle.tests_layers.proofs.report_table.rollup_of.Given as goal
-
-abbrev pub ghosts-add : goal.ghosts-add
-ghosts-add g a = record { name = a.blank.name; parts = a.blank.parts }

@@ -1,4 +1,0 @@
-use Rattle.tests_maps.proofs.carried.offset_follows.Given as goal
-
-abbrev pub ghosts-label_at : goal.ghosts-label_at
-ghosts-label_at g a = record { name = a.blank.name; parts = a.blank.parts }

@@ -1,4 +1,0 @@
-use Rattle.tests_reports.proofs.one_file.the_paths_of_one_file.Given as goal
-
-abbrev pub ghosts-add : goal.ghosts-add
-ghosts-add g a = record { name = a.blank.name; parts = a.blank.parts }
