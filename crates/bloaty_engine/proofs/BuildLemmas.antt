@@ -114,16 +114,12 @@ asked-patterns limits o contents customs e =
 
 module _ {P : Type 0} (p : PatternsGhosts P) where
   kept-same : (X : Type 0) (e : PlanAnswer) (last : List ℕ) → KeepsLast {X = X} last last (Err e)
-  kept-same X (plan.UnknownSource i) last = refl
-  kept-same X (plan.PatternSyntax i) last = refl
   kept-same X (plan.PatternTooBig i) last = tt
-  kept-same X plan.NoMemory last = refl
+  kept-same X e last = refl
 
   kept-from : (X Y : Type 0) (e : PlanAnswer) (old same new : List ℕ) → same ≡ old → KeepsLast {X = X} same new (Err e) → KeepsLast {X = Y} old new (Err e)
-  kept-from X Y (plan.UnknownSource i) old same new is kept = kept ∙ is
-  kept-from X Y (plan.PatternSyntax i) old same new is kept = kept ∙ is
   kept-from X Y (plan.PatternTooBig i) old same new is kept = tt
-  kept-from X Y plan.NoMemory old same new is kept = kept ∙ is
+  kept-from X Y e old same new is kept = kept ∙ is
 
   -- A step of planning that builds no pattern.
   pub plan-unbuilt : {X : Type 0} (b : PatternList) (e : PlanAnswer) (s : P) → BuildsBefore b (p.last_refused s) e (p.built s) (p.built s) → Plans {X = X} p b (Err e) s s

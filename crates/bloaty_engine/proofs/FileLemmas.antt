@@ -61,10 +61,8 @@ counted-long limits sources i lengths mapped name file lt le =
 
 -- The outcome of a file that can't be counted.
 pub ends-viewed : (i : ℕ) (why : ProfileAnswer) (decided : Result FileView ProfileAnswer) → Answers (Err why) decided → EndsAs (Err (end_at i why)) (if_viewed i decided)
-ends-viewed i (profile.Bad bad) decided e = ap (if_viewed i) e
-ends-viewed i profile.TooManyClaims decided e = ap (if_viewed i) e
-ends-viewed i profile.MappedTooLarge decided e = ap (if_viewed i) e
 ends-viewed i profile.NoMemory decided e = tt
+ends-viewed i why decided e = ap (if_viewed i) e
 
 pub ok-viewed : (i : ℕ) (decided : Result FileView ProfileAnswer) → IsOk decided → IsOk (if_viewed i decided)
 ok-viewed i (Ok f) ok = refl

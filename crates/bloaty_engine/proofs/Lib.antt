@@ -7,6 +7,7 @@ pub mod HeldLemmas
 pub mod KindLemmas
 pub mod LineLemmas
 pub mod LocationLemmas
+pub mod NextLemmas
 pub mod PairLemmas
 pub mod PlaceLemmas
 pub mod PlanLemmas

@@ -9,36 +9,38 @@ use Rattle.size_core.specs.declared.limits.Limits.{Limits}
 use Rattle.size_model.specs.declared.view.FileView.{FileView}
 use Rattle.data_sources.specs.declared.binary.Binary.{Binary}
 use Rattle.data_sources.specs.Opened.{opened}
+use Rattle.outside.specs.declared.files.Files.{Ghosts as FilesGhosts}
 use Rattle.outside.specs.Held.{Pairs, held_bytes, IsHeld}
 use Rattle.file_profile.specs.declared.answer.PairAnswer.{PairAnswer}
 use Rattle.file_profile.specs.declared.answer.PairAnswer.TheVariants as pair
 use Rattle.file_profile.specs.PairViews.{PairAnswers, pair_viewed}
+use Rattle.file_profile.specs.Plans.{Plans}
 use Rattle.file_profile.specs.Sources.{Chosen}
-use Rattle.rollup.specs.Totals.{IsTotals, Totals}
-use Rattle.report_rows.specs.Rows.{row_tree}
+use Rattle.rollup.specs.Totals.{Totals}
 use Rattle.size_options.specs.Answers.{IsOneInput, IsPair}
 use Rattle.file_profile.specs.Counts.{filter_test}
 use Rattle.file_profile.proofs.MapLemmas.{err-same}
 use Rattle.size_options.specs.declared.run_options.Options.{Options}
 use Rattle.run_outcome.specs.declared.outcome.Outcome.{Outcome}
-use Rattle.run_outcome.specs.declared.outcome.Outcome.TheVariants.{ReadFailed, TooLong, NoMemory}
-use Rattle.bloaty_engine.specs.Given.{input_pairs, pairs_from}
+use Rattle.run_outcome.specs.declared.outcome.Outcome.TheVariants.{ReadFailed, TooLong}
+use Rattle.bloaty_engine.specs.FileSteps.{ReadsBatch, ReadsFile}
+use Rattle.bloaty_engine.specs.Given.{Gives, input_pairs, pairs_from}
 use Rattle.bloaty_engine.specs.Named.{AreFiles, AreHeld}
 use Rattle.run_outcome.specs.Names.{all_names, debug_names, file_names, name_at, names_of, other_names}
-use Rattle.bloaty_engine.specs.PairSteps.{EndsFirst, EndsPair, EndsPaired, IsOfPair}
+use Rattle.bloaty_engine.specs.PairSteps.{CountsPair, EndsFirst, EndsPair, EndsPaired, IsOfPair, OpensFirst}
 use Rattle.bloaty_engine.specs.Steps.{EndsAs, Finds, Nowhere, batch_of, batch_reading}
-use Rattle.bloaty_engine.proofs.StepLemmas.{IsPart, files-part}
-use Rattle.bloaty_engine.specs.Reading.{files_to_read, reading_for, unmade_names}
-use Rattle.bloaty_engine.specs.Report.{printed, row_options}
-use Rattle.bloaty_engine.specs.Reports.{EndsFinding, IsReadFile}
+use Rattle.bloaty_engine.specs.Reading.{file_reading, files_to_read, reading_for, unmade_names}
+use Rattle.bloaty_engine.specs.Reports.{AsksPair, EndsFinding, IsReadFile, Reports}
 use Rattle.bloaty_engine.specs.Verdict.{◌>>=◌, Counted, Sides, as_counted, counted_pair, end_of_pair, file_limit, first_name, found, found_by, if_paired, if_sound, one_file, opened_first, total_limit}
+use Rattle.bloaty_engine.proofs.CostLemmas.{costs-pair}
 use Rattle.bloaty_engine.proofs.EndLemmas.{ends-read, ends-so}
+use Rattle.bloaty_engine.proofs.GivenLemmas.{given-all, gives-behind}
+use Rattle.bloaty_engine.proofs.NextLemmas.{GoesOn, PrintsTotal, Shows, gives-same, reads-next, shows-next}
+use Rattle.bloaty_engine.proofs.ReadLemmas.{OnOk-any}
 use Rattle.bloaty_engine.proofs.SidesLemmas.{beyond, size-report, sizes-for}
+use Rattle.bloaty_engine.proofs.StepLemmas.{IsPart, batch-part, files-part, follows, same-all}
 
-below : (m n : ℕ) → m < n → nat_lt m n ≡ true
-below m n lt = grind (arith, nat_tests)
-
-not-below : (m n : ℕ) → n ≤ m → nat_lt m n ≡ false
+pub not-below : (m n : ℕ) → n ≤ m → nat_lt m n ≡ false
 not-below m n le = grind (arith, nat_tests)
 
 -- The first file.
@@ -141,11 +143,8 @@ module _ (limits : Limits) (sources : List Chosen) (filter : Option (List ℕ �
 -- The outcome of an answer about the pair.
 pub ends-paired : (limits : Limits) (sources : List Chosen) (filter : Option (List ℕ → Bool)) (name file debug : List ℕ) (why : PairAnswer)
     → PairAnswers (Err why) (pair_viewed 0 limits.claims name file debug sources) → EndsPaired limits sources filter name file debug (Err (end_of_pair why))
-ends-paired limits sources filter name file debug (pair.Bad i bad) e = ap if_paired e
-ends-paired limits sources filter name file debug pair.NoMatch e = ap if_paired e
-ends-paired limits sources filter name file debug pair.TooManyClaims e = ap if_paired e
-ends-paired limits sources filter name file debug pair.MappedTooLarge e = ap if_paired e
 ends-paired limits sources filter name file debug pair.NoMemory e = tt
+ends-paired limits sources filter name file debug why e = ap if_paired e
 
 pub ok-view : (r : Result FileView PairAnswer) → IsOk r → (f : FileView) × (r ≡ Ok f)
 ok-view (Ok f) ok = (f, refl)
@@ -158,10 +157,7 @@ sound-short (Err bad) i e = cc
 
 end-pair-short : (why : PairAnswer) (i : ℕ) → end_of_pair why ≡ TooLong i → ⊥
 end-pair-short (pair.Bad k bad) i e = cc
-end-pair-short pair.NoMatch i e = cc
-end-pair-short pair.TooManyClaims i e = cc
-end-pair-short pair.MappedTooLarge i e = cc
-end-pair-short pair.NoMemory i e = cc
+end-pair-short why i e = cc
 
 pub paired-short : (decided : Result FileView PairAnswer) (i : ℕ) → if_paired decided ≡ Err (TooLong i) → ⊥
 paired-short (Ok f) i e = cc
@@ -223,7 +219,7 @@ pub first-held : (held : Option Pairs) (name : List ℕ) (names : List (List ℕ
 first-held None name names files are = tt
 first-held (Some pairs) name names files are = are 0 name refl
 
-pub second-held : (held : Option Pairs) (name debug : List ℕ) (names : List (List ℕ)) (files : ℕ → List ℕ) → AreHeld held 1 (name ∷ debug ∷ names) files → IsHeld held debug (files 2)
+second-held : (held : Option Pairs) (name debug : List ℕ) (names : List (List ℕ)) (files : ℕ → List ℕ) → AreHeld held 1 (name ∷ debug ∷ names) files → IsHeld held debug (files 2)
 second-held None name debug names files are = tt
 second-held (Some pairs) name debug names files are = are 1 debug refl
 
@@ -286,25 +282,72 @@ module _ (o : Options) (name debug : List ℕ) (is : IsPair o) (asked : o.debug 
         ∙ (ap (λ n. as_counted (counted_pair limits sources n own other)) first-is ∙ ap as_counted e))
 
     -- The run ends at the pair.
-    pub pair-ends : (end : Outcome) → EndsPair limits sources (filter_test filter) name own other (Err end) → EndsFinding limits sources (two own other) o (Err end)
+    pair-ends : (end : Outcome) → EndsPair limits sources (filter_test filter) name own other (Err end) → EndsFinding limits sources (two own other) o (Err end)
     unfolding two beyond
     pair-ends end e =
         let long : length (all_names o) ≡ 2 = ap length names-are in
         ends-so (IsOfPair limits own) (IsReadFile limits sources (two own other) o) (counted_pair limits sources name own other) (found limits sources (two own other) o) end
         (λ i same p. (p.0, p.1, rw is.not_made tt, omega (arith, p.2, long), rw asked p.3)) (λ so. found-pair (Err end) so) e
 
-    -- The run has the report of the pair.
-    pub pair-found : (t : Totals) (out : Vec ℕ Global) → EndsPair limits sources (filter_test filter) name own other (Ok t) → IsTotals t.depth t.rows t.lengths t.mapped
-        → out.items ≡ printed o (row_tree (row_options o) t) → EndsFinding limits sources (two own other) o (Ok out)
-    pair-found t out e totals text =
-        (Counted (one_file e.0), found-pair (Ok (one_file e.0)) e.1, sizes-for o.bases o (one_file e.0) out.items is.no_base (size-report sources o filter same depth t (e.0 ∷ []) e.2 totals out.items text))
-
-    -- Out of memory, which is allowed at any step.
-    pub pair-unmade : EndsFinding limits sources (two own other) o (Err NoMemory)
-    pair-unmade = tt
+    -- The run ends at the pair, or runs out of memory, or has the report of the pair.
+    pair-shown : (a : Result Totals Outcome) (r : Result (Vec ℕ Global) Outcome) → EndsPair limits sources (filter_test filter) name own other a → Shows (PrintsTotal o) a r → EndsFinding limits sources (two own other) o r
+    pair-shown (Err end) r e shows = rw shows (pair-ends end e)
+    pair-shown (Ok t) (Err end) e shows = rw shows tt
+    pair-shown (Ok t) (Ok out) e shows =
+        (Counted (one_file e.0), found-pair (Ok (one_file e.0)) e.1, sizes-for o.bases o (one_file e.0) out.items is.no_base (size-report sources o filter same depth t (e.0 ∷ []) e.2 shows.0 out.items shows.1))
 
 -- The files that are read for a pair.
-pub pair-part : (limits : Limits) (o : Options) (debug : List ℕ) (is : IsPair o) → o.debug ≡ Some debug → (all : List (List ℕ))
+pair-part : (limits : Limits) (o : Options) (debug : List ℕ) (is : IsPair o) → o.debug ≡ Some debug → (all : List (List ℕ))
     → IsPart (batch_reading limits (batch_of 0 0 (first_name o ∷ debug ∷ []))) (reading_for limits o all) 0 0 0
 pair-part limits o debug is asked all =
     files-part limits o (first_name o ∷ debug ∷ []) all is.not_made (λ k n at. pair-name o (first_name o) debug is asked (pair-named o is) k n at)
+
+-- The report of a pair, after the step that counted it.
+pub pair-reported : {F : Type 0} (f : FilesGhosts F) (limits : Limits) (p : Plans) (o : Options) (debug : List ℕ) → AsksPair o p debug → (a : Result Totals Outcome) (r : Result (Vec ℕ Global) Outcome) (s t : F) (old new : ℕ)
+    → CountsPair f limits p (first_name o) debug a s t old new → Shows (PrintsTotal o) a r → Reports f limits p o r s t old new
+pair-reported f limits p o debug asks a r s t old new counts shows =
+    let is = asks.ready.limits.debug _ asks.debug in
+    let name = first_name o in
+    let named = pair-named o is in
+    let batch = counts.batch in
+    let own = batch.bytes 1 in
+    let other = batch.bytes 2 in
+    let next = shows-next (PrintsTotal o) a r shows in
+    record {
+      report = record {
+        bytes = two o name debug is asks.debug named own other;
+        are = (
+          own-held o name debug is asks.debug named (f.held s) own other (first-held (f.held s) name (debug ∷ []) batch.bytes batch.are),
+          debug-held o name debug is asks.debug named (f.held s) own other (second-held (f.held s) name debug [] batch.bytes batch.are),
+        );
+        ends = pair-shown o name debug is asks.debug named limits p.sources p.filter asks.ready.planned.filter asks.ready.planned.depth asks.no_place own other a r batch.ends shows;
+        gives = rw (pair-pairs o name debug is asks.debug named own other) (gives-same a r _ _ _ next batch.gives);
+        reads = reads-next f (batch_reading limits (batch_of 0 0 (name ∷ debug ∷ []))) (reading_for limits o (files_to_read o)) [] a r s t (read-are o name debug is asks.debug named) (pair-part limits o debug is asks.debug (files_to_read o)) next (OnOk-any r _ refl) batch.reads;
+      };
+      cost = costs-pair limits p.sources o debug (f.gave s) (f.gave t) old new asks.no_place asks.debug counts.cost;
+    }
+
+-- The debug file is read after the file, which was opened, and then nothing more is read.
+module _ {F : Type 0} (f : FilesGhosts F) (limits : Limits) (name debug : List ℕ) (file : Vec ℕ Global) (limit : ℕ) (read : Result (Vec ℕ Global) Outcome) (s t u : F) (first : OpensFirst f limits name (Ok file) s t)
+    (second : ReadsFile f 2 debug limit read t u) (is : limit ≡ min (file_limit limits) (total_limit limits - length file.items)) where
+  pub pair-limit : limit ≡ min (file_limit limits) (total_limit limits - length (first.batch.bytes 1))
+  pair-limit = rw first.batch.ends.0 at is
+
+  pub pair-gives : Gives read (f.gave s) (f.gave u) ((name, first.batch.bytes 1) ∷ (debug, second.bytes) ∷ [])
+  pair-gives = gives-behind read _ _ _ ((name, first.batch.bytes 1) ∷ []) ((debug, second.bytes) ∷ []) (given-all file _ _ _ first.batch.gives) second.gives
+
+  pub pair-batch : (Q : (ℕ → List ℕ) → Result Totals Outcome → Type 0) (r : Result Totals Outcome) → GoesOn read r → Q (both (first.batch.bytes 1) second.bytes) r → ReadsBatch f limits (batch_of 0 0 (name ∷ debug ∷ [])) Q r s u
+  pair-batch Q r next ends =
+      let batch = batch_of 0 0 (name ∷ debug ∷ []) in
+      let one = file_reading 2 debug limit in
+      let size = length file.items in
+      let fits : size ≤ total_limit limits = omega (arith, first-fits limits (first.batch.bytes 1) first.batch.ends.1, ap length first.batch.ends.0) in
+      let part = batch-part limits batch 1 1 size limit size debug batch.names refl refl (omega arith) fits is in
+      record {
+        bytes = both (first.batch.bytes 1) second.bytes;
+        are = both-held (f.held s) name debug (first.batch.bytes 1) second.bytes (first-held (f.held s) name [] first.batch.bytes first.batch.are) (rw first.batch.reads.held at second.is);
+        ends = ends;
+        gives = gives-same read r _ _ _ next pair-gives;
+        reads = follows f (batch_reading limits (batch_of 0 0 (name ∷ []))) one (batch_reading limits batch) file r size s t u refl part first.batch.reads first.taken
+            (reads-next f one one [] read r t u refl (same-all one) next (OnOk-any r _ refl) second.reads);
+      }

@@ -7,6 +7,7 @@ use Rattle.std.proofs.lemmas.Option.{none-some}
 use Rattle.size_core.specs.declared.limits.Limits.{Limits}
 use Rattle.size_core.specs.declared.place.Place.{Place}
 use Rattle.place_explain.specs.declared.named.PlaceSource.{PlaceSource}
+use Rattle.outside.specs.declared.files.Files.{Ghosts as FilesGhosts}
 use Rattle.outside.specs.Held.{Pairs}
 use Rattle.report_text.specs.Places.{place_report_text}
 use Rattle.size_options.specs.Answers.{IsAlone, IsOneInput}
@@ -16,34 +17,32 @@ use Rattle.file_profile.specs.declared.answer.PlaceAnswer.TheVariants as explain
 use Rattle.file_profile.specs.Explanations.{Explains}
 use Rattle.file_profile.specs.Sources.{Chosen}
 use Rattle.run_outcome.specs.declared.outcome.Outcome.{Outcome}
-use Rattle.run_outcome.specs.declared.outcome.Outcome.TheVariants.{Done, Usage, ReadFailed, TooLong, Config, UnknownSource, PatternSyntax, PatternTooBig, Bad, TooManyClaims, MappedTooLarge, NoMatch, PlaceOutside, WriteFailed, NoMemory}
+use Rattle.run_outcome.specs.declared.outcome.Outcome.TheVariants.{ReadFailed, TooLong, NoMemory}
+use Rattle.bloaty_engine.specs.FileSteps.{ReadsFiles}
+use Rattle.bloaty_engine.specs.Given.{pairs_from}
 use Rattle.bloaty_engine.specs.Named.{AreHeld}
 use Rattle.run_outcome.specs.Names.{debug_names, file_names, names_of, other_names}
 use Rattle.bloaty_engine.specs.PlaceSteps.{EndsExplained, explained_within}
-use Rattle.bloaty_engine.specs.Reports.{EndsFinding, IsReadFile, IsUnmade}
-use Rattle.bloaty_engine.specs.Reading.{file_reading, reading_for}
+use Rattle.bloaty_engine.specs.Reports.{EndsFinding, IsReadFile, IsUnmade, MakesReport}
+use Rattle.bloaty_engine.specs.Reading.{file_reading, files_to_read, reading_for, unmade_names}
 use Rattle.bloaty_engine.specs.Steps.{Finds}
 use Rattle.bloaty_engine.proofs.EndLemmas.{ends-read}
-use Rattle.bloaty_engine.proofs.ReadLemmas.{none-name}
-use Rattle.bloaty_engine.proofs.StepLemmas.{IsPart, files-part, first-part}
+use Rattle.bloaty_engine.proofs.NextLemmas.{GoesOn, gives-next, reads-next}
+use Rattle.bloaty_engine.proofs.PairLemmas.{not-below}
+use Rattle.bloaty_engine.proofs.ReadLemmas.{OnOk-any, none-name}
+use Rattle.bloaty_engine.proofs.StepLemmas.{IsPart, files-part, first-part, same-run}
 use Rattle.bloaty_engine.specs.Verdict.{Explained, counted_files, counted_sides, as_explained, end_of_place, explained_file, file_limit, first_name, found, found_by, if_explained, total_limit}
-
-not-below : (m n : ℕ) → n ≤ m → nat_lt m n ≡ false
-not-below m n le = grind (arith, nat_tests)
 
 -- The outcome of an answer about a location.
 pub ends-explained : (decided : Result (List PlaceSource) PlaceAnswer) (why : PlaceAnswer) → Explains (Err why) decided → EndsExplained (if_explained decided) (Err (end_of_place why))
-ends-explained decided (explaining.Bad bad) e = ap if_explained e
-ends-explained decided explaining.PlaceOutside e = ap if_explained e
-ends-explained decided explaining.TooManyClaims e = ap if_explained e
-ends-explained decided explaining.MappedTooLarge e = ap if_explained e
 ends-explained decided explaining.NoMemory e = tt
+ends-explained decided why e = ap if_explained e
 
 -- A run over one file has no other names.
-pub no-other-names : (o : Options) → IsAlone o → other_names o ≡ []
+no-other-names : (o : Options) → IsAlone o → other_names o ≡ []
 no-other-names o alone = ap (λ d. debug_names d ++ o.bases) alone.no_debug ∙ alone.no_base
 
-pub no-others-held : (held : Option Pairs) (first : ℕ) (names : List (List ℕ)) (files : ℕ → List ℕ) → names ≡ [] → AreHeld held first names files
+no-others-held : (held : Option Pairs) (first : ℕ) (names : List (List ℕ)) (files : ℕ → List ℕ) → names ≡ [] → AreHeld held first names files
 no-others-held None first names files none = tt
 no-others-held (Some pairs) first names files none = λ k name at. absurd (none-some name (rw none at at))
 
@@ -90,26 +89,11 @@ module _ (limits : Limits) (sources : List Chosen) (files : ℕ → List ℕ) (o
     place-ends (ReadFailed i) e = absurd e
     place-ends (TooLong i) e = absurd e
     place-ends NoMemory e = tt
-    place-ends Done e = found-place (Err Done) (place-within few ∙ e)
-    place-ends (Usage kind) e = found-place (Err (Usage kind)) (place-within few ∙ e)
-    place-ends (Config kind offset) e = found-place (Err (Config kind offset)) (place-within few ∙ e)
-    place-ends (UnknownSource i) e = found-place (Err (UnknownSource i)) (place-within few ∙ e)
-    place-ends (PatternSyntax i) e = found-place (Err (PatternSyntax i)) (place-within few ∙ e)
-    place-ends (PatternTooBig i) e = found-place (Err (PatternTooBig i)) (place-within few ∙ e)
-    place-ends (Bad i fault offset) e = found-place (Err (Bad i fault offset)) (place-within few ∙ e)
-    place-ends (TooManyClaims i) e = found-place (Err (TooManyClaims i)) (place-within few ∙ e)
-    place-ends MappedTooLarge e = found-place (Err MappedTooLarge) (place-within few ∙ e)
-    place-ends NoMatch e = found-place (Err NoMatch) (place-within few ∙ e)
-    place-ends PlaceOutside e = found-place (Err PlaceOutside) (place-within few ∙ e)
-    place-ends WriteFailed e = found-place (Err WriteFailed) (place-within few ∙ e)
+    place-ends end e = found-place (Err end) (place-within few ∙ e)
 
     -- The location is explained.
     pub place-found : (said : List PlaceSource) (out : Vec ℕ Global) → explained_within limits sources o place (files 1) ≡ Ok said → out.items ≡ place_report_text place said o.wide → EndsFinding limits sources files o (Ok out)
     place-found said out e is = (Explained place said, found-place (Ok said) (place-within few ∙ e), is)
-
-    -- An explanation never ends with a failed read.
-    pub explained-no-read : (end : Outcome) (i : ℕ) → EndsExplained (explained_within limits sources o place (files 1)) (Err end) → end ≡ ReadFailed i → ⊥
-    explained-no-read end i e is = absurd (rw is at e)
 
 -- The only file, if it is read.
 pub first-file : (o : Options) → o.synth ≡ None → length o.files ≡ 1 → o.files ≡ first_name o ∷ []
@@ -131,4 +115,18 @@ first-of-run limits o all limit is none files =
       upto = λ i n at. omega (arith, first.upto i n at, run.upto i n (first.name_of i n at));
       least = λ i n at. omega (arith, first.least i n at, run.least i n (first.name_of i n at));
       most = omega (arith, first.most, run.most);
+    }
+
+-- A report about the only file, after the step that read or made it, and then nothing more is read.
+pub alone-reported : {F X : Type 0} (f : FilesGhosts F) (limits : Limits) (sources : List Chosen) (o : Options) → IsAlone o → (P : (ℕ → List ℕ) → Result X Outcome → Type 0) (a : Result X Outcome) (r : Result (Vec ℕ Global) Outcome) (s t : F)
+    → (file : ReadsFiles f limits o P a s t) → GoesOn a r → EndsFinding limits sources file.bytes o r → MakesReport f limits sources o r s t
+alone-reported f limits sources o alone P a r s t file next ends =
+    let none = no-other-names o alone in
+    let first = length (file_names o) + 1 in
+    record {
+      bytes = file.bytes;
+      are = (file.are, no-others-held (f.held s) first (other_names o) file.bytes none);
+      ends = ends;
+      gives = gives-next a r _ _ _ _ next (OnOk-any r _ (ap (λ ns. pairs_from first ns file.bytes) none)) file.gives;
+      reads = reads-next f (reading_for limits o (unmade_names o.synth o.files)) (reading_for limits o (files_to_read o)) (other_names o) a r s t refl (same-run limits o (unmade_names o.synth o.files) (files_to_read o)) next (OnOk-any r _ none) file.reads;
     }

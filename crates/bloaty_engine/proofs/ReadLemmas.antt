@@ -1,5 +1,5 @@
 -- Names that are read one after the other.
-use Rattle.std.proofs.Common.{◌≡◌, ℕ, zero, suc, ◌+◌, ◌<◌, ◌≤◌, List, [], ◌∷◌, ◌++◌, length, take, false, true, None, Some, Result, Ok, Err, refl, sym, ap, ◌∙◌, append_assoc, length-append, arith}
+use Rattle.std.proofs.Common.{◌≡◌, ℕ, zero, suc, ◌+◌, ◌≤◌, List, [], ◌∷◌, ◌++◌, length, take, false, true, None, Some, Result, Ok, Err, refl, sym, ap, ◌∙◌, append_assoc, length-append, arith}
 use Rattle.std.specs.Prelude.{IfOk, OnOk, slice_get}
 use Rattle.std.proofs.Math.Seq.{take-append-add}
 use Rattle.std.proofs.lemmas.List.{append-nil, take-append-le}
@@ -22,16 +22,9 @@ take-next (n ∷ names) (suc k) name at =
     let p : suc k + 1 ≡ suc (k + 1) = omega arith in
     rw p (ap (λ ms. n ∷ ms) (take-next names k name at))
 
-module _ (before names : List (List ℕ)) where
-  -- No name was read yet.
-  pub read-none : before ≡ before ++ take 0 names
-  read-none = sym (ap (λ ns. before ++ ns) (take-none names) ∙ append-nil before)
-
-  -- One more name.
-  pub read-next : (after : List (List ℕ)) (k : ℕ) (name : List ℕ) → after ≡ before ++ take k names → slice_get names k ≡ Some name
-      → after ++ name ∷ [] ≡ before ++ take (k + 1) names
-  read-next after k name are at =
-      ap (λ ns. ns ++ name ∷ []) are ∙ (append_assoc before (take k names) (name ∷ []) ∙ ap (λ ns. before ++ ns) (sym (take-next names k name at)))
+-- No name was read yet.
+read-none : (before names : List (List ℕ)) → before ≡ before ++ take 0 names
+read-none before names = sym (ap (λ ns. before ++ ns) (take-none names) ∙ append-nil before)
 
 -- A name keeps its index if names follow, and is further back by the number of names before it.
 pub get-front : (names rest : List (List ℕ)) (k : ℕ) (name : List ℕ) → slice_get names k ≡ Some name → slice_get (names ++ rest) k ≡ Some name

@@ -31,6 +31,7 @@ use Rattle.run_outcome.specs.Names.{file_names, other_names}
 use Rattle.file_profile.specs.Laws.{IsOfFile}
 use Rattle.file_profile.specs.Patterns.{ArePatterns}
 use Rattle.file_profile.proofs.LawLemmas.{of-file}
+use Rattle.file_profile.proofs.MapLemmas.{err-same}
 use Rattle.std.proofs.lemmas.List.Elements.{All-cons}
 use Rattle.outside.specs.Grown.{Grew, GrewByPart}
 use Rattle.file_profile.specs.Plans.{IsPlan, Plans}
@@ -107,9 +108,6 @@ IsConfigEnd (TooLong zero) = ⊤
 IsConfigEnd (Config kind offset) = ⊤
 IsConfigEnd end = ⊥
 
-err-same : {X : Type 0} (x y : Outcome) → ◌≡◌ {A = Result X Outcome} (Err x) (Err y) → x ≡ y
-err-same x y e = cc
-
 config-end : (end other : Outcome) → IsConfigEnd other → other ≡ end → IsConfigEnd end
 config-end end other is same = rw (← same) is
 
@@ -140,9 +138,7 @@ IsFileEnd end = ⊥
 end-is : (i : ℕ) (why : ProfileAnswer) → IsFileEnd (end_at i why)
 unfolding IsFileEnd
 end-is i (profile.Bad bad) = tt
-end-is i profile.TooManyClaims = tt
-end-is i profile.MappedTooLarge = tt
-end-is i profile.NoMemory = tt
+end-is i why = tt
 
 file-end : (end other : Outcome) → IsFileEnd other → other ≡ end → IsFileEnd end
 file-end end other is same = rw (← same) is
@@ -192,10 +188,7 @@ sides-error limits sources files names bases end e = by-files (counted_from limi
 pair-is : (why : PairAnswer) → IsFileEnd (end_of_pair why)
 unfolding IsFileEnd
 pair-is (pair.Bad i bad) = tt
-pair-is pair.NoMatch = tt
-pair-is pair.TooManyClaims = tt
-pair-is pair.MappedTooLarge = tt
-pair-is pair.NoMemory = tt
+pair-is why = tt
 
 paired-error : (decided : Result FileView PairAnswer) (end : Outcome) → if_paired decided ≡ Err end → IsFileEnd end
 paired-error (Ok f) end e = cc
@@ -204,10 +197,7 @@ paired-error (Err why) end e = file-end end (end_of_pair why) (pair-is why) (err
 place-is : (why : PlaceAnswer) → IsFileEnd (end_of_place why)
 unfolding IsFileEnd
 place-is (explaining.Bad bad) = tt
-place-is explaining.PlaceOutside = tt
-place-is explaining.TooManyClaims = tt
-place-is explaining.MappedTooLarge = tt
-place-is explaining.NoMemory = tt
+place-is why = tt
 
 explained-error : (decided : Result (List PlaceSource) PlaceAnswer) (end : Outcome) → if_explained decided ≡ Err end → IsFileEnd end
 explained-error (Ok said) end e = cc
@@ -300,19 +290,12 @@ config-never-past limits name text (ReadFailed zero) e past = cc
 config-never-past limits name text (ReadFailed (suc k)) e past = omega (arith, e.0)
 config-never-past limits name text NoMemory e past = cc
 config-never-past limits name text (TooLong zero) e past = cc
-config-never-past limits name text (TooLong (suc k)) e past = customs-error limits name text (TooLong (suc k)) e
 config-never-past limits name text (Config kind offset) e past = cc
-config-never-past limits name text Done e past = customs-error limits name text Done e
 config-never-past limits name text (Usage kind) e past = cc
 config-never-past limits name text (UnknownSource i) e past = cc
 config-never-past limits name text (PatternSyntax i) e past = cc
 config-never-past limits name text (PatternTooBig i) e past = cc
-config-never-past limits name text (Bad i fault offset) e past = customs-error limits name text (Bad i fault offset) e
-config-never-past limits name text (TooManyClaims i) e past = customs-error limits name text (TooManyClaims i) e
-config-never-past limits name text MappedTooLarge e past = customs-error limits name text MappedTooLarge e
-config-never-past limits name text NoMatch e past = customs-error limits name text NoMatch e
-config-never-past limits name text PlaceOutside e past = customs-error limits name text PlaceOutside e
-config-never-past limits name text WriteFailed e past = customs-error limits name text WriteFailed e
+config-never-past limits name text end e past = customs-error limits name text end e
 
 -- With a debug file the sizes are those of the file alone.
 
@@ -404,18 +387,7 @@ module _ (held : Option Pairs) (limits : Limits) (o : Options) (last text : List
   config-ended NoMemory e = (tt, (λ p. cc), refl)
   config-ended (TooLong zero) e = (from-verdict (TooLong zero) e, (λ p. cc), refl)
   config-ended (Config kind offset) e = (from-verdict (Config kind offset) e, (λ p. cc), refl)
-  config-ended (TooLong (suc k)) e = absurd (customs-error limits o.config text (TooLong (suc k)) e)
-  config-ended Done e = absurd (customs-error limits o.config text Done e)
-  config-ended (Usage kind) e = absurd (customs-error limits o.config text (Usage kind) e)
-  config-ended (UnknownSource i) e = absurd (customs-error limits o.config text (UnknownSource i) e)
-  config-ended (PatternSyntax i) e = absurd (customs-error limits o.config text (PatternSyntax i) e)
-  config-ended (PatternTooBig i) e = absurd (customs-error limits o.config text (PatternTooBig i) e)
-  config-ended (Bad i fault offset) e = absurd (customs-error limits o.config text (Bad i fault offset) e)
-  config-ended (TooManyClaims i) e = absurd (customs-error limits o.config text (TooManyClaims i) e)
-  config-ended MappedTooLarge e = absurd (customs-error limits o.config text MappedTooLarge e)
-  config-ended NoMatch e = absurd (customs-error limits o.config text NoMatch e)
-  config-ended PlaceOutside e = absurd (customs-error limits o.config text PlaceOutside e)
-  config-ended WriteFailed e = absurd (customs-error limits o.config text WriteFailed e)
+  config-ended end e = absurd (customs-error limits o.config text end e)
 
   -- The run ends at its configuration.
   pub ends-config : (before after : Pairs) (end : Outcome) → EndsConfig limits o.config text (Err end) → Gives {X = Vec CustomSource Global} (Err end) before after (config_pairs o.config text)
@@ -439,17 +411,7 @@ module _ (held : Option Pairs) (limits : Limits) (o : Options) (last text : List
     plan-ended (PatternSyntax i) e = (is-asked (chosen_sources customs o.sources) _ refl e.0 (λ known. e.1), (λ p. cc), refl)
     plan-ended (PatternTooBig i) e = (is-asked (chosen_sources customs o.sources) _ refl e.0 (λ known. e.1), (λ p. cc), refl)
     plan-ended NoMemory e = (tt, (λ p. cc), refl)
-    plan-ended Done e = absurd e
-    plan-ended (Usage kind) e = absurd e
-    plan-ended (ReadFailed i) e = absurd e
-    plan-ended (TooLong i) e = absurd e
-    plan-ended (Config kind offset) e = absurd e
-    plan-ended (Bad i fault offset) e = absurd e
-    plan-ended (TooManyClaims i) e = absurd e
-    plan-ended MappedTooLarge e = absurd e
-    plan-ended NoMatch e = absurd e
-    plan-ended PlaceOutside e = absurd e
-    plan-ended WriteFailed e = absurd e
+    plan-ended end e = absurd e
 
     -- The run ends at its plan.
     pub ends-plan : {X : Type 0} (x : X) (before after : Pairs) (end : Outcome) → EndsPlan o.sources o.filter customs last end → Gives (Ok x) before after (config_pairs o.config text)
@@ -514,13 +476,7 @@ module _ (held : Option Pairs) (limits : Limits) (o : Options) (last text : List
       finding-ended (Err MappedTooLarge) e = (verdict-end MappedTooLarge e, (λ q. patterns-read), refl)
       finding-ended (Err NoMatch) e = (verdict-end NoMatch e, (λ q. patterns-read), refl)
       finding-ended (Err PlaceOutside) e = (verdict-end PlaceOutside e, (λ q. patterns-read), refl)
-      finding-ended (Err Done) e = absurd (not-end Done e)
-      finding-ended (Err (Usage kind)) e = absurd (not-end (Usage kind) e)
-      finding-ended (Err (Config kind offset)) e = absurd (not-end (Config kind offset) e)
-      finding-ended (Err (UnknownSource i)) e = absurd (not-end (UnknownSource i) e)
-      finding-ended (Err (PatternSyntax i)) e = absurd (not-end (PatternSyntax i) e)
-      finding-ended (Err (PatternTooBig i)) e = absurd (not-end (PatternTooBig i) e)
-      finding-ended (Err WriteFailed) e = absurd (not-end WriteFailed e)
+      finding-ended (Err end) e = absurd (not-end end e)
 
       pub ends-finding : {X : Type 0} (x : X) (before middle after : Pairs) (r : Result (Vec ℕ Global) Outcome) → EndsFinding limits p.sources files o r → Gives (Ok x) before middle (config_pairs o.config text)
           → Gives r middle after (input_pairs o (other_names o) files) → RunsTo (record { held = held; before = before; after = after }) limits o last r
@@ -554,18 +510,7 @@ usage-verdict limits given contents kind e = rw e refl
 
 usage-answer : (limits : Limits) (words : List (List ℕ)) (contents : Contents) (last : List ℕ) (kind : UsageKind) → IsUsageOf words kind → IsAnswer limits (options_of words) contents last (Usage kind)
 usage-answer limits words contents last usage.Words is = tt
-usage-answer limits words contents last usage.BadNumber is = usage-verdict limits (options_of words) contents usage.BadNumber (is.first (λ e. cc))
-usage-answer limits words contents last usage.BadSort is = usage-verdict limits (options_of words) contents usage.BadSort (is.first (λ e. cc))
-usage-answer limits words contents last usage.BadDomain is = usage-verdict limits (options_of words) contents usage.BadDomain (is.first (λ e. cc))
-usage-answer limits words contents last usage.TwoFormats is = usage-verdict limits (options_of words) contents usage.TwoFormats (is.first (λ e. cc))
-usage-answer limits words contents last usage.BadSourceList is = usage-verdict limits (options_of words) contents usage.BadSourceList (is.first (λ e. cc))
-usage-answer limits words contents last usage.NoFile is = usage-verdict limits (options_of words) contents usage.NoFile (is.first (λ e. cc))
-usage-answer limits words contents last usage.SynthWithFile is = usage-verdict limits (options_of words) contents usage.SynthWithFile (is.first (λ e. cc))
-usage-answer limits words contents last usage.NoBase is = usage-verdict limits (options_of words) contents usage.NoBase (is.first (λ e. cc))
-usage-answer limits words contents last usage.DebugFile is = usage-verdict limits (options_of words) contents usage.DebugFile (is.first (λ e. cc))
-usage-answer limits words contents last usage.BadPlace is = usage-verdict limits (options_of words) contents usage.BadPlace (is.first (λ e. cc))
-usage-answer limits words contents last usage.TwoPlaces is = usage-verdict limits (options_of words) contents usage.TwoPlaces (is.first (λ e. cc))
-usage-answer limits words contents last usage.PlaceFile is = usage-verdict limits (options_of words) contents usage.PlaceFile (is.first (λ e. cc))
+usage-answer limits words contents last kind is = usage-verdict limits (options_of words) contents kind (is.first (λ e. cc))
 
 -- A run whose verdict is a report has an outcome of `IsFinished`.
 no-error : {X : Type 0} (r : Result X Outcome) (end : Outcome) → IsOk r → r ≡ Err end → ⊥
@@ -581,44 +526,14 @@ module _ (limits : Limits) (given : Result Options UsageKind) (contents : Conten
   finished (PatternTooBig i) is ok = tt
   finished WriteFailed is ok = tt
   finished (Usage usage.Words) is ok = tt
-  finished (Usage usage.BadNumber) is ok = absurd (no-error (verdict limits given contents) (Usage usage.BadNumber) ok is)
-  finished (Usage usage.BadSort) is ok = absurd (no-error (verdict limits given contents) (Usage usage.BadSort) ok is)
-  finished (Usage usage.BadDomain) is ok = absurd (no-error (verdict limits given contents) (Usage usage.BadDomain) ok is)
-  finished (Usage usage.TwoFormats) is ok = absurd (no-error (verdict limits given contents) (Usage usage.TwoFormats) ok is)
-  finished (Usage usage.BadSourceList) is ok = absurd (no-error (verdict limits given contents) (Usage usage.BadSourceList) ok is)
-  finished (Usage usage.NoFile) is ok = absurd (no-error (verdict limits given contents) (Usage usage.NoFile) ok is)
-  finished (Usage usage.SynthWithFile) is ok = absurd (no-error (verdict limits given contents) (Usage usage.SynthWithFile) ok is)
-  finished (Usage usage.NoBase) is ok = absurd (no-error (verdict limits given contents) (Usage usage.NoBase) ok is)
-  finished (Usage usage.DebugFile) is ok = absurd (no-error (verdict limits given contents) (Usage usage.DebugFile) ok is)
-  finished (Usage usage.BadPlace) is ok = absurd (no-error (verdict limits given contents) (Usage usage.BadPlace) ok is)
-  finished (Usage usage.TwoPlaces) is ok = absurd (no-error (verdict limits given contents) (Usage usage.TwoPlaces) ok is)
-  finished (Usage usage.PlaceFile) is ok = absurd (no-error (verdict limits given contents) (Usage usage.PlaceFile) ok is)
-  finished (TooLong i) is ok = absurd (no-error (verdict limits given contents) (TooLong i) ok is)
-  finished (Config kind offset) is ok = absurd (no-error (verdict limits given contents) (Config kind offset) ok is)
-  finished (UnknownSource i) is ok = absurd (no-error (verdict limits given contents) (UnknownSource i) ok is)
-  finished (Bad i fault offset) is ok = absurd (no-error (verdict limits given contents) (Bad i fault offset) ok is)
-  finished (TooManyClaims i) is ok = absurd (no-error (verdict limits given contents) (TooManyClaims i) ok is)
-  finished MappedTooLarge is ok = absurd (no-error (verdict limits given contents) MappedTooLarge ok is)
-  finished NoMatch is ok = absurd (no-error (verdict limits given contents) NoMatch ok is)
-  finished PlaceOutside is ok = absurd (no-error (verdict limits given contents) PlaceOutside ok is)
+  finished outcome is ok = absurd (no-error (verdict limits given contents) outcome ok is)
 
   -- A run that ends before its report writes nothing.
   unwritten : (out : Option (List ℕ)) (end : Outcome) → is_end end ≡ true → Writes limits given contents out out end
   unwritten out Done is = cc
   unwritten out (Usage kind) is = cc
   unwritten out WriteFailed is = cc
-  unwritten out (ReadFailed i) is = refl
-  unwritten out (TooLong i) is = refl
-  unwritten out (Config kind offset) is = refl
-  unwritten out (UnknownSource i) is = refl
-  unwritten out (PatternSyntax i) is = refl
-  unwritten out (PatternTooBig i) is = refl
-  unwritten out (Bad i fault offset) is = refl
-  unwritten out (TooManyClaims i) is = refl
-  unwritten out MappedTooLarge is = refl
-  unwritten out NoMatch is = refl
-  unwritten out PlaceOutside is = refl
-  unwritten out NoMemory is = refl
+  unwritten out end is = refl
 
 module _ (seen : SeenFiles) (limits : Limits) (last : List ℕ) (o : Options) (contents : Contents) (are : AreContents seen.held o contents) where
   own-bytes : (p : Options) → ◌≡◌ {A = Result Options UsageKind} (Ok o) (Ok p) → AreContents seen.held p contents

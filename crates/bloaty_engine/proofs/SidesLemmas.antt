@@ -1,12 +1,13 @@
 -- Files and base files, counted one after the other.
-use Rattle.std.proofs.Common.{◌≡◌, ℕ, ◌+◌, ◌-◌, ◌<◌, ◌≤◌, true, false, cond, nat_le, List, [], ◌∷◌, length, take, Option, None, Some, Result, Ok, Err, refl, sym, ap, ◌∙◌, arith}
-use Rattle.std.specs.Prelude.{IsOk, if◌then◌else◌, Vec}
+use Rattle.std.proofs.Common.{◌≡◌, ℕ, ◌+◌, ◌-◌, ◌<◌, ◌≤◌, true, false, cond, nat_le, List, [], ◌∷◌, ◌++◌, length, take, Option, None, Some, Result, Ok, Err, refl, sym, ap, ◌∙◌, arith}
+use Rattle.std.specs.Prelude.{IsOk, IsErrOf, OnOk, if◌then◌else◌, Vec}
 use Rattle.std.specs.declared.alloc.Global.{Global}
 use Rattle.std.proofs.lemmas.Bool.Decides.{nat_tests}
 use Rattle.std.proofs.lemmas.List.{length-append, length-take-le, take_all}
 use Rattle.std.proofs.lemmas.Option.{slice_get_within}
 use Rattle.size_core.specs.declared.limits.Limits.{Limits}
 use Rattle.size_model.specs.declared.view.FileView.{FileView}
+use Rattle.outside.specs.declared.files.Files.{Ghosts as FilesGhosts}
 use Rattle.outside.specs.Held.{Pairs}
 use Rattle.rollup.specs.Totals.{IsTotals, Totals}
 use Rattle.report_rows.specs.declared.row.RowOptions.{RowOptions}
@@ -15,13 +16,15 @@ use Rattle.size_options.specs.declared.run_options.Options.{Options}
 use Rattle.run_outcome.specs.declared.outcome.Outcome.{Outcome}
 use Rattle.run_outcome.specs.declared.outcome.Outcome.TheVariants.{ReadFailed}
 use Rattle.file_profile.specs.Counts.{filter_test}
+use Rattle.file_profile.specs.Plans.{Plans}
+use Rattle.bloaty_engine.specs.FileSteps.{ReadsFiles}
 use Rattle.bloaty_engine.specs.GrowthReport.{AreGrowths, EndsGrowth, IsGrowthReport, PrintsGrowth}
 use Rattle.bloaty_engine.specs.Given.{pairs_from}
 use Rattle.bloaty_engine.specs.Named.{AreFiles, AreHeld}
 use Rattle.run_outcome.specs.Names.{file_names, names_of}
-use Rattle.bloaty_engine.specs.Reading.{unmade_names}
+use Rattle.bloaty_engine.specs.Reading.{reading_for, unmade_names}
 use Rattle.bloaty_engine.specs.Report.{AreSizes, IsSizeReport, depth_of, printed, report_tree, row_options}
-use Rattle.bloaty_engine.specs.Reports.{EndsCounting, IsCountedFile, IsReportFor, IsUnmade}
+use Rattle.bloaty_engine.specs.Reports.{EndsCounting, IsCountedFile, IsPlanned, IsReportFor, IsUnmade, ReadsInputs}
 use Rattle.file_profile.specs.Sources.{Chosen}
 use Rattle.bloaty_engine.specs.Steps.{EndsFiles, HasCounted, IsFileOf, batch_of, counted_batch}
 use Rattle.bloaty_engine.specs.Verdict.{◌>>=◌, Sides, counted_from, counted_sides, lengths_of}
@@ -30,10 +33,16 @@ use Rattle.size_growth.proofs.TreeLemmas.{grows, is-tree as growth-tree}
 use Rattle.size_growth.specs.Rows.{growth_tree}
 use Rattle.size_model.proofs.Paths.{counts_for-unique}
 use Rattle.bloaty_engine.proofs.EndLemmas.{ends-so}
-use Rattle.bloaty_engine.proofs.FileLemmas.{same-counted}
+use Rattle.bloaty_engine.proofs.FileLemmas.{same-counted, some-held}
 use Rattle.bloaty_engine.proofs.GivenLemmas.{pairs-same}
+use Rattle.bloaty_engine.proofs.NextLemmas.{PrintsTotal, Shows, gives-next, reads-next, shows-next, shows-ok}
+use Rattle.bloaty_engine.proofs.ReadLemmas.{OnOk-then, take-none}
 use Rattle.bloaty_engine.proofs.ReportLemmas.{growth-order, rows-show, size-order, totals-whole}
-use Rattle.bloaty_engine.proofs.ReadLemmas.{take-none}
+use Rattle.bloaty_engine.proofs.StepLemmas.{same-run}
+
+-- Without base files the text of a total is its report.
+abbrev pub PrintsSizes : Options → Totals → Vec ℕ Global → Type 0
+PrintsSizes o t text = (o.bases ≡ []) × PrintsTotal o t text
 
 -- The bytes of files up to a number, and those of others after it.
 unfoldable pub beyond : ℕ → (ℕ → List ℕ) → (ℕ → List ℕ) → ℕ → List ℕ
@@ -175,20 +184,22 @@ module _ (limits : Limits) (sources : List Chosen) (o : Options) (filter : Optio
       (k, number, unmade k (ap ReadFailed number), omega (arith, e.2, some), rw (take-front (file_names o) o.bases k (omega (arith, e.2))) (ok-is _ _ (sides-none (take k (file_names o)) fs.0 le fs.1)))
 
   -- The run ends at the files.
-  pub front-ends : (end : Outcome) → ((k : ℕ) → end ≡ ReadFailed (k + 1) → IsUnmade o.synth k) → EndsFiles limits sources (filter_test filter) (batch_of 0 0 (file_names o)) a (Err end) → EndsCounting limits sources (beyond (length (file_names o)) a b) o (Err end)
+  front-ends : (end : Outcome) → ((k : ℕ) → end ≡ ReadFailed (k + 1) → IsUnmade o.synth k) → EndsFiles limits sources (filter_test filter) (batch_of 0 0 (file_names o)) a (Err end) → EndsCounting limits sources (beyond (length (file_names o)) a b) o (Err end)
   unfolding count all
   front-ends end unmade e =
       ends-so (IsFileOf limits sources (batch_of 0 0 (file_names o)) a) (IsCountedFile limits sources (beyond (length (file_names o)) a b) o) (counted_batch limits sources a (batch_of 0 0 (file_names o)))
       (counted_sides limits sources (beyond (length (file_names o)) a b) (file_names o) o.bases) end (λ i same p. front-at i (λ k is. unmade k (same ∙ is)) p) (λ so. sides-end end so) e
 
-  -- The report of sizes of the files that were counted.
-  pub sizes-end : (t : Totals) (out : Vec ℕ Global) → o.bases ≡ [] → EndsFiles limits sources (filter_test filter) (batch_of 0 0 (file_names o)) a (Ok t) → IsTotals t.depth t.rows t.lengths t.mapped
-      → out.items ≡ printed o (row_tree (row_options o) t) → EndsCounting limits sources (beyond (length (file_names o)) a b) o (Ok out)
+  -- The run ends at the files, or runs out of memory, or has their report of sizes.
+  pub sizes-shown : (counted : Result Totals Outcome) (r : Result (Vec ℕ Global) Outcome) → ((k : ℕ) → IsErrOf counted (ReadFailed (k + 1)) → IsUnmade o.synth k) → EndsFiles limits sources (filter_test filter) (batch_of 0 0 (file_names o)) a counted
+      → Shows (PrintsSizes o) counted r → EndsCounting limits sources (beyond (length (file_names o)) a b) o r
   unfolding count all
-  sizes-end t out none e totals is =
-      let report : IsSizeReport o e.0 out.items = size-report sources o filter same depth t e.0 e.2 totals out.items is in
+  sizes-shown (Err end) r unmade e shows = rw shows (front-ends end (λ k is. unmade k (ap Err is)) e)
+  sizes-shown (Ok t) (Err end) unmade e shows = rw shows tt
+  sizes-shown (Ok t) (Ok out) unmade e shows =
+      let report : IsSizeReport o e.0 out.items = size-report sources o filter same depth t e.0 e.2 shows.1.0 out.items shows.1.1 in
       let s : Sides = record { files = e.0; bases = [] } in
-      (s, ap (counted_sides limits sources all (file_names o)) none ∙ sides-none (file_names o) e.0 (omega arith) e.1, sizes-for o.bases o s out.items none report)
+      (s, ap (counted_sides limits sources all (file_names o)) shows.0 ∙ sides-none (file_names o) e.0 (omega arith) e.1, sizes-for o.bases o s out.items shows.0 report)
 
   -- The run ends at the base files, or it has a report of growth.
   module _ (t : Totals) (some : 0 < length o.bases) (e : EndsFiles limits sources (filter_test filter) (batch_of 0 0 (file_names o)) a (Ok t)) where
@@ -240,3 +251,21 @@ module _ (limits : Limits) (sources : List Chosen) (o : Options) (filter : Optio
     growth-ends (Err end) g =
         ends-so (IsFileOf limits sources (batch_of (length (file_names o)) t.lengths o.bases) b) (IsCountedFile limits sources (beyond (length (file_names o)) a b) o) (counted_batch limits sources b (batch_of (length (file_names o)) t.lengths o.bases))
         (counted_sides limits sources (beyond (length (file_names o)) a b) (file_names o) o.bases) end (λ i same p. behind-at i p) (λ so. behind-end end so) g
+
+-- The report of sizes, after the step that counted the files.
+pub sizes-reported : {F : Type 0} (f : FilesGhosts F) (limits : Limits) (p : Plans) (o : Options) → IsPlanned o p → (counted : Result Totals Outcome) (r : Result (Vec ℕ Global) Outcome) (s t : F)
+    → ReadsFiles f limits o (EndsFiles limits p.sources (filter_test p.filter) (batch_of 0 0 (file_names o))) counted s t → Shows (PrintsSizes o) counted r
+    → ReadsInputs f limits o o.bases (λ bytes. EndsCounting limits p.sources bytes o) r s t
+sizes-reported f limits p o planned counted r s t files shows =
+    let count = length (file_names o) in
+    let behind = some-held (f.held s) (count + 1) o.bases in
+    let next = shows-next (PrintsSizes o) counted r shows in
+    let none : OnOk r (o.bases ≡ []) = shows-ok (PrintsSizes o) counted r (o.bases ≡ []) (λ t text prints. prints.0) shows in
+    let unread = OnOk-then r _ _ (λ is. ap (λ ns. pairs_from (count + 1) ns (beyond count files.bytes behind.0)) is) none in
+    record {
+      bytes = beyond count files.bytes behind.0;
+      are = (front-files (f.held s) o.synth o.files files.bytes behind.0 files.are, behind-held (f.held s) count o.bases files.bytes behind.0 behind.1);
+      ends = sizes-shown limits p.sources o p.filter planned.filter planned.depth files.bytes behind.0 counted r files.unmade files.ends shows;
+      gives = rw (front-pairs o.synth o.files files.bytes behind.0) (gives-next counted r _ _ _ _ next unread files.gives);
+      reads = reads-next f (reading_for limits o (unmade_names o.synth o.files)) (reading_for limits o (unmade_names o.synth o.files ++ o.bases)) o.bases counted r s t refl (same-run limits o (unmade_names o.synth o.files) (unmade_names o.synth o.files ++ o.bases)) next none files.reads;
+    }

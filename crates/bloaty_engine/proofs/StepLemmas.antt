@@ -1,15 +1,16 @@
 -- Steps of a run one after the other. The run has read what its steps have read.
 use Rattle.std.proofs.Common.{◌≡◌, ℕ, zero, suc, ◌+◌, ◌-◌, ◌<◌, ◌≤◌, Bool, true, false, cond, nat_lt, List, [], ◌∷◌, ◌++◌, length, take, drop, Option, None, Some, Result, Ok, Err, ◌⊎◌, inl, inr, codes, refl, sym, ap, ◌∙◌, arith}
-use Rattle.std.specs.Prelude.{⊤, IfSome, OnOk, slice_get, min}
+use Rattle.std.specs.Prelude.{⊤, IfSome, OnOk, Vec, slice_get, min}
+use Rattle.std.specs.declared.alloc.Global.{Global}
 use Rattle.std.proofs.lemmas.Bool.Decides.{nat_tests}
 use Rattle.std.proofs.lemmas.List.{append-nil, take-append-drop, take_all}
-use Rattle.std.proofs.lemmas.Option.{none-some, same_Some}
+use Rattle.std.proofs.lemmas.Option.{none-some, same_Some, slice_get_within}
 use Rattle.outside.specs.declared.files.Files.{Ghosts as FilesGhosts}
 use Rattle.outside.specs.Causes.{Rose}
 use Rattle.outside.specs.Held.{IsTaken, IsTakenAtLeast}
 use Rattle.file_profile.proofs.MapLemmas.{err-same}
 use Rattle.run_outcome.specs.declared.outcome.Outcome.{Outcome}
-use Rattle.run_outcome.specs.declared.outcome.Outcome.TheVariants.{Done, Usage, ReadFailed, TooLong, Config, UnknownSource, PatternSyntax, PatternTooBig, Bad, TooManyClaims, MappedTooLarge, NoMatch, PlaceOutside, WriteFailed, NoMemory}
+use Rattle.run_outcome.specs.declared.outcome.Outcome.TheVariants.{Done, Usage, ReadFailed, TooLong, WriteFailed, NoMemory}
 use Rattle.size_core.specs.declared.limits.Limits.{Limits}
 use Rattle.size_options.specs.declared.run_options.Options.{Options}
 use Rattle.size_options.specs.declared.errors.UsageKind.{UsageKind}
@@ -19,7 +20,7 @@ use Rattle.bloaty_engine.specs.Reading.{Reading, config_most, config_names, conf
 use Rattle.bloaty_engine.specs.Steps.{Batch, batch_of, batch_reading}
 use Rattle.bloaty_engine.specs.Verdict.{file_limit, total_limit}
 use Rattle.bloaty_engine.specs.Stages.{ends_without, is_failed_read}
-use Rattle.bloaty_engine.proofs.ReadLemmas.{OnOk-any, OnOk-then, base-name, get-front, reads-as-many, reads-behind, reads-more, reads-none, reads-whole}
+use Rattle.bloaty_engine.proofs.ReadLemmas.{OnOk-any, OnOk-then, base-name, get-front, reads-as-many, reads-behind, reads-more, reads-none, reads-whole, take-length, take-next}
 use Rattle.bloaty_engine.proofs.TakenLemmas.{at-least-any, at-least-behind, at-least-less, left-over, most-over, rose-later, some-limit, some-most}
 
 -- The files of a reading are files of another reading, after `before` names of the other. At least `taken` and at most
@@ -198,9 +199,6 @@ module _ {F : Type 0} (f : FilesGhosts F) where
   pub then-ok : {X Y : Type 0} (p q : Reading) (rest : List (List ℕ)) (x : X) (y : Y) (s t : F) → q.names ≡ p.names ++ rest → p.most ≤ q.most → rest ≡ [] → Reads f p (Ok x) s t → Reads f q (Ok y) s t
   then-ok p q rest x y s t names most none a = then-unread p q rest x (Ok y) s t names most none (λ i e. cc) (λ i e. cc) a
 
-  pub then-no-memory : {X Y : Type 0} (p q : Reading) (rest : List (List ℕ)) (x : X) (s t : F) → q.names ≡ p.names ++ rest → p.most ≤ q.most → Reads f p (Ok x) s t → Reads {X = Y} f q (Err NoMemory) s t
-  then-no-memory p q rest x s t names most a = then-unread p q rest x (Err NoMemory) s t names most tt (λ i e. cc) (λ i e. cc) a
-
   -- One read.
   pub one-read : {X : Type 0} (number : ℕ) (name : List ℕ) (limit : ℕ) (r : Result X Outcome) (s t : F) → f.asked t ≡ f.asked s ++ name ∷ [] → f.held t ≡ f.held s → f.faults s ≤ f.faults t → f.taken s ≤ f.taken t
       → f.taken t ≤ f.taken s + (limit + 1)
@@ -274,6 +272,14 @@ front limits b k = record {
   least = λ i. min (file_limit limits) (total_limit limits - b.before) + 1;
   most = total_limit limits - b.before + 1;
 }
+
+-- The next file of a batch was read, after the first k files.
+pub batch-file : {F : Type 0} (f : FilesGhosts F) (limits : Limits) (b : Batch) (k lengths limit taken : ℕ) (name : List ℕ) (r : Result (Vec ℕ Global) Outcome) (s t u : F) → slice_get b.names k ≡ Some name → lengths ≡ b.before + taken → lengths ≤ total_limit limits
+    → limit ≡ min (file_limit limits) (total_limit limits - lengths) → Reads {X = ⊤} f (front limits b k) (Ok tt) s t → IsTaken (f.held s) taken (f.taken s) (f.taken t) → Reads f (file_reading (b.first + k) name limit) r t u → Reads f (front limits b (k + 1)) r s u
+batch-file f limits b k lengths limit taken name r s t u at are within is before had read =
+    let inside : k < length b.names = slice_get_within b.names k name at in
+    let part = batch-part limits b k (length (take k b.names)) lengths limit taken name (take (k + 1) b.names) (take-length b.names k (omega (arith, inside))) at are within is in
+    follows f (front limits b k) (file_reading (b.first + k) name limit) (front limits b (k + 1)) tt r taken s t u (take-next b.names k name at) part before had read
 
 pub same-batch : (limits : Limits) (b : Batch) (k : ℕ) → IsPart (front limits b k) (batch_reading limits b) 0 0 0
 same-batch limits b k = record { name_of = λ i name at. at; upto = λ i name at. omega arith; least = λ i name at. omega arith; most = omega arith }
@@ -358,17 +364,4 @@ base-part limits o lengths all none made within = record {
 -- The outcome of a run that isn't done.
 pub not-done : (e : Outcome) → (e ≡ Done → ⊥) → ended e ≡ Err e
 not-done Done is = absurd (is refl)
-not-done (Usage kind) is = refl
-not-done (ReadFailed i) is = refl
-not-done (TooLong i) is = refl
-not-done (Config kind offset) is = refl
-not-done (UnknownSource i) is = refl
-not-done (PatternSyntax i) is = refl
-not-done (PatternTooBig i) is = refl
-not-done (Bad i fault offset) is = refl
-not-done (TooManyClaims i) is = refl
-not-done MappedTooLarge is = refl
-not-done NoMatch is = refl
-not-done PlaceOutside is = refl
-not-done WriteFailed is = refl
-not-done NoMemory is = refl
+not-done e is = refl

@@ -68,6 +68,4 @@ most-over total made lengths le within = grind arith
 -- A file that was read completely isn't too long.
 pub end-short : (number : ℕ) (answer : ProfileAnswer) (i : ℕ) → end_at number answer ≡ TooLong i → ⊥
 end-short number (profile.Bad bad) i e = cc
-end-short number profile.TooManyClaims i e = cc
-end-short number profile.MappedTooLarge i e = cc
-end-short number profile.NoMemory i e = cc
+end-short number answer i e = cc

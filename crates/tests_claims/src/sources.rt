@@ -2,7 +2,9 @@
 
 ghost use Rattle.std.specs.Prelude.{◌≡◌, ◌+◌, ◌≤◌, length};
 
-use data_sources::{Binary, ClaimAnswer, claims, debug_claims, load_at, load_slots, open_binary};
+use data_sources::{
+    Binary, ClaimAnswer, claims, debug_claims, load_at, load_slots, loads_of, open_binary,
+};
 use sample_files::{put, put_all};
 use size_core::{BadFile, Fault, LabelPool, Load, Side, Source, Span};
 use std::alloc::Global;
@@ -102,6 +104,8 @@ fn claims_of_each_data_source(rt: HostRuntime) {
     assert_eq!(rt; binary.bytes().len(), 120);
     assert_eq!(rt; load_slots(&binary), 1);
     assert_eq!(rt; load_at(&binary, 0), Some(LOAD));
+    let loads = loads_of(alloc, &binary).expect(&rt, "memory");
+    assert!(rt; loads.len() == 1 && loads[0] == LOAD);
     for offered in &OF_ONE_LOAD {
         has_claims(&rt, alloc, &binary, b"a.elf", offered);
         has_many(&rt, alloc, &binary, offered.0);

@@ -5,14 +5,15 @@ ghost use Rattle.std.specs.Prelude.{◌≡◌, ◌<◌, All, IfOk, length};
 ghost use Rattle.size_model.specs.Loads.{IsLoad};
 ghost use Rattle.dual_map.specs.Layout.{IsOver, LabelsBelow};
 
+use crate::added::{Labels, add, map_of};
 use dual_map::{Base, DualMap};
 use report_rows::{RowKind, RowOptions, RowTree, rows};
-use rollup::{Rollup, RollupAnswer};
-use size_core::{Claim, Domain, LabelPool, Load, NoMemory, Side, Sort, Span, Steps};
+use rollup::Rollup;
+use size_core::{Claim, Domain, LabelPool, Load, NoMemory, Side, Sort, Span};
 use std::alloc::Global;
 use std::marker::Brand;
 use std::process::Abort;
-use std::sync::ledger::{Blank, Ledger};
+use std::sync::ledger::Blank;
 use std::test::Fail;
 
 // The label of bytes that no claim covers, and those of all tables.
@@ -265,14 +266,6 @@ fn claims_of(
     Ok(claims)
 }
 
-fn all_below(rt: &impl Abort, claims: &[Claim])
-    ensures { All (λ c. c.label < 11) claims.now }
-{
-    for claim in claims {
-        assert!(rt; claim.label < 11);
-    }
-}
-
 // The maps of a table's levels, whose labels are numbers below 11.
 fn maps_of(
     rt: &impl Abort,
@@ -287,10 +280,8 @@ fn maps_of(
 {
     let mut maps = Vec::new(alloc);
     for level in 0..depth {
-        let owned = claims_of(rt, alloc, paths, level as usize)?;
-        let claims = owned.as_slice();
-        all_below(rt, claims);
-        maps.push(DualMap::build(alloc, base, base.len(), claims, 0)?)?;
+        let claims = claims_of(rt, alloc, paths, level as usize)?;
+        maps.push(map_of(rt, alloc, base, 11, claims.as_slice())?)?;
     }
     Ok(maps)
 }
@@ -310,24 +301,6 @@ fn loads_of(alloc: Global, vm: u64, file: u64) -> Result<Vec<Load>, NoMemory>
     Ok(loads)
 }
 
-fn add<L: Ledger>(
-    rollup: &mut Rollup,
-    base: &Base,
-    maps: &[DualMap],
-    pool: &LabelPool,
-    blank: Blank,
-) -> Result<(), RollupAnswer>
-    requires name { blank.name ≡ L.name }
-    requires parts { blank.parts ≡ L.parts }
-    requires some { 0 < blank.parts }
-    requires depth { length maps.now ≡ rollup.old.depth }
-    requires over { All (IsOver base.now) maps.now }
-    requires labels { All (LabelsBelow (length pool.now)) maps.now }
-{
-    let mut steps = Steps::<L>::begin(blank);
-    rollup.add_file(base, base.len(), maps, pool, None, &mut steps)
-}
-
 // The rollup of a file whose paths have the sizes of a table.
 fn rollup_of(rt: &impl Abort, alloc: Global, table: &Table<'_>) -> Result<Rollup, Fail> {
     let len = table.file;
@@ -338,7 +311,11 @@ fn rollup_of(rt: &impl Abort, alloc: Global, table: &Table<'_>) -> Result<Rollup
     let loads = loads_of(alloc, table.vm, len)?;
     let base = Base::from_loads(alloc, len, loads.as_slice())?;
     let maps = maps_of(rt, alloc, &base, depth, table.paths)?;
-    add::<Brand>(&mut rollup, &base, maps.as_slice(), &pool, Blank::new(1))?;
+    let labels = Labels {
+        pool: &pool,
+        marks: None,
+    };
+    add::<Brand>(&mut rollup, &base, maps.as_slice(), labels, Blank::new(1))?;
     Ok(rollup)
 }
 

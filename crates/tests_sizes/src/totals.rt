@@ -5,15 +5,16 @@ ghost use Rattle.std.specs.Option.{ForSome, option_copied};
 ghost use Rattle.size_model.specs.Loads.{IsLoad};
 ghost use Rattle.dual_map.specs.Layout.{IsOver, LabelsBelow};
 
+use crate::added::{Labels, add, map_of};
 use crate::checks::{holds, same};
 use dual_map::{Base, DualMap};
 use rollup::{Rollup, RollupAnswer};
-use size_core::{Bytes, Claim, LabelPool, List, Load, NoMemory, Path, Side, Span, Steps};
+use size_core::{Bytes, Claim, LabelPool, List, Load, NoMemory, Path, Side, Span};
 use size_model::{FileView, LabelTest, LabelledClaim, SourceView, file_size_in, vm_size_in};
 use std::alloc::Global;
 use std::marker::Brand;
 use std::process::Abort;
-use std::sync::ledger::{Blank, Ledger};
+use std::sync::ledger::Blank;
 use std::test::Fail;
 
 const LABELS: [&str; 9] = [
@@ -86,18 +87,9 @@ fn maps_of(
 {
     let mut maps = Vec::new(alloc);
     for claims in sources {
-        all_below(rt, claims);
-        maps.push(DualMap::build(alloc, base, base.len(), claims, 0)?)?;
+        maps.push(map_of(rt, alloc, base, 9, claims)?)?;
     }
     Ok(maps)
-}
-
-fn all_below(rt: &impl Abort, claims: &[Claim])
-    ensures { All (λ c. c.label < 9) claims.now }
-{
-    for claim in claims {
-        assert!(rt; claim.label < 9);
-    }
 }
 
 fn loads_of(alloc: Global, memsz: u64) -> Result<Vec<Load>, NoMemory>
@@ -113,41 +105,6 @@ fn loads_of(alloc: Global, memsz: u64) -> Result<Vec<Load>, NoMemory>
         filesz: 136,
     })?;
     Ok(loads)
-}
-
-// The labels of a file, and those that a filter passes.
-#[derive(Clone, Copy)]
-struct Labels<'p, 'm> {
-    pool: &'p LabelPool,
-    marks: Option<&'m [bool]>,
-}
-
-fn add<L: Ledger>(
-    rollup: &mut Rollup,
-    base: &Base,
-    maps: &[DualMap],
-    labels: Labels<'_, '_>,
-    blank: Blank,
-) -> Result<(), RollupAnswer>
-    requires name { blank.name ≡ L.name }
-    requires parts { blank.parts ≡ L.parts }
-    requires some { 0 < blank.parts }
-    requires depth { length maps.now ≡ rollup.old.depth }
-    requires over { All (IsOver base.now) maps.now }
-    requires labels { All (LabelsBelow (length labels.pool.now)) maps.now }
-    requires marks { ForSome (option_copied labels.marks)
-        (λ m. length m ≡ length labels.pool.now) }
-    ensures depth { rollup.new.depth ≡ rollup.old.depth }
-{
-    let mut steps = Steps::<L>::begin(blank);
-    rollup.add_file(
-        base,
-        base.len(),
-        maps,
-        labels.pool,
-        labels.marks,
-        &mut steps,
-    )
 }
 
 // The length of a file, and how many addresses its load has.

@@ -1,8 +1,7 @@
 -- The files so far are counted, or the run ends at one.
-use Rattle.std.proofs.Common.{◌≡◌, ◌+◌, ◌-◌, ◌≤◌, [], Ok, Err, length, take, drop, min, refl, ap, arith}
+use Rattle.std.proofs.Common.{◌≡◌, ◌+◌, ◌-◌, ◌≤◌, [], Ok, Err, length, drop, min, refl, ap, arith}
 use Rattle.std.proofs.lemmas.Result.{err_from_is_err_and}
 use Rattle.file_profile.specs.Counts.{filter_test}
-use Rattle.bloaty_engine.specs.Reading.{file_reading}
 use Rattle.bloaty_engine.specs.Steps.{batch_of, batch_reading}
 use Rattle.bloaty_engine.specs.Costs.{files_cost}
 use Rattle.bloaty_engine.proofs.CostLemmas.{costs-more, costs-none, costs-one, costs-then}
@@ -10,8 +9,8 @@ use Rattle.bloaty_engine.proofs.GivenLemmas.{given-all}
 use Rattle.bloaty_engine.proofs.FileLemmas.{all-counted, count-ends, counted-next, counted-none, extended, min-within, ok-some, read-ends}
 use Rattle.bloaty_engine.specs.Verdict.{file_limit, total_limit}
 use Rattle.file_profile.proofs.MapLemmas.{err-same}
-use Rattle.bloaty_engine.proofs.ReadLemmas.{take-length, take-next, take-none}
-use Rattle.bloaty_engine.proofs.StepLemmas.{batch-part, follows, front, front-all, front-rest, same-batch, same-ok, stops, then-ok, then-unread, unread-ok}
+use Rattle.bloaty_engine.proofs.ReadLemmas.{take-none}
+use Rattle.bloaty_engine.proofs.StepLemmas.{batch-file, front, front-all, front-rest, same-batch, same-ok, stops, then-ok, then-unread, unread-ok}
 use Rattle.bloaty_engine.proofs.TakenLemmas.{taken-more, taken-none}
 use Rattle.bloaty_engine.proofs.files.count_files.Goals as goal
 
@@ -35,10 +34,8 @@ returns-in_err-file g c =
     let limit : c.min-limit.result ≡ min (file_limit c.args.run.now.limits) (total_limit c.args.run.now.limits - c.loop-k.tally.bytes) = rw (c.file_limit.ensures, c.total_limit.ensures) at c.min-limit.ensures in
     let e = read-ends (g.F.Files.held c.args.files.now) c.args.run.now.limits c.args.plan.now.sources (filter_test c.args.plan.now.filter) batch (g.F.Files.gave c.args.files.now) (g.F.Files.gave c.read_file.new.files) c.loop-k.k c.loop-k.tally.bytes c.min-limit.result c.loop-k.total c.get-name.result.now
     file.bytes c.in_err-file.field-0.0 to more c.get-name.ensures (omega (arith, c.loop-k-test.true, c.len-k-end.ensures)) c.loop-k.invariant.within limit file.finds file.gives in
-    let part = batch-part c.args.run.now.limits batch c.loop-k.k (length (take c.loop-k.k c.args.names.now)) c.loop-k.tally.bytes c.min-limit.result c.loop-k.total.lengths c.get-name.result.now (take (c.loop-k.k + 1) c.args.names.now) (take-length c.args.names.now c.loop-k.k (omega (arith, c.loop-k-test.true, c.len-k-end.ensures))) c.get-name.ensures c.loop-k.invariant.counted.lengths_are c.loop-k.invariant.within limit in
-    let read = follows g.F.Files (front c.args.run.now.limits batch c.loop-k.k) (file_reading (batch.first + c.loop-k.k) c.get-name.result.now c.min-limit.result) (front c.args.run.now.limits batch (c.loop-k.k + 1)) tt (Err c.in_err-file.field-0.0)
-    c.loop-k.total.lengths c.args.files.now c.loop-k.files c.read_file.new.files (take-next c.args.names.now c.loop-k.k c.get-name.result.now c.get-name.ensures) part
-    c.loop-k.invariant.reads c.loop-k.invariant.taken file.reads in
+    let read = batch-file g.F.Files c.args.run.now.limits batch c.loop-k.k c.loop-k.tally.bytes c.min-limit.result c.loop-k.total.lengths c.get-name.result.now (Err c.in_err-file.field-0.0) c.args.files.now c.loop-k.files c.read_file.new.files
+    c.get-name.ensures to.lengths_are c.loop-k.invariant.within limit c.loop-k.invariant.reads c.loop-k.invariant.taken file.reads in
     record {
       batch = rw (p.1, p.2) (record {
         bytes = e.0;
@@ -66,10 +63,8 @@ returns-in_err-count_file g c =
     let ended = (rw (c.deref.ensures.value, file.finds.0) at c.in_err-count_file.ensures.ended) c.loop-k.tally.bytes room in
     let e = count-ends (g.F.Files.held c.args.files.now) c.args.run.now.limits c.args.plan.now.sources (filter_test c.args.plan.now.filter) batch (g.F.Files.gave c.args.files.now) c.in_ok-file.file (g.F.Files.gave c.read_file.new.files) c.loop-k.k c.loop-k.tally.bytes c.loop-k.total c.get-name.result.now
     file.bytes c.in_err-count_file.field-0.0 to more c.get-name.ensures (omega (arith, c.loop-k-test.true, c.len-k-end.ensures)) ended file.gives in
-    let part = batch-part c.args.run.now.limits batch c.loop-k.k (length (take c.loop-k.k c.args.names.now)) c.loop-k.tally.bytes c.min-limit.result c.loop-k.total.lengths c.get-name.result.now (take (c.loop-k.k + 1) c.args.names.now) (take-length c.args.names.now c.loop-k.k (omega (arith, c.loop-k-test.true, c.len-k-end.ensures))) c.get-name.ensures c.loop-k.invariant.counted.lengths_are c.loop-k.invariant.within limit in
-    let read = follows g.F.Files (front c.args.run.now.limits batch c.loop-k.k) (file_reading (batch.first + c.loop-k.k) c.get-name.result.now c.min-limit.result) (front c.args.run.now.limits batch (c.loop-k.k + 1)) tt (Ok c.in_ok-file.file)
-    c.loop-k.total.lengths c.args.files.now c.loop-k.files c.read_file.new.files (take-next c.args.names.now c.loop-k.k c.get-name.result.now c.get-name.ensures) part
-    c.loop-k.invariant.reads c.loop-k.invariant.taken file.reads in
+    let read = batch-file g.F.Files c.args.run.now.limits batch c.loop-k.k c.loop-k.tally.bytes c.min-limit.result c.loop-k.total.lengths c.get-name.result.now (Ok c.in_ok-file.file) c.args.files.now c.loop-k.files c.read_file.new.files
+    c.get-name.ensures to.lengths_are c.loop-k.invariant.within limit c.loop-k.invariant.reads c.loop-k.invariant.taken file.reads in
     record {
       batch = rw (p.1, p.2) (record {
         bytes = e.0;
@@ -101,6 +96,8 @@ loop-k-preserved g c =
     let lengths = rw c.deref.ensures.value at c.in_ok-count_file.ensures.lengths in
     let size : length c.in_ok-file.file.items ≡ c.len.result = omega (arith, c.len.ensures, c.in_ok-file.file.ok) in
     let taken = rw (c.loop-k.invariant.reads.held, size) at file.taken in
+    let read = batch-file g.F.Files c.args.run.now.limits batch c.loop-k.k c.loop-k.tally.bytes c.min-limit.result c.loop-k.total.lengths c.get-name.result.now (Ok c.in_ok-file.file) c.args.files.now c.loop-k.files c.read_file.new.files
+    c.get-name.ensures to.lengths_are c.loop-k.invariant.within limit c.loop-k.invariant.reads c.loop-k.invariant.taken file.reads in
     let more_taken : c.count_file.new.total.lengths ≡ c.loop-k.total.lengths + c.len.result = omega (arith, lengths, size) in
     record {
       counted = counted-next (g.F.Files.held c.args.files.now) c.args.run.now.limits c.args.plan.now.sources (filter_test c.args.plan.now.filter) batch (g.F.Files.gave c.args.files.now) c.in_ok-file.file (g.F.Files.gave c.read_file.new.files) c.loop-k.k c.loop-k.tally.bytes (c.loop-k.tally.bytes + c.len.result)
@@ -108,10 +105,7 @@ loop-k-preserved g c =
       within = omega (arith, room, len);
       cost = costs-then c.args.run.now.limits c.args.plan.now.sources _ (g.F.Files.gave c.loop-k.files) (g.F.Files.gave c.read_file.new.files) c.args.tally.now.steps c.loop-k.tally.steps c.count_file.new.steps c.loop-k.invariant.cost
           (costs-one c.args.run.now.limits c.args.plan.now.sources c.get-name.result.now file.bytes _ _ c.loop-k.tally.steps c.count_file.new.steps (given-all c.in_ok-file.file _ _ _ file.gives) (rw (c.deref.ensures.value, file.finds.0) at c.count_file.ensures.cost));
-      reads = follows g.F.Files (front c.args.run.now.limits batch c.loop-k.k) (file_reading (batch.first + c.loop-k.k) c.get-name.result.now c.min-limit.result) (front c.args.run.now.limits batch (c.loop-k.k + 1)) tt (Ok tt)
-          c.loop-k.total.lengths c.args.files.now c.loop-k.files c.read_file.new.files (take-next c.args.names.now c.loop-k.k c.get-name.result.now c.get-name.ensures)
-          (batch-part c.args.run.now.limits batch c.loop-k.k (length (take c.loop-k.k c.args.names.now)) c.loop-k.tally.bytes c.min-limit.result c.loop-k.total.lengths c.get-name.result.now (take (c.loop-k.k + 1) c.args.names.now) (take-length c.args.names.now c.loop-k.k (omega (arith, c.loop-k-test.true, c.len-k-end.ensures))) c.get-name.ensures c.loop-k.invariant.counted.lengths_are c.loop-k.invariant.within limit)
-          c.loop-k.invariant.reads c.loop-k.invariant.taken (same-ok g.F.Files _ c.in_ok-file.file tt _ _ file.reads);
+      reads = same-ok g.F.Files _ c.in_ok-file.file tt _ _ read;
       taken = rw more_taken (taken-more (g.F.Files.held c.args.files.now) c.loop-k.total.lengths c.len.result _ _ _ c.loop-k.invariant.taken taken);
     }
 

@@ -1,16 +1,15 @@
 -- The files and the base files are counted one after the other, and then there is their report.
-use Rattle.std.proofs.Common.{◌≡◌, ◌+◌, ◌-◌, ◌<◌, ◌++◌, [], length, Err, refl, sym, ap, ◌∙◌, arith, rules}
+use Rattle.std.proofs.Common.{◌≡◌, ◌-◌, ◌<◌, ◌++◌, [], length, Ok, Err, refl, sym, ◌∙◌, arith, rules}
 use Rattle.std.proofs.lemmas.Grind.{common_steps}
 use Rattle.std.proofs.lemmas.Result.{err_from_is_err_and}
 use Rattle.run_outcome.specs.Names.{file_names}
-use Rattle.bloaty_engine.specs.Given.{pairs_from}
+use Rattle.run_outcome.specs.declared.outcome.Outcome.TheVariants.{NoMemory}
 use Rattle.bloaty_engine.specs.Reading.{made_len, reading_for, unmade_names}
 use Rattle.bloaty_engine.specs.Steps.{batch_of, batch_reading}
-use Rattle.bloaty_engine.proofs.FileLemmas.{some-held}
-use Rattle.bloaty_engine.proofs.GivenLemmas.{given-all, gives-behind, gives-none, gives-stops, gives-then}
+use Rattle.bloaty_engine.proofs.GivenLemmas.{given-all, gives-behind, gives-none}
 use Rattle.bloaty_engine.proofs.RunLemmas.{some-bytes}
-use Rattle.bloaty_engine.proofs.SidesLemmas.{behind-held, behind-pairs, beyond, front-ends, front-files, front-pairs, growth-ends, no-names, sizes-end}
-use Rattle.bloaty_engine.proofs.StepLemmas.{base-part, follows, same-run, stops, then-no-memory, then-ok, unread-no-memory}
+use Rattle.bloaty_engine.proofs.SidesLemmas.{behind-held, behind-pairs, beyond, front-files, front-pairs, growth-ends, no-names, sizes-reported}
+use Rattle.bloaty_engine.proofs.StepLemmas.{base-part, follows, unread-no-memory}
 use Rattle.bloaty_engine.proofs.CostLemmas.{costs-bases, costs-none}
 use Rattle.bloaty_engine.proofs.report.report_of_files.Goals as goal
 
@@ -57,63 +56,30 @@ returns-then-is_none g c =
 pub returns-in_err-total : goal.returns-in_err-total
 returns-in_err-total g c =
     let p = err_from_is_err_and c.from_residual.result c.from_residual.ensures.1 in
-    let o = c.args.run.now.options in
-    let limits = c.args.run.now.limits in
     let planned = c.requires.begins.ready.planned in
-    let held = g.F.Files.held c.args.files.now in
-    let count = length (file_names o) in
-    let e = c.in_err-total.ensures.files in
-    let behind = some-held held (count + 1) o.bases in
+    let end = c.in_err-total.field-0.0 in
     record {
-      inputs = rw (p.1, p.2) (record {
-        bytes = beyond count e.bytes behind.0;
-        are = (front-files held o.synth o.files e.bytes behind.0 e.are, behind-held held count o.bases e.bytes behind.0 behind.1);
-        ends = front-ends limits c.args.plan.now.sources o c.args.plan.now.filter planned.filter planned.depth e.bytes behind.0 c.in_err-total.field-0.0 (λ k is. e.unmade k (ap Err is)) e.ends;
-        gives = rw (front-pairs o.synth o.files e.bytes behind.0) (gives-stops _ _ _ _ _ e.gives);
-        reads = stops g.F.Files (reading_for limits o (unmade_names o.synth o.files)) (reading_for limits o (unmade_names o.synth o.files ++ o.bases)) o.bases c.in_err-total.field-0.0 c.args.files.now c.total_of.new.files refl
-            (same-run limits o (unmade_names o.synth o.files) (unmade_names o.synth o.files ++ o.bases)) e.reads;
-      });
+      inputs = rw (p.1, p.2) (sizes-reported g.F.Files c.args.run.now.limits c.args.plan.now c.args.run.now.options planned (Err end) (Err end) _ _ c.in_err-total.ensures.files refl);
       cost = c.total_of.ensures.cost;
     }
 
 pub returns-in_err-report_of : goal.returns-in_err-report_of
 returns-in_err-report_of g c =
     let p = err_from_is_err_and c.from_residual-in_err-report_of.result c.from_residual-in_err-report_of.ensures.1 in
-    let o = c.args.run.now.options in
-    let limits = c.args.run.now.limits in
-    let held = g.F.Files.held c.args.files.now in
-    let count = length (file_names o) in
-    let e = c.in_ok-total.ensures.files in
-    let behind = some-held held (count + 1) o.bases in
+    let planned = c.requires.begins.ready.planned in
     record {
-      inputs = rw (p.1, p.2) (record {
-        bytes = beyond count e.bytes behind.0;
-        are = (front-files held o.synth o.files e.bytes behind.0 e.are, behind-held held count o.bases e.bytes behind.0 behind.1);
-        ends = tt;
-        gives = rw (front-pairs o.synth o.files e.bytes behind.0) (gives-then c.in_ok-total.total _ _ _ _ _ tt e.gives);
-        reads = then-no-memory g.F.Files (reading_for limits o (unmade_names o.synth o.files)) (reading_for limits o (unmade_names o.synth o.files ++ o.bases)) o.bases c.in_ok-total.total c.args.files.now c.total_of.new.files refl (omega arith) e.reads;
-      });
+      inputs = rw (p.1, p.2) (sizes-reported g.F.Files c.args.run.now.limits c.args.plan.now c.args.run.now.options planned (Ok c.in_ok-total.total) (Err NoMemory) _ _ c.in_ok-total.ensures.files refl);
       cost = c.total_of.ensures.cost;
     }
 
 pub returns-then-len-eq0 : goal.returns-then-len-eq0
 returns-then-len-eq0 g c =
     let o = c.args.run.now.options in
-    let limits = c.args.run.now.limits in
     let planned = c.requires.begins.ready.planned in
-    let held = g.F.Files.held c.args.files.now in
-    let count = length (file_names o) in
-    let e = c.in_ok-total.ensures.files in
-    let behind = some-held held (count + 1) o.bases in
     let none : o.bases ≡ [] = no-names o.bases (sym c.len.ensures ∙ c.if-len-eq0.true) in
     record {
-      inputs = record {
-        bytes = beyond count e.bytes behind.0;
-        are = (front-files held o.synth o.files e.bytes behind.0 e.are, behind-held held count o.bases e.bytes behind.0 behind.1);
-        ends = sizes-end limits c.args.plan.now.sources o c.args.plan.now.filter planned.filter planned.depth e.bytes behind.0 c.in_ok-total.total c.in_ok-report_of.field-0 none e.ends (rw (← c.total.view_is) c.total.invariant) c.in_ok-report_of.ensures;
-        gives = rw (front-pairs o.synth o.files e.bytes behind.0) (gives-then c.in_ok-total.total _ _ _ _ _ (ap (λ ns. pairs_from (count + 1) ns (beyond count e.bytes behind.0)) none) e.gives);
-        reads = then-ok g.F.Files (reading_for limits o (unmade_names o.synth o.files)) (reading_for limits o (unmade_names o.synth o.files ++ o.bases)) o.bases c.in_ok-total.total c.in_ok-report_of.field-0 c.args.files.now c.total_of.new.files refl (omega arith) none e.reads;
-      };
+      inputs = sizes-reported g.F.Files c.args.run.now.limits c.args.plan.now o planned (Ok c.in_ok-total.total) (Ok c.in_ok-report_of.field-0) _ _ c.in_ok-total.ensures.files
+          (none, (rw (← c.total.view_is) c.total.invariant, c.in_ok-report_of.ensures));
       cost = c.total_of.ensures.cost;
     }
 
