@@ -1,5 +1,5 @@
 -- How files are counted one after the other.
-use Rattle.std.proofs.Common.{◌≡◌, ℕ, suc, ◌+◌, ◌-◌, ◌<◌, ◌≤◌, min, Bool, true, false, cond, ◌||◌, ◌==◌, nat_lt, List, [], ◌∷◌, ◌++◌, length, take, drop, Option, None, Some, Result, Ok, Err, refl, sym, ap, ◌∙◌, subst, arith}
+use Rattle.std.proofs.Common.{◌≡◌, ℕ, suc, ◌+◌, ◌-◌, ◌<◌, ◌≤◌, min, Bool, true, false, cond, ◌==◌, List, [], ◌∷◌, ◌++◌, length, take, drop, Option, None, Some, Result, Ok, Err, refl, sym, ap, ◌∙◌, subst, arith}
 use Rattle.std.specs.Prelude.{IsOk, if◌then◌else◌, slice_get}
 use Rattle.std.specs.List.{sum_by}
 use Rattle.std.proofs.lemmas.Bool.Decides.{nat_tests}
@@ -19,13 +19,13 @@ use Rattle.rollup.specs.Totals.{Totals}
 use Rattle.file_profile.specs.declared.answer.ProfileAnswer.{ProfileAnswer}
 use Rattle.file_profile.specs.declared.answer.ProfileAnswer.TheVariants as profile
 use Rattle.run_outcome.specs.declared.outcome.Outcome.{Outcome}
-use Rattle.run_outcome.specs.declared.outcome.Outcome.TheVariants.{TooLong}
+use Rattle.run_outcome.specs.declared.outcome.Outcome.TheVariants.{TooLong, ReadFailed}
 use Rattle.file_profile.specs.Counts.{file_size_where, vm_size_where}
 use Rattle.bloaty_engine.specs.Given.{Gives, pairs_from}
 use Rattle.bloaty_engine.specs.Named.{AreHeld}
 use Rattle.file_profile.specs.Sources.{Chosen}
 use Rattle.bloaty_engine.specs.Steps.{Batch, EndsAs, EndsFiles, Finds, HasCounted, IsFileOf, Nowhere, batch_of, counted_batch}
-use Rattle.bloaty_engine.specs.Verdict.{◌>>=◌, counted_file, counted_from, end_at, file_limit, if_viewed, total_limit}
+use Rattle.bloaty_engine.specs.Verdict.{◌>>=◌, counted_file, counted_from, end_at, file_limit, if_viewed, next_limit, total_limit}
 use Rattle.file_profile.specs.Answers.{of_file_alone, refused_as}
 use Rattle.file_profile.specs.Views.{Answers, alone, if_opened, opened_viewed, viewed}
 use Rattle.file_profile.proofs.AloneLemmas.{ok-before}
@@ -33,31 +33,20 @@ use Rattle.file_profile.proofs.LawLemmas.{of-viewed}
 use Rattle.bloaty_engine.proofs.EndLemmas.{ends-read, ends-so}
 use Rattle.bloaty_engine.proofs.GivenLemmas.{given-all, gives-all, gives-as, gives-behind, gives-stops, pairs-append, pairs-same}
 use Rattle.bloaty_engine.proofs.ReadLemmas.{take-length, take-next, take-none}
+use Rattle.bloaty_engine.proofs.ResultLemmas.{ok-is, ok-same, short-long, short-next}
 
 -- One file.
-
-below : (m n : ℕ) → m < n → nat_lt m n ≡ true
-below m n lt = grind (arith, nat_tests)
-
-not-below : (m n : ℕ) → n ≤ m → nat_lt m n ≡ false
-not-below m n le = grind (arith, nat_tests)
 
 -- The result for a file within the limits depends on its bytes alone.
 pub counted-within : (limits : Limits) (sources : List Chosen) (i lengths mapped : ℕ) (name file : List ℕ) → length file ≤ file_limit limits → lengths + length file ≤ total_limit limits
     → counted_file limits sources i lengths mapped name file ≡ if_viewed i (viewed mapped limits.claims name file sources)
 unfolding counted_file
-counted-within limits sources i lengths mapped name file le total =
-    rw (not-below (file_limit limits) (length file) le, not-below (total_limit limits) (lengths + length file) total) refl
+counted-within limits sources i lengths mapped name file le total = short-next limits i lengths file _ le total
 
 -- A file over a limit is too long.
-long-choice : (b c : Bool) (decided : Result FileView Outcome) (i : ℕ) → (b || c) ≡ true → cond (b || c) (Err (TooLong i)) decided ≡ Err (TooLong i)
-long-choice b c decided i e = ap (λ t. cond t (Err (TooLong i)) decided) e
-
-pub counted-long : (limits : Limits) (sources : List Chosen) (i lengths mapped : ℕ) (name file : List ℕ) → min (file_limit limits) (total_limit limits - lengths) < length file → lengths ≤ total_limit limits
-    → counted_file limits sources i lengths mapped name file ≡ Err (TooLong i)
+pub counted-long : (limits : Limits) (sources : List Chosen) (i lengths mapped : ℕ) (name file : List ℕ) → next_limit limits lengths < length file → counted_file limits sources i lengths mapped name file ≡ Err (TooLong i)
 unfolding counted_file
-counted-long limits sources i lengths mapped name file lt le =
-    long-choice (nat_lt (file_limit limits) (length file)) (nat_lt (total_limit limits) (lengths + length file)) (if_viewed i (viewed mapped limits.claims name file sources)) i (grind (arith, nat_tests))
+counted-long limits sources i lengths mapped name file lt = short-long limits i lengths file _ lt
 
 -- The outcome of a file that can't be counted.
 pub ends-viewed : (i : ℕ) (why : ProfileAnswer) (decided : Result FileView ProfileAnswer) → Answers (Err why) decided → EndsAs (Err (end_at i why)) (if_viewed i decided)
@@ -121,9 +110,6 @@ bind-none (Err e) = refl
 bind-cons : (f : FileView) (fs : List FileView) (r : Result (List FileView) Outcome) → ((r >>= λ gs. Ok (fs ++ gs)) >>= λ others. Ok (f ∷ others)) ≡ (r >>= λ gs. Ok (f ∷ (fs ++ gs)))
 bind-cons f fs (Ok gs) = refl
 bind-cons f fs (Err e) = refl
-
-ok-same : {X : Type 0} (x y : X) → ◌≡◌ {A = Result X Outcome} (Ok x) (Ok y) → x ≡ y
-ok-same x y e = cc
 
 module _ (limits : Limits) (sources : List Chosen) (bytes : ℕ → List ℕ) where
   -- More files after files that are counted.
@@ -306,20 +292,16 @@ module _ (held : Option Pairs) (limits : Limits) (sources : List Chosen) (filter
       let file : counted_file limits sources (batch.first + k) lengths t.mapped name (more.bytes (batch.first + k)) ≡ Err end = rw more.here is in
       ap (counted_from limits sources more.bytes batch.first batch.before 0) (sym (take-rest batch.names k name at)) ∙ (behind k lengths t b (name ∷ drop (suc k) batch.names) to more le ∙ rw file refl)
 
-  ok-is : {X E : Type 0} (r : Result X E) (x : X) → r ≡ Ok x → IsOk r
-  ok-is (Ok y) x e = refl
-  ok-is (Err y) x e = cc
-
   -- The run ends at a read.
   pub read-ends : {X : Type 0} {now : Pairs} (after : Pairs) (k lengths limit : ℕ) (t : Totals) (name b : List ℕ) (end : Outcome) (to : AreCountedTo held limits sources filter batch k lengths t given now)
       (more : Extends held batch.first batch.names to.bytes (batch.first + k) b)
-      → slice_get batch.names k ≡ Some name → k < length batch.names → lengths ≤ total_limit limits → limit ≡ min (file_limit limits) (total_limit limits - lengths) → Finds (batch.first + k) limit b (Err end)
+      → slice_get batch.names k ≡ Some name → k < length batch.names → lengths ≤ total_limit limits → limit ≡ next_limit limits lengths → Finds (batch.first + k) limit b (Err end)
       → Gives {X = X} (Err end) now after ((name, b) ∷ []) → EndsBatch after (Err end)
   read-ends after k lengths limit t name b end to more at lt le is e gave = (
     more.bytes,
     more.are,
     ends-read (IsFileOf limits sources batch more.bytes) (counted_batch limits sources more.bytes batch) (batch.first + k) limit b end (λ i same number. (k, number, lt, ok-is _ to.files (recounted k lengths t b to more (omega arith))))
-        (λ over. counted-stop k lengths t name b (TooLong (batch.first + k)) to more at (omega arith) (counted-long limits sources (batch.first + k) lengths t.mapped name b (rw (← is) over) le)) e,
+        (λ over. counted-stop k lengths t name b (TooLong (batch.first + k)) to more at (omega arith) (counted-long limits sources (batch.first + k) lengths t.mapped name b (rw (← is) over))) e,
     gave-end end after k lengths t name b to more at (omega (arith, lt)) gave,
   )
 
@@ -357,18 +339,18 @@ module _ (held : Option Pairs) (limits : Limits) (sources : List Chosen) (filter
     gave = sym (ap (λ ns. given ++ pairs_from batch.first ns (some-held held batch.first batch.names).0) (take-none batch.names) ∙ append-nil given);
   }
 
--- A step that succeeded has a value.
-pub ok-some : {X E : Type 0} (r : Result X E) → IsOk r → (x : X) × (r ≡ Ok x)
-ok-some (Ok x) ok = (x, refl)
-ok-some (Err e) ok = cc
-
 -- The only file, if it is synthetic.
 
-pub made-long : (limits : Limits) (sources : List Chosen) (name file : List ℕ) → min (file_limit limits) (total_limit limits) < length file
+pub made-long : (limits : Limits) (sources : List Chosen) (name file : List ℕ) → next_limit limits 0 < length file
     → (counted_file limits sources 1 0 0 name file >>= λ f. (Ok [] >>= λ others. Ok (f ∷ others))) ≡ Err (TooLong 1)
-made-long limits sources name file lt =
-    let p : total_limit limits - 0 ≡ total_limit limits = omega arith in
-    ap (λ r. r >>= λ f. (Ok [] >>= λ others. Ok (f ∷ others))) (counted-long limits sources 1 0 0 name file (rw p lt) (omega arith))
+made-long limits sources name file lt = ap (λ r. r >>= λ f. (Ok [] >>= λ others. Ok (f ∷ others))) (counted-long limits sources 1 0 0 name file lt)
+
+-- It is too long, or memory ran out.
+pub made-stops : (limits : Limits) (sources : List Chosen) (filter : Option (List ℕ → Bool)) (name file : List ℕ) (end : Outcome) → ((i : ℕ) → end ≡ ReadFailed i → ⊥) → Finds 1 (next_limit limits 0) file (Err end)
+    → EndsFiles limits sources filter (batch_of 0 0 (name ∷ [])) (λ i. file) (Err end)
+made-stops limits sources filter name file end unread e =
+    ends-read (IsFileOf limits sources (batch_of 0 0 (name ∷ [])) (λ i. file)) (counted_batch limits sources (λ i. file) (batch_of 0 0 (name ∷ []))) 1 (next_limit limits 0) file end (λ i same number. absurd (unread i same))
+    (λ over. made-long limits sources name file over) e
 
 pub made-counted : (limits : Limits) (sources : List Chosen) (name file : List ℕ) (f : FileView) → counted_file limits sources 1 0 0 name file ≡ Ok f
     → (counted_file limits sources 1 0 0 name file >>= λ g. (Ok [] >>= λ others. Ok (g ∷ others))) ≡ Ok (f ∷ [])

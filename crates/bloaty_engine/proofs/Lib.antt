@@ -14,6 +14,7 @@ pub mod PlanLemmas
 pub mod ReadBackLemmas
 pub mod ReadLemmas
 pub mod ReportLemmas
+pub mod ResultLemmas
 pub mod RunLemmas
 pub mod SidesLemmas
 pub mod StepLemmas

@@ -1,5 +1,5 @@
 -- The labels of an explained byte are its path in a report of sizes.
-use Rattle.std.proofs.Common.{◌≡◌, ℕ, ◌+◌, ◌-◌, ◌^◌, Bool, true, false, ◌||◌, nat_lt, List, [], ◌∷◌, length, Option, None, Some, Result, Ok, Err, refl, ap, ◌∙◌, arith}
+use Rattle.std.proofs.Common.{◌≡◌, ℕ, ◌+◌, ◌-◌, ◌^◌, Bool, true, false, nat_lt, List, [], ◌∷◌, length, Option, None, Some, Result, Ok, Err, refl, ap, ◌∙◌, arith}
 use Rattle.std.specs.Prelude.{map, if◌then◌else◌}
 use Rattle.size_core.specs.declared.fault.BadFile.{BadFile}
 use Rattle.size_core.specs.declared.limits.Limits.{Limits}
@@ -26,13 +26,10 @@ use Rattle.file_profile.specs.Explanations.{explained_place, if_countable, if_op
 use Rattle.file_profile.specs.Sources.{Chosen}
 use Rattle.file_profile.specs.Views.{alone, as_view, if_opened, opened_viewed, source_view, view_within, viewed, views_of}
 use Rattle.run_outcome.specs.declared.outcome.Outcome.{Outcome}
-use Rattle.run_outcome.specs.declared.outcome.Outcome.TheVariants.{TooLong}
 use Rattle.run_outcome.specs.Names.{file_names}
 use Rattle.bloaty_engine.specs.LocationReport.{ExplainsFile, ExplainsPath, place_path}
-use Rattle.bloaty_engine.specs.Verdict.{Counted, Explained, Finding, Request, Sides, as_counted, as_explained, counted_pair, counted_sides, explained_file, file_limit, first_name, found, found_by, if_explained, total_limit}
-
-ok-same : {X E : Type 0} (x y : X) → ◌≡◌ {A = Result X E} (Ok x) (Ok y) → x ≡ y
-ok-same x y e = cc
+use Rattle.bloaty_engine.specs.Verdict.{Counted, Explained, Finding, Request, Sides, as_counted, as_explained, counted_pair, counted_sides, explained_file, first_name, found, found_by, if_explained}
+use Rattle.bloaty_engine.proofs.ResultLemmas.{ok-same, short-some}
 
 -- Data sources whose explanations of a byte are these have claims, which are counted, and their labels of the byte.
 record AreCounted (place : Place) (binary : Binary) (counted : Result (List SourceView) SourceAnswer) (names : List (List ℕ))
@@ -158,18 +155,13 @@ module _ (limits : Limits) (r : Request) (file : List ℕ) (place : Place) (same
 
   file-path : (all : List PlaceSource) → explained_file limits r.sources r.options place name file ≡ Ok all → ExplainsPath limits r file place all
   unfolding explained_file
-  file-path all e = by-length (nat_lt (file_limit limits) (length file) || nat_lt (total_limit limits) (0 + length file)) e
+  file-path all e = by-result (explained_place limits.claims r.options.limit place name file (named_sources r.options.sources r.sources)) refl (short-some _ 1 _ all e)
     where
       by-result : (x : Result (List PlaceSource) PlaceAnswer)
           → explained_place limits.claims r.options.limit place name file (named_sources r.options.sources r.sources) ≡ x
           → if_explained x ≡ Ok all → ExplainsPath limits r file place all
       by-result (Ok xs) at is = explains-path all (at ∙ ap Ok (ok-same xs all is))
       by-result (Err why) at is = cc
-
-      by-length : (b : Bool) → (if b then Err (TooLong 1) else if_explained (explained_place limits.claims r.options.limit place name file (named_sources r.options.sources r.sources))) ≡ Ok all
-          → ExplainsPath limits r file place all
-      by-length true is = cc
-      by-length false is = by-result (explained_place limits.claims r.options.limit place name file (named_sources r.options.sources r.sources)) refl is
 
 -- What a run found explains a byte of its first file, or counts files.
 pub explains-file : (limits : Limits) (r : Request) (files : ℕ → List ℕ) (finding : Finding) → length r.sources ≡ length r.options.sources

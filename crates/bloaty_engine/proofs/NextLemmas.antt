@@ -21,7 +21,8 @@ use Rattle.bloaty_engine.proofs.GivenLemmas.{gives-as, gives-ended, gives-stops,
 use Rattle.bloaty_engine.proofs.ReadLemmas.{OnOk-any}
 use Rattle.bloaty_engine.proofs.StepLemmas.{IsPart, part-most, same-all, stops, then-unread}
 
--- A step goes on after another one. If that ended the run, so does this, in the same way. Else this doesn't end it at a read.
+-- How a step goes on after another one. If the other one ended the run, so does this one, with the same outcome. Otherwise this
+-- one doesn't end it with a failed read or a file that is too long.
 abbrev pub GoesOn : {X Y : Type 0} → Result X Outcome → Result Y Outcome → Type 0
 GoesOn (Err end) r = r ≡ Err end
 GoesOn (Ok x) r = ((i : ℕ) → r ≡ Err (ReadFailed i) → ⊥) × ((i : ℕ) → r ≡ Err (TooLong i) → ⊥)
@@ -54,7 +55,7 @@ batch-next f limits b P Q a r s t batch next ends =
     }
 
 -- A step that makes the text of what another step counted. It ends the run as that step did, or runs out of memory, or returns a
--- text as P says.
+-- text for which P holds.
 abbrev pub Shows : {X : Type 0} → (X → Vec ℕ Global → Type 0) → Result X Outcome → Result (Vec ℕ Global) Outcome → Type 0
 Shows P (Err end) r = r ≡ Err end
 Shows P (Ok x) (Ok text) = P x text

@@ -1,5 +1,5 @@
 -- A file with its debug file, read and counted.
-use Rattle.std.proofs.Common.{◌≡◌, ℕ, zero, suc, ◌+◌, ◌-◌, ◌<◌, ◌≤◌, min, Bool, true, false, cond, ◌||◌, nat_lt, List, [], ◌∷◌, ◌++◌, length, Option, None, Some, Result, Ok, Err, refl, ap, ◌∙◌, arith}
+use Rattle.std.proofs.Common.{◌≡◌, ℕ, zero, suc, ◌+◌, ◌<◌, ◌≤◌, Bool, true, false, cond, ◌||◌, nat_lt, List, [], ◌∷◌, ◌++◌, length, Option, None, Some, Result, Ok, Err, refl, ap, ◌∙◌, arith}
 use Rattle.std.specs.Prelude.{IsOk, slice_get, unwrap_or, Vec}
 use Rattle.std.specs.declared.alloc.Global.{Global}
 use Rattle.std.proofs.lemmas.Bool.Decides.{nat_tests}
@@ -31,51 +31,41 @@ use Rattle.bloaty_engine.specs.PairSteps.{CountsPair, EndsFirst, EndsPair, EndsP
 use Rattle.bloaty_engine.specs.Steps.{EndsAs, Finds, Nowhere, batch_of, batch_reading}
 use Rattle.bloaty_engine.specs.Reading.{file_reading, files_to_read, reading_for, unmade_names}
 use Rattle.bloaty_engine.specs.Reports.{AsksPair, EndsFinding, IsReadFile, Reports}
-use Rattle.bloaty_engine.specs.Verdict.{◌>>=◌, Counted, Sides, as_counted, counted_pair, end_of_pair, file_limit, first_name, found, found_by, if_paired, if_sound, one_file, opened_first, total_limit}
+use Rattle.bloaty_engine.specs.Verdict.{◌>>=◌, Counted, Sides, as_counted, counted_pair, end_of_pair, file_limit, first_name, found, found_by, if_paired, if_sound, next_limit, one_file, opened_first, total_limit}
 use Rattle.bloaty_engine.proofs.CostLemmas.{costs-pair}
 use Rattle.bloaty_engine.proofs.EndLemmas.{ends-read, ends-so}
 use Rattle.bloaty_engine.proofs.GivenLemmas.{given-all, gives-behind}
 use Rattle.bloaty_engine.proofs.NextLemmas.{GoesOn, PrintsTotal, Shows, gives-same, reads-next, shows-next}
 use Rattle.bloaty_engine.proofs.ReadLemmas.{OnOk-any}
 use Rattle.bloaty_engine.proofs.SidesLemmas.{beyond, size-report, sizes-for}
+use Rattle.bloaty_engine.proofs.ResultLemmas.{short-long, short-next}
 use Rattle.bloaty_engine.proofs.StepLemmas.{IsPart, batch-part, files-part, follows, same-all}
-
-pub not-below : (m n : ℕ) → n ≤ m → nat_lt m n ≡ false
-not-below m n le = grind (arith, nat_tests)
 
 -- The first file.
 
 first-within : (limits : Limits) (file : List ℕ) → length file ≤ file_limit limits → length file ≤ total_limit limits → opened_first limits file ≡ if_sound (opened file)
 unfolding opened_first
-first-within limits file le total =
-    let within : 0 + length file ≤ total_limit limits = omega (arith, total) in
-    let a : nat_lt (file_limit limits) (length file) ≡ false = not-below (file_limit limits) (length file) le in
-    let b : nat_lt (total_limit limits) (0 + length file) ≡ false = not-below (total_limit limits) (0 + length file) within in
-    rw (a, b) refl
+first-within limits file le total = short-next limits 1 0 file _ le (omega (arith, total))
 
-long-choice : {X : Type 0} (b c : Bool) (next : Result X Outcome) (i : ℕ) → (b || c) ≡ true → cond (b || c) (Err (TooLong i)) next ≡ Err (TooLong i)
-long-choice b c next i e = ap (λ t. cond t (Err (TooLong i)) next) e
-
-first-long : (limits : Limits) (file : List ℕ) → min (file_limit limits) (total_limit limits) < length file → opened_first limits file ≡ Err (TooLong 1)
+first-long : (limits : Limits) (file : List ℕ) → next_limit limits 0 < length file → opened_first limits file ≡ Err (TooLong 1)
 unfolding opened_first
-first-long limits file lt =
-    long-choice (nat_lt (file_limit limits) (length file)) (nat_lt (total_limit limits) (0 + length file)) (if_sound (opened file)) 1 (grind (arith, nat_tests))
+first-long limits file lt = short-long limits 1 0 file _ lt
 
 err-not-ok : (r : Result Binary Outcome) (end : Outcome) → r ≡ Err end → IsOk r → ⊥
 err-not-ok (Ok binary) end e ok = cc
 err-not-ok (Err x) end e ok = cc
 
 -- A first file that was opened is within the limits.
-pub first-fits : (limits : Limits) (file : List ℕ) → IsOk (opened_first limits file) → length file ≤ min (file_limit limits) (total_limit limits)
-first-fits limits file ok = by-test (nat_lt (min (file_limit limits) (total_limit limits)) (length file)) refl
+pub first-fits : (limits : Limits) (file : List ℕ) → IsOk (opened_first limits file) → length file ≤ next_limit limits 0
+first-fits limits file ok = by-test (nat_lt (next_limit limits 0) (length file)) refl
   where
-    by-test : (t : Bool) → nat_lt (min (file_limit limits) (total_limit limits)) (length file) ≡ t → length file ≤ min (file_limit limits) (total_limit limits)
+    by-test : (t : Bool) → nat_lt (next_limit limits 0) (length file) ≡ t → length file ≤ next_limit limits 0
     by-test true e =
-        let long : min (file_limit limits) (total_limit limits) < length file = grind (arith, nat_tests) in
+        let long : next_limit limits 0 < length file = grind (arith, nat_tests) in
         absurd (err-not-ok (opened_first limits file) (TooLong 1) (first-long limits file long) ok)
     by-test false e = grind (arith, nat_tests)
 
-module _ (limits : Limits) (file : List ℕ) (limit : ℕ) (is : limit ≡ min (file_limit limits) (total_limit limits)) where
+module _ (limits : Limits) (file : List ℕ) (limit : ℕ) (is : limit ≡ next_limit limits 0) where
   -- A failed read.
   pub first-read : (end : Outcome) → Finds 1 limit file (Err end) → EndsFirst limits file (Err end)
   first-read end e = ends-read (λ i. i ≡ 1) (opened_first limits file) 1 limit file end (λ i same number. number) (λ over. first-long limits file (omega (arith, is, over))) e
@@ -117,14 +107,12 @@ module _ (limits : Limits) (sources : List Chosen) (filter : Option (List ℕ �
         by-first (Err x) at ok = cc
 
     pair-within : length debug ≤ file_limit limits → length file + length debug ≤ total_limit limits → counted_pair limits sources name file debug ≡ if_paired (pair_viewed 0 limits.claims name file debug sources)
-    pair-within le total =
-        behind-first ∙ (rw (not-below (file_limit limits) (length debug) le, not-below (total_limit limits) (length file + length debug) total) refl)
+    pair-within le total = behind-first ∙ short-next limits 2 (length file) debug _ le total
 
-    pair-long : min (file_limit limits) (total_limit limits - length file) < length debug → counted_pair limits sources name file debug ≡ Err (TooLong 2)
-    pair-long lt =
-        behind-first ∙ long-choice (nat_lt (file_limit limits) (length debug)) (nat_lt (total_limit limits) (length file + length debug)) _ 2 (grind (arith, nat_tests))
+    pair-long : next_limit limits (length file) < length debug → counted_pair limits sources name file debug ≡ Err (TooLong 2)
+    pair-long lt = behind-first ∙ short-long limits 2 (length file) debug _ lt
 
-    module _ (limit : ℕ) (is : limit ≡ min (file_limit limits) (total_limit limits - length file)) where
+    module _ (limit : ℕ) (is : limit ≡ next_limit limits (length file)) where
       -- A failed read of the debug file.
       pub second-read : (end : Outcome) → Finds 2 limit debug (Err end) → EndsPair limits sources filter name file debug (Err end)
       second-read end e =
@@ -329,8 +317,8 @@ pair-reported f limits p o debug asks a r s t old new counts shows =
 
 -- The debug file is read after the file, which was opened, and then nothing more is read.
 module _ {F : Type 0} (f : FilesGhosts F) (limits : Limits) (name debug : List ℕ) (file : Vec ℕ Global) (limit : ℕ) (read : Result (Vec ℕ Global) Outcome) (s t u : F) (first : OpensFirst f limits name (Ok file) s t)
-    (second : ReadsFile f 2 debug limit read t u) (is : limit ≡ min (file_limit limits) (total_limit limits - length file.items)) where
-  pub pair-limit : limit ≡ min (file_limit limits) (total_limit limits - length (first.batch.bytes 1))
+    (second : ReadsFile f 2 debug limit read t u) (is : limit ≡ next_limit limits (length file.items)) where
+  pub pair-limit : limit ≡ next_limit limits (length (first.batch.bytes 1))
   pair-limit = rw first.batch.ends.0 at is
 
   pub pair-gives : Gives read (f.gave s) (f.gave u) ((name, first.batch.bytes 1) ∷ (debug, second.bytes) ∷ [])

@@ -1,8 +1,7 @@
 -- A location of the only file, which is read or synthetic.
-use Rattle.std.proofs.Common.{◌≡◌, ℕ, ◌+◌, ◌-◌, ◌<◌, ◌≤◌, min, true, false, cond, ◌||◌, nat_lt, List, [], ◌∷◌, ◌++◌, length, Option, None, Some, Result, Ok, Err, refl, ap, ◌∙◌, arith}
+use Rattle.std.proofs.Common.{◌≡◌, ℕ, ◌+◌, ◌-◌, ◌<◌, ◌≤◌, List, [], ◌∷◌, ◌++◌, length, Option, None, Some, Result, Ok, Err, refl, ap, ◌∙◌, arith}
 use Rattle.std.specs.Prelude.{IsOk, Vec, slice_get, unwrap_or}
 use Rattle.std.specs.declared.alloc.Global.{Global}
-use Rattle.std.proofs.lemmas.Bool.Decides.{nat_tests}
 use Rattle.std.proofs.lemmas.Option.{none-some}
 use Rattle.size_core.specs.declared.limits.Limits.{Limits}
 use Rattle.size_core.specs.declared.place.Place.{Place}
@@ -28,10 +27,10 @@ use Rattle.bloaty_engine.specs.Reading.{file_reading, files_to_read, reading_for
 use Rattle.bloaty_engine.specs.Steps.{Finds}
 use Rattle.bloaty_engine.proofs.EndLemmas.{ends-read}
 use Rattle.bloaty_engine.proofs.NextLemmas.{GoesOn, gives-next, reads-next}
-use Rattle.bloaty_engine.proofs.PairLemmas.{not-below}
 use Rattle.bloaty_engine.proofs.ReadLemmas.{OnOk-any, none-name}
+use Rattle.bloaty_engine.proofs.ResultLemmas.{short-long, short-next}
 use Rattle.bloaty_engine.proofs.StepLemmas.{IsPart, files-part, first-part, same-run}
-use Rattle.bloaty_engine.specs.Verdict.{Explained, counted_files, counted_sides, as_explained, end_of_place, explained_file, file_limit, first_name, found, found_by, if_explained, total_limit}
+use Rattle.bloaty_engine.specs.Verdict.{Explained, counted_files, counted_sides, as_explained, end_of_place, explained_file, next_limit, first_name, found, found_by, if_explained}
 
 -- The outcome of an answer about a location.
 pub ends-explained : (decided : Result (List PlaceSource) PlaceAnswer) (why : PlaceAnswer) → Explains (Err why) decided → EndsExplained (if_explained decided) (Err (end_of_place why))
@@ -58,23 +57,19 @@ module _ (limits : Limits) (sources : List Chosen) (files : ℕ → List ℕ) (o
   unfolding found
   found-place r e = ap (λ p. found_by p o.debug limits sources files o) asked ∙ ap (as_explained place) e
 
-  place-long : min (file_limit limits) (total_limit limits) < length (files 1) → explained_file limits sources o place (first_name o) (files 1) ≡ Err (TooLong 1)
+  place-long : next_limit limits 0 < length (files 1) → explained_file limits sources o place (first_name o) (files 1) ≡ Err (TooLong 1)
   unfolding explained_file
-  place-long lt = ap (λ t. cond t (Err (TooLong 1)) (explained_within limits sources o place (files 1)))
-      (let p : (nat_lt (file_limit limits) (length (files 1)) || nat_lt (total_limit limits) (0 + length (files 1))) ≡ true = grind (arith, nat_tests) in p)
+  place-long lt = short-long limits 1 0 (files 1) _ lt
 
-  place-within : length (files 1) ≤ min (file_limit limits) (total_limit limits) → explained_file limits sources o place (first_name o) (files 1) ≡ explained_within limits sources o place (files 1)
+  place-within : length (files 1) ≤ next_limit limits 0 → explained_file limits sources o place (first_name o) (files 1) ≡ explained_within limits sources o place (files 1)
   unfolding explained_file
-  place-within le =
-      let a : nat_lt (file_limit limits) (length (files 1)) ≡ false = not-below (file_limit limits) (length (files 1)) (omega (arith, le)) in
-      let b : nat_lt (total_limit limits) (0 + length (files 1)) ≡ false = not-below (total_limit limits) (0 + length (files 1)) (omega (arith, le)) in
-      rw (a, b) refl
+  place-within le = short-next limits 1 0 (files 1) _ (omega (arith, le)) (omega (arith, le))
 
   -- The only file can't be read, or is too long.
   pub only-ends : (end : Outcome) → o.debug ≡ None → IsOneInput o.synth o.files → ((k : ℕ) → end ≡ ReadFailed (k + 1) → IsUnmade o.synth k)
-      → Finds 1 (min (file_limit limits) (total_limit limits)) (files 1) (Err end) → EndsFinding limits sources files o (Err end)
+      → Finds 1 (next_limit limits 0) (files 1) (Err end) → EndsFinding limits sources files o (Err end)
   only-ends end none one unmade e =
-      ends-read (IsReadFile limits sources files o) (found limits sources files o) 1 (min (file_limit limits) (total_limit limits)) (files 1) end
+      ends-read (IsReadFile limits sources files o) (found limits sources files o) 1 (next_limit limits 0) (files 1) end
       (λ i same number. (0, number, unmade 0 (same ∙ ap ReadFailed number), some-name o.synth o.files (other_names o) one, rw none (none-counted-yet limits sources files o)))
       (λ over. found-place (Err (TooLong 1)) (place-long over)) e
     where
@@ -83,7 +78,7 @@ module _ (limits : Limits) (sources : List Chosen) (files : ℕ → List ℕ) (o
       some-name None (n ∷ names) rest one = omega arith
       some-name (Some n) names rest one = omega arith
 
-  module _ (few : length (files 1) ≤ min (file_limit limits) (total_limit limits)) where
+  module _ (few : length (files 1) ≤ next_limit limits 0) where
     -- The location isn't explained.
     pub place-ends : (end : Outcome) → EndsExplained (explained_within limits sources o place (files 1)) (Err end) → EndsFinding limits sources files o (Err end)
     place-ends (ReadFailed i) e = absurd e
@@ -105,7 +100,7 @@ first-file o none one = by-files o.synth none o.files one
     by-files None none (n ∷ m ∷ files) one = absurd (omega (arith, one))
     by-files (Some n) none files one = cc
 
-pub first-of-run : (limits : Limits) (o : Options) (all : List (List ℕ)) (limit : ℕ) → limit ≡ min (file_limit limits) (total_limit limits) → o.synth ≡ None → o.files ≡ first_name o ∷ []
+pub first-of-run : (limits : Limits) (o : Options) (all : List (List ℕ)) (limit : ℕ) → limit ≡ next_limit limits 0 → o.synth ≡ None → o.files ≡ first_name o ∷ []
     → IsPart (file_reading 1 (first_name o) limit) (reading_for limits o all) 0 0 0
 first-of-run limits o all limit is none files =
     let first = first-part limits (first_name o) [] [] limit is in

@@ -1,5 +1,5 @@
 -- The end of a run from the results of its steps.
-use Rattle.std.proofs.Common.{◌≡◌, ℕ, zero, suc, ◌+◌, Bool, true, false, cond, ◌||◌, nat_lt, List, [], ◌∷◌, length, Option, None, Some, Result, Ok, Err, All, ◌⊎◌, inl, inr, refl, sym, ap, ◌∙◌, arith}
+use Rattle.std.proofs.Common.{◌≡◌, ℕ, zero, suc, ◌+◌, true, nat_lt, List, [], ◌∷◌, length, Option, None, Some, Result, Ok, Err, All, ◌⊎◌, inl, inr, refl, sym, ap, ◌∙◌, arith}
 use Rattle.std.specs.Prelude.{⊤, IsOk, Vec}
 use Rattle.std.specs.declared.alloc.Global.{Global}
 use Rattle.size_core.specs.declared.fault.BadFile.{BadFile}
@@ -25,6 +25,7 @@ use Rattle.run_outcome.specs.declared.outcome.Outcome.TheVariants.{Done, Usage, 
 use Rattle.size_options.specs.Answers.{IsUsageOf}
 use Rattle.size_options.specs.Asked.{asked as options_of}
 use Rattle.bloaty_engine.specs.Answers.{CountsFile, EndsReport, HasReport, IsAnswer, IsAsked, IsFinished, IsReached, IsRun, Writes, is_end}
+use Rattle.bloaty_engine.specs.Devices.{ended}
 use Rattle.bloaty_engine.specs.Given.{Gives, SeenFiles, config_pairs, input_pairs, run_pairs}
 use Rattle.bloaty_engine.specs.Named.{AreContents, AreFiles, AreHeld, Contents, IsText}
 use Rattle.run_outcome.specs.Names.{file_names, other_names}
@@ -39,7 +40,7 @@ use Rattle.bloaty_engine.specs.Reports.{EndsFinding}
 use Rattle.file_profile.specs.Sources.{Chosen, chosen_before, chosen_from, chosen_named, chosen_sources}
 use Rattle.bloaty_engine.specs.Steps.{EndsConfig, EndsPlan}
 use Rattle.bloaty_engine.specs.Stages.{Patterns, is_past}
-use Rattle.bloaty_engine.specs.Verdict.{◌>>=◌, Counted, Explained, Finding, Request, Sides, as_counted, as_explained, asked, config_limit, counted_file, counted_from, counted_pair, counted_sides, customs_in, end_at, end_of_pair, end_of_place, explained_file, file_limit, first_name, found, one_file, found_by, if_config, if_explained, if_paired, if_sound, if_unknown, if_viewed, lengths_of, opened_first, total_limit, verdict}
+use Rattle.bloaty_engine.specs.Verdict.{◌>>=◌, Counted, Explained, Finding, Request, Sides, as_counted, as_explained, asked, config_limit, counted_file, counted_from, counted_pair, counted_sides, customs_in, end_at, end_of_pair, end_of_place, explained_file, first_name, found, one_file, found_by, if_config, if_explained, if_paired, if_sound, if_unknown, if_viewed, lengths_of, opened_first, verdict}
 use Rattle.file_profile.specs.declared.answer.PairAnswer.{PairAnswer}
 use Rattle.file_profile.specs.declared.answer.PairAnswer.TheVariants as pair
 use Rattle.file_profile.specs.declared.answer.PlaceAnswer.{PlaceAnswer}
@@ -52,11 +53,9 @@ use Rattle.bloaty_engine.proofs.GivenLemmas.{given-all, gives-as, gives-behind, 
 use Rattle.bloaty_engine.proofs.HeldLemmas.{held-some}
 use Rattle.bloaty_engine.proofs.LocationLemmas.{explains-file}
 use Rattle.bloaty_engine.proofs.ReadLemmas.{done-is-no-end}
+use Rattle.bloaty_engine.proofs.ResultLemmas.{ok-is, ok-same, short-error, short-some, then-error, then-some}
 use Rattle.bloaty_engine.proofs.SidesLemmas.{behind-held, beyond, front-files}
 use Rattle.bloaty_engine.proofs.StepLemmas.{not-done}
-
-ok-same : {X E : Type 0} (x y : X) → ◌≡◌ {A = Result X E} (Ok x) (Ok y) → x ≡ y
-ok-same x y e = cc
 
 -- The request, case by case.
 
@@ -103,29 +102,12 @@ verdict-files limits o contents r e =
 
 -- The outcomes that a step may have.
 
-IsConfigEnd : Outcome → Type 0
+abbrev IsConfigEnd : Outcome → Type 0
 IsConfigEnd (TooLong zero) = ⊤
 IsConfigEnd (Config kind offset) = ⊤
 IsConfigEnd end = ⊥
 
-config-end : (end other : Outcome) → IsConfigEnd other → other ≡ end → IsConfigEnd end
-config-end end other is same = rw (← same) is
-
-customs-parsed : (parsed : Result (List CustomSource) ConfigFault) (end : Outcome) → if_config parsed ≡ Err end → IsConfigEnd end
-unfolding IsConfigEnd
-customs-parsed (Ok customs) end e = cc
-customs-parsed (Err (kind, offset)) end e = config-end end (Config kind offset) tt (err-same _ _ e)
-
-customs-long : (b : Bool) (parsed : Result (List CustomSource) ConfigFault) (end : Outcome) → cond b (Err (TooLong 0)) (if_config parsed) ≡ Err end → IsConfigEnd end
-unfolding IsConfigEnd
-customs-long true parsed end e = config-end end (TooLong 0) tt (err-same _ _ e)
-customs-long false parsed end e = customs-parsed parsed end e
-
-customs-error : (limits : Limits) (name : Option (List ℕ)) (text : List ℕ) (end : Outcome) → customs_in limits name text ≡ Err end → IsConfigEnd end
-customs-error limits None text end e = cc
-customs-error limits (Some n) text end e = customs-long (nat_lt (config_limit limits) (length text)) (config text) end e
-
-IsFileEnd : Outcome → Type 0
+abbrev IsFileEnd : Outcome → Type 0
 IsFileEnd (TooLong i) = ⊤
 IsFileEnd (Bad i fault offset) = ⊤
 IsFileEnd (TooManyClaims i) = ⊤
@@ -135,106 +117,73 @@ IsFileEnd PlaceOutside = ⊤
 IsFileEnd NoMemory = ⊤
 IsFileEnd end = ⊥
 
+customs-parsed : (parsed : Result (List CustomSource) ConfigFault) (end : Outcome) → if_config parsed ≡ Err end → IsConfigEnd end
+customs-parsed (Ok customs) end e = cc
+customs-parsed (Err (kind, offset)) end e = rw (← err-same _ _ e) tt
+
+customs-error : (limits : Limits) (name : Option (List ℕ)) (text : List ℕ) (end : Outcome) → customs_in limits name text ≡ Err end → IsConfigEnd end
+customs-error limits None text end e = cc
+customs-error limits (Some n) text end e = short-error IsConfigEnd (nat_lt (config_limit limits) (length text)) 0 (if_config (config text)) end tt (customs-parsed (config text)) e
+
 end-is : (i : ℕ) (why : ProfileAnswer) → IsFileEnd (end_at i why)
-unfolding IsFileEnd
 end-is i (profile.Bad bad) = tt
 end-is i why = tt
 
-file-end : (end other : Outcome) → IsFileEnd other → other ≡ end → IsFileEnd end
-file-end end other is same = rw (← same) is
-
 viewed-error : (i : ℕ) (decided : Result FileView ProfileAnswer) (end : Outcome) → if_viewed i decided ≡ Err end → IsFileEnd end
 viewed-error i (Ok f) end e = cc
-viewed-error i (Err why) end e = file-end end (end_at i why) (end-is i why) (err-same _ _ e)
-
-long-error : (b : Bool) (i : ℕ) (decided : Result FileView ProfileAnswer) (end : Outcome) → cond b (Err (TooLong i)) (if_viewed i decided) ≡ Err end → IsFileEnd end
-unfolding IsFileEnd
-long-error true i decided end e = file-end end (TooLong i) tt (err-same _ _ e)
-long-error false i decided end e = viewed-error i decided end e
+viewed-error i (Err why) end e = rw (← err-same _ _ e) (end-is i why)
 
 file-error : (limits : Limits) (sources : List Chosen) (i lengths mapped : ℕ) (name file : List ℕ) (end : Outcome) → counted_file limits sources i lengths mapped name file ≡ Err end → IsFileEnd end
 unfolding counted_file
 file-error limits sources i lengths mapped name file end e =
-    long-error (nat_lt (file_limit limits) (length file) || nat_lt (total_limit limits) (lengths + length file)) i (viewed mapped limits.claims name file sources) end e
+    short-error IsFileEnd _ i _ end tt (viewed-error i (viewed mapped limits.claims name file sources)) e
 
 counted-error : (limits : Limits) (sources : List Chosen) (files : ℕ → List ℕ) (i lengths mapped : ℕ) (names : List (List ℕ)) (end : Outcome) → counted_from limits sources files i lengths mapped names ≡ Err end → IsFileEnd end
 counted-error limits sources files i lengths mapped [] end e = cc
 counted-error limits sources files i lengths mapped (n ∷ names) end e =
-    by-file (counted_file limits sources i lengths mapped n (files i)) refl (λ f x at. counted-error limits sources files (i + 1) (lengths + f.len) (mapped + mapped_count f.loads) names x at)
-  where
-    Next : Type 0
-    Next = (f : FileView) (x : Outcome) → counted_from limits sources files (i + 1) (lengths + f.len) (mapped + mapped_count f.loads) names ≡ Err x → IsFileEnd x
-
-    by-rest : (f : FileView) (r : Result (List FileView) Outcome) → counted_from limits sources files (i + 1) (lengths + f.len) (mapped + mapped_count f.loads) names ≡ r → (r >>= λ others. Ok (f ∷ others)) ≡ Err end → Next → IsFileEnd end
-    by-rest f (Ok gs) at wrong next = cc
-    by-rest f (Err x) at wrong next = file-end end x (next f x at) (err-same _ _ wrong)
-
-    by-file : (r : Result FileView Outcome) → counted_file limits sources i lengths mapped n (files i) ≡ r → Next → IsFileEnd end
-    by-file (Ok f) at next = by-rest f (counted_from limits sources files (i + 1) (lengths + f.len) (mapped + mapped_count f.loads) names) refl (rw at at e) next
-    by-file (Err x) at next = file-end end x (file-error limits sources i lengths mapped n (files i) x at) (err-same _ _ (rw at at e))
+    then-error IsFileEnd (counted_file limits sources i lengths mapped n (files i)) _ end (file-error limits sources i lengths mapped n (files i))
+    (λ f rest. then-error IsFileEnd (counted_from limits sources files (i + 1) (lengths + f.len) (mapped + mapped_count f.loads) names) _ end
+    (λ x at. counted-error limits sources files (i + 1) (lengths + f.len) (mapped + mapped_count f.loads) names x at) (λ others wrong. cc) rest) e
 
 sides-error : (limits : Limits) (sources : List Chosen) (files : ℕ → List ℕ) (names bases : List (List ℕ)) (end : Outcome) → counted_sides limits sources files names bases ≡ Err end → IsFileEnd end
 unfolding counted_sides
-sides-error limits sources files names bases end e = by-files (counted_from limits sources files 1 0 0 names) refl
-  where
-    by-bases : (fs : List FileView) (r : Result (List FileView) Outcome) → counted_from limits sources files (length names + 1) (lengths_of fs) 0 bases ≡ r → ◌>>=◌ {B = Sides} r (λ bs. Ok (record { files = fs; bases = bs })) ≡ Err end → IsFileEnd end
-    by-bases fs (Ok bs) at wrong = cc
-    by-bases fs (Err x) at wrong = file-end end x (counted-error limits sources files (length names + 1) (lengths_of fs) 0 bases x at) (err-same _ _ wrong)
-
-    by-files : (r : Result (List FileView) Outcome) → counted_from limits sources files 1 0 0 names ≡ r → IsFileEnd end
-    by-files (Ok fs) at = by-bases fs (counted_from limits sources files (length names + 1) (lengths_of fs) 0 bases) refl (rw at at e)
-    by-files (Err x) at = file-end end x (counted-error limits sources files 1 0 0 names x at) (err-same _ _ (rw at at e))
+sides-error limits sources files names bases end e =
+    then-error IsFileEnd (counted_from limits sources files 1 0 0 names) _ end (counted-error limits sources files 1 0 0 names)
+    (λ fs rest. then-error IsFileEnd (counted_from limits sources files (length names + 1) (lengths_of fs) 0 bases) _ end (counted-error limits sources files (length names + 1) (lengths_of fs) 0 bases) (λ bs wrong. cc) rest) e
 
 pair-is : (why : PairAnswer) → IsFileEnd (end_of_pair why)
-unfolding IsFileEnd
 pair-is (pair.Bad i bad) = tt
 pair-is why = tt
 
 paired-error : (decided : Result FileView PairAnswer) (end : Outcome) → if_paired decided ≡ Err end → IsFileEnd end
 paired-error (Ok f) end e = cc
-paired-error (Err why) end e = file-end end (end_of_pair why) (pair-is why) (err-same _ _ e)
+paired-error (Err why) end e = rw (← err-same _ _ e) (pair-is why)
 
 place-is : (why : PlaceAnswer) → IsFileEnd (end_of_place why)
-unfolding IsFileEnd
 place-is (explaining.Bad bad) = tt
 place-is why = tt
 
 explained-error : (decided : Result (List PlaceSource) PlaceAnswer) (end : Outcome) → if_explained decided ≡ Err end → IsFileEnd end
 explained-error (Ok said) end e = cc
-explained-error (Err why) end e = file-end end (end_of_place why) (place-is why) (err-same _ _ e)
-
--- A file over a limit is too long. Any other file has the result of the next step.
-short-error : {X : Type 0} (b : Bool) (i : ℕ) (next : Result X Outcome) (end : Outcome) → ((x : Outcome) → next ≡ Err x → IsFileEnd x) → cond b (Err (TooLong i)) next ≡ Err end → IsFileEnd end
-unfolding IsFileEnd
-short-error true i next end decided e = file-end end (TooLong i) tt (err-same _ _ e)
-short-error false i next end decided e = decided end e
+explained-error (Err why) end e = rw (← err-same _ _ e) (place-is why)
 
 sound-error : (o : Result Binary BadFile) (end : Outcome) → if_sound o ≡ Err end → IsFileEnd end
-unfolding IsFileEnd
 sound-error (Ok binary) end e = cc
-sound-error (Err bad) end e = file-end end (Bad 1 bad.fault bad.offset) tt (err-same _ _ e)
+sound-error (Err bad) end e = rw (← err-same _ _ e) tt
 
 first-error : (limits : Limits) (file : List ℕ) (end : Outcome) → opened_first limits file ≡ Err end → IsFileEnd end
 unfolding opened_first
-first-error limits file end e =
-    short-error (nat_lt (file_limit limits) (length file) || nat_lt (total_limit limits) (0 + length file)) 1 (if_sound (opened file)) end (sound-error (opened file)) e
+first-error limits file end e = short-error IsFileEnd _ 1 _ end tt (sound-error (opened file)) e
 
 pair-error : (limits : Limits) (sources : List Chosen) (name file debug : List ℕ) (end : Outcome) → counted_pair limits sources name file debug ≡ Err end → IsFileEnd end
 unfolding counted_pair
-pair-error limits sources name file debug end e = by-first (opened_first limits file) refl e
-  where
-    by-first : (r : Result Binary Outcome) → opened_first limits file ≡ r
-        → (r >>= λ binary. cond (nat_lt (file_limit limits) (length debug) || nat_lt (total_limit limits) (length file + length debug)) (Err (TooLong 2)) (if_paired (pair_viewed 0 limits.claims name file debug sources))) ≡ Err end → IsFileEnd end
-    by-first (Ok binary) at wrong =
-        short-error (nat_lt (file_limit limits) (length debug) || nat_lt (total_limit limits) (length file + length debug)) 2 (if_paired (pair_viewed 0 limits.claims name file debug sources)) end
-        (paired-error (pair_viewed 0 limits.claims name file debug sources)) wrong
-    by-first (Err x) at wrong = file-end end x (first-error limits file x at) (err-same _ _ wrong)
+pair-error limits sources name file debug end e =
+    then-error IsFileEnd (opened_first limits file) _ end (first-error limits file) (λ binary rest. short-error IsFileEnd _ 2 _ end tt (paired-error (pair_viewed 0 limits.claims name file debug sources)) rest) e
 
 place-error : (limits : Limits) (sources : List Chosen) (o : Options) (place : Place) (name file : List ℕ) (end : Outcome) → explained_file limits sources o place name file ≡ Err end → IsFileEnd end
 unfolding explained_file
 place-error limits sources o place name file end e =
-    short-error (nat_lt (file_limit limits) (length file) || nat_lt (total_limit limits) (0 + length file)) 1 _ end
-    (explained-error (explained_place limits.claims o.limit place name file (named_sources o.sources sources))) e
+    short-error IsFileEnd _ 1 _ end tt (explained-error (explained_place limits.claims o.limit place name file (named_sources o.sources sources))) e
 
 counted-err : (r : Result Sides Outcome) (end : Outcome) → as_counted r ≡ Err end → r ≡ Err end
 counted-err (Ok s) end e = cc
@@ -276,47 +225,31 @@ planned-count customs names sources e = chosen-count customs 1 names sources e
 
 -- Reading the configuration never ends a run by a pattern.
 pub config-never-big : (limits : Limits) (name : Option (List ℕ)) (text : List ℕ) (i : ℕ) → EndsConfig limits name text (Err (PatternTooBig i)) → ⊥
-unfolding IsConfigEnd
 config-never-big limits name text i e = customs-error limits name text (PatternTooBig i) e
 
 pub config-never-bad : (limits : Limits) (name : Option (List ℕ)) (text : List ℕ) (i : ℕ) → EndsConfig limits name text (Err (PatternSyntax i)) → ⊥
-unfolding IsConfigEnd
 config-never-bad limits name text i e = customs-error limits name text (PatternSyntax i) e
 
 -- It never ends a run past the patterns.
 pub config-never-past : (limits : Limits) (name : Option (List ℕ)) (text : List ℕ) (end : Outcome) → EndsConfig limits name text (Err end) → is_past Patterns end ≡ true → ⊥
-unfolding IsConfigEnd
 config-never-past limits name text (ReadFailed zero) e past = cc
 config-never-past limits name text (ReadFailed (suc k)) e past = omega (arith, e.0)
 config-never-past limits name text NoMemory e past = cc
 config-never-past limits name text (TooLong zero) e past = cc
 config-never-past limits name text (Config kind offset) e past = cc
-config-never-past limits name text (Usage kind) e past = cc
-config-never-past limits name text (UnknownSource i) e past = cc
-config-never-past limits name text (PatternSyntax i) e past = cc
-config-never-past limits name text (PatternTooBig i) e past = cc
 config-never-past limits name text end e past = customs-error limits name text end e
 
 -- With a debug file the sizes are those of the file alone.
 
 pair-file : (limits : Limits) (sources : List Chosen) (name file debug : List ℕ) (s : Sides) → counted_pair limits sources name file debug ≡ Ok s → All (IsOfFile file) s.files
 unfolding counted_pair
-pair-file limits sources name file debug s e = by-first (opened_first limits file) e
+pair-file limits sources name file debug s e = by-view (pair_viewed 0 limits.claims name file debug sources) refl (short-some _ 2 _ s (then-some (opened_first limits file) _ s e).1)
   where
     by-view : (r : Result FileView PairAnswer) → pair_viewed 0 limits.claims name file debug sources ≡ r → if_paired r ≡ Ok s → All (IsOfFile file) s.files
     by-view (Ok f) at is =
         let same : one_file f ≡ s = ok-same (one_file f) s is in
         rw (← same) (All-cons (IsOfFile file) f [] (of-file 0 limits.claims name sources f file debug at) (λ k d lt. absurd (omega (arith, lt))))
     by-view (Err why) at is = cc
-
-    by-length : (b : Bool) → cond b (Err (TooLong 2)) (if_paired (pair_viewed 0 limits.claims name file debug sources)) ≡ Ok s → All (IsOfFile file) s.files
-    by-length true is = cc
-    by-length false is = by-view (pair_viewed 0 limits.claims name file debug sources) refl is
-
-    by-first : (r : Result Binary Outcome)
-        → (r >>= λ binary. cond (nat_lt (file_limit limits) (length debug) || nat_lt (total_limit limits) (length file + length debug)) (Err (TooLong 2)) (if_paired (pair_viewed 0 limits.claims name file debug sources))) ≡ Ok s → All (IsOfFile file) s.files
-    by-first (Ok binary) is = by-length (nat_lt (file_limit limits) (length debug) || nat_lt (total_limit limits) (length file + length debug)) is
-    by-first (Err x) is = cc
 
 counts-file : (limits : Limits) (sources : List Chosen) (files : ℕ → List ℕ) (o : Options) (finding : Finding) (place : Option Place) (debug : List ℕ) → found_by place (Some debug) limits sources files o ≡ Ok finding
     → CountsFile (files 1) finding
@@ -338,11 +271,9 @@ counts-stripped limits sources files o finding e debug is = counts-file limits s
 
 -- A file never ends a run by a pattern.
 pub never-big : (limits : Limits) (sources : List Chosen) (files : ℕ → List ℕ) (o : Options) (i : ℕ) → EndsFinding limits sources files o (Err (PatternTooBig i)) → ⊥
-unfolding IsFileEnd
 never-big limits sources files o i e = found-error limits sources files o (PatternTooBig i) e
 
 pub never-bad : (limits : Limits) (sources : List Chosen) (files : ℕ → List ℕ) (o : Options) (i : ℕ) → EndsFinding limits sources files o (Err (PatternSyntax i)) → ⊥
-unfolding IsFileEnd
 never-bad limits sources files o i e = found-error limits sources files o (PatternSyntax i) e
 
 -- The result of the run from its steps.
@@ -381,7 +312,6 @@ module _ (held : Option Pairs) (limits : Limits) (o : Options) (last text : List
   from-verdict end e = verdict-asked limits o unread end (asked-config limits o unread end e)
 
   config-ended : (end : Outcome) → EndsConfig limits o.config text (Err end) → EndsReport limits o last unread (Err end)
-  unfolding IsConfigEnd
   config-ended (ReadFailed zero) e = ((o, refl, e.1), (λ p. cc), refl)
   config-ended (ReadFailed (suc k)) e = absurd (omega (arith, e.0))
   config-ended NoMemory e = (tt, (λ p. cc), refl)
@@ -452,7 +382,7 @@ module _ (held : Option Pairs) (limits : Limits) (o : Options) (last text : List
 
       -- The run ends at its files, or it has a report.
       finding-ended : (r : Result (Vec ℕ Global) Outcome) → EndsFinding limits p.sources files o r → EndsReport limits o last read r
-      unfolding IsFileEnd found-read contents-of read request-of
+      unfolding found-read contents-of read request-of
       finding-ended (Ok out) e = (
         record {
           found = record { request = request-of o customs p.sources; finding = e.0 };
@@ -556,40 +486,26 @@ module _ (seen : SeenFiles) (limits : Limits) (last : List ℕ) (o : Options) (c
   reported P text has so =
       record { found = has.found; text = has.text; decided = has.decided; report = has.report; stripped = has.stripped; explained = has.explained; so = rw has.so so }
 
-  decided-ok : {X : Type 0} (r : Result X Outcome) (x : X) → r ≡ Ok x → IsOk r
-  decided-ok (Ok y) x e = refl
-  decided-ok (Err y) x e = cc
-
-  wrote-all : (old new : Option (List ℕ)) (text : Vec ℕ Global) → EndsReport limits o last contents (Ok text) → Gives (Ok text) seen.before seen.after (run_pairs (Ok o) contents) → Grew old new text.items
-      → IsRun seen limits (Ok o) last old new Done
-  wrote-all old new text e gave grew = record {
+  -- A run that writes its report, or a part of it.
+  wrote : (old new : Option (List ℕ)) (text : Vec ℕ Global) (outcome : Outcome) → EndsReport limits o last contents (Ok text) → Gives (ended outcome) seen.before seen.after (run_pairs (Ok o) contents)
+      → IsAnswer limits (Ok o) contents last outcome → Writes limits (Ok o) contents old new outcome → IsFinished outcome → IsRun seen limits (Ok o) last old new outcome
+  wrote old new text outcome e gave answer written finished = record {
     contents = contents;
     bytes = own-bytes;
-    gave = gives-as text (Ok tt) seen.before seen.after (run_pairs (Ok o) contents) gave;
-    answer = decided-ok _ e.0.found e.0.decided;
+    gave = gave;
+    answer = answer;
     patterns = λ q. e.1;
-    written = reported (Grew old new) text.items e.0 grew;
-    complete = λ ok. tt;
+    written = written;
+    complete = λ ok. finished;
   }
 
-  wrote-part : (old new : Option (List ℕ)) (text : Vec ℕ Global) → EndsReport limits o last contents (Ok text) → Gives (Ok text) seen.before seen.after (run_pairs (Ok o) contents) → GrewByPart old new text.items
-      → IsRun seen limits (Ok o) last old new WriteFailed
-  wrote-part old new text e gave grew = record {
-    contents = contents;
-    bytes = own-bytes;
-    gave = gives-as text (Err WriteFailed) seen.before seen.after (run_pairs (Ok o) contents) gave;
-    answer = decided-ok _ e.0.found e.0.decided;
-    patterns = λ q. e.1;
-    written = reported (GrewByPart old new) text.items e.0 grew;
-    complete = λ ok. tt;
-  }
-
-  -- A run that writes its report.
   pub run-writes : (old new : Option (List ℕ)) (text : Vec ℕ Global) (outcome : Outcome) → EndsReport limits o last contents (Ok text) → Gives (Ok text) seen.before seen.after (run_pairs (Ok o) contents)
       → (outcome ≡ Done) ⊎ (outcome ≡ WriteFailed)
       → (outcome ≡ Done → Grew old new text.items) → (outcome ≡ WriteFailed → GrewByPart old new text.items) → IsRun seen limits (Ok o) last old new outcome
-  run-writes old new text outcome e gave (inl is) done part = rw is (wrote-all old new text e gave (done is))
-  run-writes old new text outcome e gave (inr is) done part = rw is (wrote-part old new text e gave (part is))
+  run-writes old new text outcome e gave (inl is) done part =
+      rw is (wrote old new text Done e (gives-as text (Ok tt) _ _ _ gave) (ok-is _ e.0.found e.0.decided) (reported (Grew old new) text.items e.0 (done is)) tt)
+  run-writes old new text outcome e gave (inr is) done part =
+      rw is (wrote old new text WriteFailed e (gives-as text (Err WriteFailed) _ _ _ gave) (ok-is _ e.0.found e.0.decided) (reported (GrewByPart old new) text.items e.0 (part is)) tt)
 
 -- A run whose arguments are misused.
 pub usage-run : (held : Option Pairs) (before : Pairs) (limits : Limits) (words : List (List ℕ)) (last : List ℕ) (out : Option (List ℕ)) (kind : UsageKind) → IsUsageOf words kind

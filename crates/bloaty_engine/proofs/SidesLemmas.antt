@@ -1,6 +1,6 @@
 -- Files and base files, counted one after the other.
 use Rattle.std.proofs.Common.{◌≡◌, ℕ, ◌+◌, ◌-◌, ◌<◌, ◌≤◌, true, false, cond, nat_le, List, [], ◌∷◌, ◌++◌, length, take, Option, None, Some, Result, Ok, Err, refl, sym, ap, ◌∙◌, arith}
-use Rattle.std.specs.Prelude.{IsOk, IsErrOf, OnOk, if◌then◌else◌, Vec}
+use Rattle.std.specs.Prelude.{IsErrOf, OnOk, if◌then◌else◌, Vec}
 use Rattle.std.specs.declared.alloc.Global.{Global}
 use Rattle.std.proofs.lemmas.Bool.Decides.{nat_tests}
 use Rattle.std.proofs.lemmas.List.{length-append, length-take-le, take_all}
@@ -38,6 +38,7 @@ use Rattle.bloaty_engine.proofs.GivenLemmas.{pairs-same}
 use Rattle.bloaty_engine.proofs.NextLemmas.{PrintsTotal, Shows, gives-next, reads-next, shows-next, shows-ok}
 use Rattle.bloaty_engine.proofs.ReadLemmas.{OnOk-then, take-none}
 use Rattle.bloaty_engine.proofs.ReportLemmas.{growth-order, rows-show, size-order, totals-whole}
+use Rattle.bloaty_engine.proofs.ResultLemmas.{ok-is, ok-some}
 use Rattle.bloaty_engine.proofs.StepLemmas.{same-run}
 
 -- Without base files the text of a total is its report.
@@ -129,10 +130,6 @@ size-report sources o filter same depth t files has totals text is =
       is = is ∙ ap (printed o) tree;
     }
 
-is-ok : {X E : Type 0} (r : Result X E) → IsOk r → (x : X) × (r ≡ Ok x)
-is-ok (Ok x) ok = (x, refl)
-is-ok (Err e) ok = cc
-
 take-front : (names rest : List (List ℕ)) (k : ℕ) → k ≤ length names → take (k - length names) rest ≡ []
 take-front names rest k le =
     let p : k - length names ≡ 0 = omega arith in
@@ -168,10 +165,6 @@ module _ (limits : Limits) (sources : List Chosen) (o : Options) (filter : Optio
   Counts : Result (Vec ℕ Global) Outcome → Type 0
   Counts r = EndsCounting limits sources all o r
 
-  ok-is : {X E : Type 0} (r : Result X E) (x : X) → r ≡ Ok x → IsOk r
-  ok-is (Ok y) x e = refl
-  ok-is (Err y) x e = cc
-
   front-at : (i : ℕ) → ((k : ℕ) → ReadFailed i ≡ ReadFailed (k + 1) → IsUnmade o.synth k) → IsFileOf limits sources (batch_of 0 0 (file_names o)) a i → IsCountedFile limits sources (beyond (length (file_names o)) a b) o i
   unfolding count all
   front-at i unmade e =
@@ -180,7 +173,7 @@ module _ (limits : Limits) (sources : List Chosen) (o : Options) (filter : Optio
       let some = length-append (file_names o) o.bases in
       let inside : k ≤ length (file_names o) = omega (arith, e.2) in
       let le : length (take k (file_names o)) ≤ count = omega (arith, length-take-le k (file_names o) inside, inside) in
-      let fs = is-ok _ e.3 in
+      let fs : (gs : List FileView) × (counted_from limits sources a 1 0 0 (take k (file_names o)) ≡ Ok gs) = ok-some _ e.3 in
       (k, number, unmade k (ap ReadFailed number), omega (arith, e.2, some), rw (take-front (file_names o) o.bases k (omega (arith, e.2))) (ok-is _ _ (sides-none (take k (file_names o)) fs.0 le fs.1)))
 
   -- The run ends at the files.
@@ -235,7 +228,7 @@ module _ (limits : Limits) (sources : List Chosen) (o : Options) (filter : Optio
         let long = length-append (file_names o) o.bases in
         let names : take (count + k) (file_names o) ≡ file_names o = take_all (count + k) (file_names o) (omega arith) in
         let bases : count + k - length (file_names o) ≡ k = omega arith in
-        let bs = is-ok _ g.3 in
+        let bs = ok-some _ g.3 in
         (count + k, number, unmade-behind o.synth o.files k, omega (arith, g.2, long), rw (names, bases) (ok-is _ _ (sides-behind e.0 (take k o.bases) (Ok bs.0) e.1 (rw (← e.2.lengths) bs.1))))
       where
         unmade-behind : (synth : Option ℕ) (files : List (List ℕ)) (k : ℕ) → IsUnmade synth (length (names_of synth files) + k)

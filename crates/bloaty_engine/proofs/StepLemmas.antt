@@ -1,6 +1,6 @@
 -- Steps of a run one after the other. The run has read what its steps have read.
 use Rattle.std.proofs.Common.{◌≡◌, ℕ, zero, suc, ◌+◌, ◌-◌, ◌<◌, ◌≤◌, Bool, true, false, cond, nat_lt, List, [], ◌∷◌, ◌++◌, length, take, drop, Option, None, Some, Result, Ok, Err, ◌⊎◌, inl, inr, codes, refl, sym, ap, ◌∙◌, arith}
-use Rattle.std.specs.Prelude.{⊤, IfSome, OnOk, Vec, slice_get, min}
+use Rattle.std.specs.Prelude.{⊤, IfSome, OnOk, Vec, slice_get}
 use Rattle.std.specs.declared.alloc.Global.{Global}
 use Rattle.std.proofs.lemmas.Bool.Decides.{nat_tests}
 use Rattle.std.proofs.lemmas.List.{append-nil, take-append-drop, take_all}
@@ -18,7 +18,7 @@ use Rattle.run_outcome.specs.Names.{file_names, name_at, names_of, other_names}
 use Rattle.bloaty_engine.specs.Devices.{Reads, ReadsFirst, ended}
 use Rattle.bloaty_engine.specs.Reading.{Reading, config_most, config_names, config_reading, file_reading, least_taken, made_len, numbered, read_upto, reading_for, run_reading, unmade_names}
 use Rattle.bloaty_engine.specs.Steps.{Batch, batch_of, batch_reading}
-use Rattle.bloaty_engine.specs.Verdict.{file_limit, total_limit}
+use Rattle.bloaty_engine.specs.Verdict.{file_limit, next_limit, total_limit}
 use Rattle.bloaty_engine.specs.Stages.{ends_without, is_failed_read}
 use Rattle.bloaty_engine.proofs.ReadLemmas.{OnOk-any, OnOk-then, base-name, get-front, reads-as-many, reads-behind, reads-more, reads-none, reads-whole, take-length, take-next}
 use Rattle.bloaty_engine.proofs.TakenLemmas.{at-least-any, at-least-behind, at-least-less, left-over, most-over, rose-later, some-limit, some-most}
@@ -250,9 +250,9 @@ single-at first i name n at = by-index (numbered-at first i (name ∷ []) n at)
 
 -- A file of a batch, if this many bytes were read before it.
 pub batch-part : (limits : Limits) (b : Batch) (k before lengths limit taken : ℕ) (name : List ℕ) (names : List (List ℕ)) → before ≡ k → slice_get b.names k ≡ Some name → lengths ≡ b.before + taken → lengths ≤ total_limit limits
-    → limit ≡ min (file_limit limits) (total_limit limits - lengths)
+    → limit ≡ next_limit limits lengths
     → IsPart (file_reading (b.first + k) name limit)
-    (record { names = names; name_of = numbered b.first b.names; upto = λ i. i + 1 - b.first; least = λ i. min (file_limit limits) (total_limit limits - b.before) + 1; most = total_limit limits - b.before + 1 }) before taken taken
+    (record { names = names; name_of = numbered b.first b.names; upto = λ i. i + 1 - b.first; least = λ i. next_limit limits b.before + 1; most = total_limit limits - b.before + 1 }) before taken taken
 batch-part limits b k before lengths limit taken name names count at are within is = record {
   name_of = λ i n here. named i n (single-at (b.first + k) i name n here);
   upto = λ i n here. let number = (single-at (b.first + k) i name n here).0 in omega (arith, number, count);
@@ -269,13 +269,13 @@ front limits b k = record {
   names = take k b.names;
   name_of = numbered b.first b.names;
   upto = λ i. i + 1 - b.first;
-  least = λ i. min (file_limit limits) (total_limit limits - b.before) + 1;
+  least = λ i. next_limit limits b.before + 1;
   most = total_limit limits - b.before + 1;
 }
 
 -- The next file of a batch was read, after the first k files.
 pub batch-file : {F : Type 0} (f : FilesGhosts F) (limits : Limits) (b : Batch) (k lengths limit taken : ℕ) (name : List ℕ) (r : Result (Vec ℕ Global) Outcome) (s t u : F) → slice_get b.names k ≡ Some name → lengths ≡ b.before + taken → lengths ≤ total_limit limits
-    → limit ≡ min (file_limit limits) (total_limit limits - lengths) → Reads {X = ⊤} f (front limits b k) (Ok tt) s t → IsTaken (f.held s) taken (f.taken s) (f.taken t) → Reads f (file_reading (b.first + k) name limit) r t u → Reads f (front limits b (k + 1)) r s u
+    → limit ≡ next_limit limits lengths → Reads {X = ⊤} f (front limits b k) (Ok tt) s t → IsTaken (f.held s) taken (f.taken s) (f.taken t) → Reads f (file_reading (b.first + k) name limit) r t u → Reads f (front limits b (k + 1)) r s u
 batch-file f limits b k lengths limit taken name r s t u at are within is before had read =
     let inside : k < length b.names = slice_get_within b.names k name at in
     let part = batch-part limits b k (length (take k b.names)) lengths limit taken name (take (k + 1) b.names) (take-length b.names k (omega (arith, inside))) at are within is in
@@ -291,11 +291,10 @@ pub front-rest : (names : List (List ℕ)) (k : ℕ) → names ≡ take k names 
 front-rest names k = sym (take-append-drop k names)
 
 -- The first file of a run.
-pub first-part : (limits : Limits) (name : List ℕ) (names rest : List (List ℕ)) (limit : ℕ) → limit ≡ min (file_limit limits) (total_limit limits)
+pub first-part : (limits : Limits) (name : List ℕ) (names rest : List (List ℕ)) (limit : ℕ) → limit ≡ next_limit limits 0
     → IsPart (file_reading 1 name limit) (batch_reading limits (batch_of 0 0 (name ∷ rest))) 0 0 0
 first-part limits name names rest limit is =
-    let left : limit ≡ min (file_limit limits) (total_limit limits - 0) = omega (arith, is) in
-    let part = batch-part limits (batch_of 0 0 (name ∷ rest)) 0 0 0 limit 0 name (name ∷ rest) refl refl (omega arith) (omega arith) left in
+    let part = batch-part limits (batch_of 0 0 (name ∷ rest)) 0 0 0 limit 0 name (name ∷ rest) refl refl (omega arith) (omega arith) is in
     record { name_of = part.name_of; upto = part.upto; least = part.least; most = part.most }
 
 -- The files of a batch in a longer one.
@@ -306,7 +305,7 @@ front-part limits first before names rest = record { name_of = λ i n at. named 
     named : (i : ℕ) (n : List ℕ) → (k : ℕ) × (i ≡ first + k) × (slice_get names k ≡ Some n) → numbered first (names ++ rest) i ≡ Some n
     named i n a = rw a.1 (numbered-first first a.0 (names ++ rest) ∙ get-front names rest a.0 n a.2)
 
-least-file : (limits : Limits) (i : ℕ) → 0 < i → least_taken limits None i ≡ min (file_limit limits) (total_limit limits - 0) + 1
+least-file : (limits : Limits) (i : ℕ) → 0 < i → least_taken limits None i ≡ next_limit limits 0 + 1
 least-file limits zero lt = absurd (omega arith)
 least-file limits (suc i) lt = refl
 
@@ -319,7 +318,7 @@ files-part limits o names all none named = record {
   least = λ i n at.
       let a = numbered-at 1 i names n at in
       let lt : 0 < i = omega (arith, a.1) in
-      let same : least_taken limits o.synth i ≡ min (file_limit limits) (total_limit limits - 0) + 1 = ap (λ s. least_taken limits s i) none ∙ least-file limits i lt in
+      let same : least_taken limits o.synth i ≡ next_limit limits 0 + 1 = ap (λ s. least_taken limits s i) none ∙ least-file limits i lt in
       omega (arith, same);
   most = omega (arith, ap made_len none);
 }
@@ -335,7 +334,7 @@ made-unread f limits o n is r s unread_all long =
 
 -- Base files, after files with this many bytes.
 base-least : (limits : Limits) (synth : Option ℕ) (files : List (List ℕ)) (lengths i : ℕ) → length (names_of synth files) < i → made_len synth ≤ lengths → lengths ≤ total_limit limits
-    → least_taken limits synth i ≤ (lengths - made_len synth) + (min (file_limit limits) (total_limit limits - lengths) + 1)
+    → least_taken limits synth i ≤ (lengths - made_len synth) + (next_limit limits lengths + 1)
 base-least limits None files lengths i lt made within = rw (least-file limits i (omega (arith, lt))) (left-over (file_limit limits) (total_limit limits) 0 lengths made within)
 base-least limits (Some n) files lengths zero lt made within = absurd (omega arith)
 base-least limits (Some n) files lengths (suc zero) lt made within = absurd (omega arith)

@@ -1,11 +1,11 @@
 -- Which files a run reads, in which order, and how many bytes it reads of them.
-use Rattle.std.specs.Prelude.{ℕ, zero, suc, ◌+◌, ◌-◌, min, nat_lt, if◌then◌else◌, List, [], ◌∷◌, ◌++◌, length, slice_get, Option, None, Some, Result, Ok, Err}
+use Rattle.std.specs.Prelude.{ℕ, zero, suc, ◌+◌, ◌-◌, nat_lt, if◌then◌else◌, List, [], ◌∷◌, ◌++◌, length, slice_get, Option, None, Some, Result, Ok, Err}
 use Rattle.size_core.specs.declared.limits.Limits.{Limits}
 use Rattle.elf_synth.specs.Made.{made}
 use Rattle.size_options.specs.declared.run_options.Options.{Options}
 use Rattle.size_options.specs.declared.errors.UsageKind.{UsageKind}
 use Rattle.run_outcome.specs.Names.{name_at, other_names}
-use Rattle.bloaty_engine.specs.Verdict.{config_limit, file_limit, total_limit}
+use Rattle.bloaty_engine.specs.Verdict.{config_limit, next_limit, total_limit}
 
 -- The configuration, if there is one.
 abbrev pub config_names : Option (List ℕ) → List (List ℕ)
@@ -35,7 +35,7 @@ made_len (Some n) = length (made n)
 abbrev pub least_taken : Limits → Option ℕ → ℕ → ℕ
 least_taken limits synth zero = config_limit limits + 1
 least_taken limits (Some n) (suc zero) = 0
-least_taken limits synth (suc k) = min (file_limit limits) (total_limit limits - made_len synth) + 1
+least_taken limits synth (suc k) = next_limit limits (made_len synth) + 1
 
 -- Files that are read one after the other.
 --

@@ -1,5 +1,5 @@
 -- The results of the steps of a run.
-use Rattle.std.specs.Prelude.{◌≡◌, ℕ, ◌+◌, ◌-◌, min, ◌<◌, ◌≤◌, ⊤, Bool, List, length, take, Option, Some, Result, Ok, Err, Vec, IsOk}
+use Rattle.std.specs.Prelude.{◌≡◌, ℕ, ◌+◌, ◌-◌, ◌<◌, ◌≤◌, ⊤, Bool, List, length, take, Option, Some, Result, Ok, Err, Vec, IsOk}
 use Rattle.std.specs.List.{sum_by}
 use Rattle.std.specs.declared.alloc.Global.{Global}
 use Rattle.size_core.specs.declared.limits.Limits.{Limits}
@@ -15,7 +15,7 @@ use Rattle.custom_rewrites.specs.Pattern.{IsNoPattern}
 use Rattle.file_profile.specs.Patterns.{StopsAt}
 use Rattle.file_profile.specs.Sources.{Chosen, chosen_sources}
 use Rattle.bloaty_engine.specs.Reading.{Reading, reading_from}
-use Rattle.bloaty_engine.specs.Verdict.{counted_from, customs_in, file_limit, total_limit}
+use Rattle.bloaty_engine.specs.Verdict.{counted_from, customs_in, next_limit, total_limit}
 
 -- A read of file i found these bytes, under this limit: it returned them, or they are more than the limit.
 abbrev pub Finds : ℕ → ℕ → List ℕ → Result (Vec ℕ Global) Outcome → Type 0
@@ -68,7 +68,7 @@ batch_of count lengths names = record { first = count + 1; before = lengths; nam
 -- The files of a batch as a reading, within what the limits leave.
 abbrev pub batch_reading : Limits → Batch → Reading
 batch_reading limits b =
-    reading_from b.first b.names (min (file_limit limits) (total_limit limits - b.before) + 1) (total_limit limits - b.before + 1)
+    reading_from b.first b.names (next_limit limits b.before + 1) (total_limit limits - b.before + 1)
 
 -- The files of a batch as they are counted, or the outcome that ends the run at one of them.
 abbrev pub counted_batch : Limits → List Chosen → (ℕ → List ℕ) → Batch → Result (List FileView) Outcome

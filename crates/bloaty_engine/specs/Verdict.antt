@@ -48,6 +48,10 @@ file_limit limits = min limits.file (2 ^ 32 - 1)
 abbrev pub total_limit : Limits → ℕ
 total_limit limits = min limits.total (2 ^ 62)
 
+-- The largest length in bytes of a file that is read after other files, whose lengths add up to `lengths`.
+abbrev pub next_limit : Limits → ℕ → ℕ
+next_limit limits lengths = min (file_limit limits) (total_limit limits - lengths)
+
 -- Misused arguments end a run.
 abbrev pub if_usage : Result Options UsageKind → Result Options Outcome
 if_usage (Ok options) = Ok options

@@ -1,12 +1,13 @@
 //! The files of a run, read and counted one after the other.
 
-ghost use Rattle.std.specs.Prelude.{◌≡◌, length};
+ghost use Rattle.std.specs.Prelude.{◌≡◌, ◌≤◌, length};
+ghost use Rattle.elf_synth.specs.Made.{made};
 ghost use Rattle.size_options.specs.Answers.{IsOneInput};
-ghost use Rattle.bloaty_engine.specs.FileSteps.{AddsFile, CanCount, CanMake, CountsBatch, CountsMade, FitsTotal, ReadsFile};
+ghost use Rattle.bloaty_engine.specs.FileSteps.{AddsFile, CanCount, CanMake, CountsBatch, CountsMade, FitsTotal, ReadsFile, UsesMade};
 ghost use Rattle.run_outcome.specs.Names.{file_names};
 ghost use Rattle.bloaty_engine.specs.RunSteps.{IsBlankOf};
-ghost use Rattle.bloaty_engine.specs.Steps.{batch_of};
-ghost use Rattle.bloaty_engine.specs.Verdict.{end_at, file_limit, first_name, total_limit};
+ghost use Rattle.bloaty_engine.specs.Steps.{Finds, batch_of};
+ghost use Rattle.bloaty_engine.specs.Verdict.{end_at, first_name, next_limit};
 
 use crate::profile::profile_file;
 use crate::request::Run;
@@ -15,7 +16,7 @@ use file_profile::{Plan, ProfileAnswer};
 use outside::{FileAnswer, Files};
 use rollup::Rollup;
 use run_outcome::Outcome;
-use size_core::{BadFile, Limits, Names, Steps, Text};
+use size_core::{BadFile, Names, Steps, Text};
 use size_options::Options;
 use std::alloc::Global;
 use std::sync::ledger::{Blank, Ledger};
@@ -43,20 +44,6 @@ impl<L: Ledger> Tally<L> {
             steps: Steps::<L>::begin(blank),
         }
     }
-}
-
-/// The largest length of a file in bytes.
-pub fn file_limit(limits: &Limits) -> u64
-    ensures { result ≡ file_limit limits.now }
-{
-    limits.file.min(u64::from(u32::MAX))
-}
-
-/// The largest sum of the lengths of all files in bytes.
-pub fn total_limit(limits: &Limits) -> u64
-    ensures { result ≡ total_limit limits.now }
-{
-    limits.total.min(1 << 62)
 }
 
 /// Reads file `number`, which has the name `name` and may have at most `limit` bytes. The outcome is `ReadFailed` or
@@ -163,7 +150,7 @@ pub fn count_files<L: Ledger, F: Files>(
     for k in 0..names.len() {
         let number = before + 1 + k;
         let name = names.get(k);
-        let limit = file_limit(&run.limits).min(total_limit(&run.limits) - tally.bytes);
+        let limit = run.next_limit(tally.bytes);
         let file = read_file(run.alloc, files, name.as_str(), number, limit)?;
         let input = Input {
             number,
@@ -177,6 +164,20 @@ pub fn count_files<L: Ledger, F: Files>(
     Ok(total)
 }
 
+/// Returns the bytes of the synthetic file of `n` functions, which is file 1. The outcome is `TooLong` if it exceeds a
+/// limit, or `NoMemory`.
+pub fn made_file(run: &Run, n: u32) -> Result<Vec<u8>, Outcome>
+    requires { n ≤ 1_000_000 }
+    ensures { UsesMade (Finds 1 (next_limit run.now.limits 0) (made n)) result }
+{
+    let file = synth(run.alloc, n)?;
+    let limit = run.next_limit(0);
+    if file.len() as u64 > limit {
+        return Err(Outcome::TooLong(1));
+    }
+    Ok(file)
+}
+
 /// Counts the synthetic file of `n` functions, which is the first file, and adds it to `tally`. Returns the sizes of
 /// each path in it. The outcome is `TooLong` if the file exceeds a limit, or that of a file that can't be counted.
 pub fn count_made<L: Ledger>(
@@ -188,13 +189,9 @@ pub fn count_made<L: Ledger>(
     requires { CanMake n plan.now tally.old }
     ensures { CountsMade run.now.limits plan.now n result tally.old tally.new }
 {
-    let mut total = Rollup::new(run.alloc, plan.depth());
-    let file = synth(run.alloc, n)?;
-    let limit = file_limit(&run.limits).min(total_limit(&run.limits));
-    if file.len() as u64 > limit {
-        return Err(Outcome::TooLong(1));
-    }
+    let file = made_file(run, n)?;
     let name = Text::of(run.alloc, "synth")?;
+    let mut total = Rollup::new(run.alloc, plan.depth());
     let input = Input {
         number: 1,
         name: &name,

@@ -8,7 +8,7 @@ ghost use Rattle.bloaty_engine.specs.Reports.{AsksPair, Reports};
 ghost use Rattle.bloaty_engine.specs.Steps.{EndsAs};
 ghost use Rattle.bloaty_engine.specs.Verdict.{end_of_pair, first_name, if_sound};
 
-use crate::files::{file_limit, first_name, read_file, total_limit};
+use crate::files::{first_name, read_file};
 use crate::request::Run;
 use crate::sizes::report_of;
 use data_sources::open_binary;
@@ -87,7 +87,7 @@ fn read_first<F: Files>(run: &Run, files: &mut F) -> Result<Vec<u8>, Outcome>
     ensures { OpensFirst F.Files run.now.limits (first_name run.now.options) result
         files.old files.new }
 {
-    let limit = file_limit(&run.limits).min(total_limit(&run.limits));
+    let limit = run.next_limit(0);
     let file = read_file(run.alloc, files, first_name(&run.options), 1, limit)?;
     check_format(&file)?;
     Ok(file)
@@ -106,7 +106,7 @@ fn count_pair<L: Ledger, F: Files>(
         result files.old files.new steps.old steps.new }
 {
     let file = read_first(run, files)?;
-    let limit = file_limit(&run.limits).min(total_limit(&run.limits) - file.len() as u64);
+    let limit = run.next_limit(file.len() as u64);
     let other = read_file(run.alloc, files, debug.as_str(), 2, limit)?;
     count_opened(run, plan, &file, &other, steps)
 }

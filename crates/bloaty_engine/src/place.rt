@@ -1,18 +1,16 @@
 //! The explanation of one location of the only file.
 
-ghost use Rattle.std.specs.Prelude.{◌≡◌, ◌≤◌, min, IfOk};
-ghost use Rattle.elf_synth.specs.Made.{made};
+ghost use Rattle.std.specs.Prelude.{◌≡◌, IfOk};
 ghost use Rattle.report_text.specs.Places.{place_report_text};
 ghost use Rattle.size_options.specs.Answers.{IsOneInput, KeepsLimits};
-ghost use Rattle.bloaty_engine.specs.FileSteps.{ReadsFiles, UsesMade};
+ghost use Rattle.bloaty_engine.specs.FileSteps.{ReadsFiles};
 ghost use Rattle.bloaty_engine.specs.PlaceSteps.{CanExplain, EndsExplained, explained_within};
 ghost use Rattle.bloaty_engine.specs.Reports.{AsksPlace, MakesReport};
 ghost use Rattle.bloaty_engine.specs.Steps.{Finds};
-ghost use Rattle.bloaty_engine.specs.Verdict.{end_of_place, file_limit, total_limit};
+ghost use Rattle.bloaty_engine.specs.Verdict.{end_of_place, next_limit};
 
-use crate::files::{file_limit, first_name, read_file, total_limit};
+use crate::files::{first_name, made_file, read_file};
 use crate::request::Run;
-use elf_synth::synth;
 use file_profile::{PlaceAnswer, Plan, explain_place};
 use outside::Files;
 use place_explain::PlaceSource;
@@ -38,30 +36,23 @@ fn end_of_place(answer: PlaceAnswer) -> Outcome
     }
 }
 
-// The synthetic file of `n` functions, of at most `limit` bytes.
-fn made_file(alloc: Global, n: u32, limit: u64) -> Result<Vec<u8>, Outcome>
-    requires { n ≤ 1_000_000 }
-    ensures { UsesMade (Finds 1 limit (made n)) result }
-{
-    let file = synth(alloc, n)?;
-    if file.len() as u64 > limit {
-        return Err(Outcome::TooLong(1));
-    }
-    Ok(file)
-}
-
 // Reads the only file, or makes the synthetic one.
 fn only_file<F: Files>(run: &Run, files: &mut F) -> Result<Vec<u8>, Outcome>
     requires limits { KeepsLimits run.now.options }
     requires one { IsOneInput run.now.options.synth run.now.options.files }
-    ensures { let limit = min (file_limit run.now.limits) (total_limit run.now.limits) in
+    ensures { let limit = next_limit run.now.limits 0 in
         ReadsFiles F.Files run.now.limits run.now.options (λ bytes. Finds 1 limit (bytes 1))
         result files.old files.new }
 {
-    let limit = file_limit(&run.limits).min(total_limit(&run.limits));
     match run.options.synth {
-        Some(n) => made_file(run.alloc, n, limit),
-        None => read_file(run.alloc, files, first_name(&run.options), 1, limit),
+        Some(n) => made_file(run, n),
+        None => read_file(
+            run.alloc,
+            files,
+            first_name(&run.options),
+            1,
+            run.next_limit(0),
+        ),
     }
 }
 

@@ -87,8 +87,8 @@ fn report_of_kind<L: Ledger, F: Files>(
     }
 }
 
-/// The text of the report that the options ask for. `tally` counts no file yet. It counts a step for each piece that is read
-/// of a map.
+/// The text of the report that the options ask for. `tally` counts no file yet. It counts a step for each piece of a map that
+/// is read.
 pub fn report<L: Ledger, F: Files, P: Patterns>(
     run: &Run,
     files: &mut F,

@@ -1,8 +1,8 @@
 //! The input of a run: its options and limits, its configuration, and its plan.
 
-ghost use Rattle.std.specs.Prelude.{◌≡◌};
+ghost use Rattle.std.specs.Prelude.{◌≡◌, ◌≤◌};
 ghost use Rattle.bloaty_engine.specs.PlanSteps.{MakesPlan, ReadsConfig};
-ghost use Rattle.bloaty_engine.specs.Verdict.{config_limit};
+ghost use Rattle.bloaty_engine.specs.Verdict.{config_limit, next_limit, total_limit};
 
 use crate::files::read_file;
 use crate::planning::plan;
@@ -24,6 +24,18 @@ pub struct Run {
     pub options: Options,
     /// The limits of the bytes that are read and of the claims.
     pub limits: Limits,
+}
+
+impl Run {
+    /// The largest length in bytes of a file that is read after other files, whose lengths add up to `lengths`.
+    pub fn next_limit(&self, lengths: u64) -> u64
+        requires { lengths ≤ total_limit self.now.limits }
+        ensures { result ≡ next_limit self.now.limits lengths }
+    {
+        let file = self.limits.file.min(u64::from(u32::MAX));
+        let total = self.limits.total.min(1 << 62);
+        file.min(total - lengths)
+    }
 }
 
 // The largest length of a configuration in bytes.

@@ -1,17 +1,18 @@
 -- The files so far are counted, or the run ends at one.
-use Rattle.std.proofs.Common.{◌≡◌, ◌+◌, ◌-◌, ◌≤◌, [], Ok, Err, length, drop, min, refl, ap, arith}
+use Rattle.std.proofs.Common.{◌≡◌, ◌+◌, ◌-◌, ◌≤◌, [], Ok, Err, length, drop, refl, ap, arith}
 use Rattle.std.proofs.lemmas.Result.{err_from_is_err_and}
 use Rattle.file_profile.specs.Counts.{filter_test}
 use Rattle.bloaty_engine.specs.Steps.{batch_of, batch_reading}
 use Rattle.bloaty_engine.specs.Costs.{files_cost}
 use Rattle.bloaty_engine.proofs.CostLemmas.{costs-more, costs-none, costs-one, costs-then}
 use Rattle.bloaty_engine.proofs.GivenLemmas.{given-all}
-use Rattle.bloaty_engine.proofs.FileLemmas.{all-counted, count-ends, counted-next, counted-none, extended, min-within, ok-some, read-ends}
+use Rattle.bloaty_engine.proofs.FileLemmas.{all-counted, count-ends, counted-next, counted-none, extended, min-within, read-ends}
 use Rattle.bloaty_engine.specs.Verdict.{file_limit, total_limit}
 use Rattle.file_profile.proofs.MapLemmas.{err-same}
 use Rattle.bloaty_engine.proofs.ReadLemmas.{take-none}
 use Rattle.bloaty_engine.proofs.StepLemmas.{batch-file, front, front-all, front-rest, same-batch, same-ok, stops, then-ok, then-unread, unread-ok}
 use Rattle.bloaty_engine.proofs.TakenLemmas.{taken-more, taken-none}
+use Rattle.bloaty_engine.proofs.ResultLemmas.{ok-some}
 use Rattle.bloaty_engine.proofs.files.count_files.Goals as goal
 
 pub loop-k-init : goal.loop-k-init
@@ -31,10 +32,10 @@ returns-in_err-file g c =
     let is = rw c.loop-k.invariant.reads.held at file.is in
     let to = c.loop-k.invariant.counted in
     let more = extended (g.F.Files.held c.args.files.now) batch.first c.args.names.now to.bytes c.loop-k.k c.get-name.result.now file.bytes to.are c.get-name.ensures is in
-    let limit : c.min-limit.result ≡ min (file_limit c.args.run.now.limits) (total_limit c.args.run.now.limits - c.loop-k.tally.bytes) = rw (c.file_limit.ensures, c.total_limit.ensures) at c.min-limit.ensures in
-    let e = read-ends (g.F.Files.held c.args.files.now) c.args.run.now.limits c.args.plan.now.sources (filter_test c.args.plan.now.filter) batch (g.F.Files.gave c.args.files.now) (g.F.Files.gave c.read_file.new.files) c.loop-k.k c.loop-k.tally.bytes c.min-limit.result c.loop-k.total c.get-name.result.now
+    let limit = c.next_limit-limit.ensures in
+    let e = read-ends (g.F.Files.held c.args.files.now) c.args.run.now.limits c.args.plan.now.sources (filter_test c.args.plan.now.filter) batch (g.F.Files.gave c.args.files.now) (g.F.Files.gave c.read_file.new.files) c.loop-k.k c.loop-k.tally.bytes c.next_limit-limit.result c.loop-k.total c.get-name.result.now
     file.bytes c.in_err-file.field-0.0 to more c.get-name.ensures (omega (arith, c.loop-k-test.true, c.len-k-end.ensures)) c.loop-k.invariant.within limit file.finds file.gives in
-    let read = batch-file g.F.Files c.args.run.now.limits batch c.loop-k.k c.loop-k.tally.bytes c.min-limit.result c.loop-k.total.lengths c.get-name.result.now (Err c.in_err-file.field-0.0) c.args.files.now c.loop-k.files c.read_file.new.files
+    let read = batch-file g.F.Files c.args.run.now.limits batch c.loop-k.k c.loop-k.tally.bytes c.next_limit-limit.result c.loop-k.total.lengths c.get-name.result.now (Err c.in_err-file.field-0.0) c.args.files.now c.loop-k.files c.read_file.new.files
     c.get-name.ensures to.lengths_are c.loop-k.invariant.within limit c.loop-k.invariant.reads c.loop-k.invariant.taken file.reads in
     record {
       batch = rw (p.1, p.2) (record {
@@ -57,13 +58,13 @@ returns-in_err-count_file g c =
     let is = rw c.loop-k.invariant.reads.held at file.is in
     let to = c.loop-k.invariant.counted in
     let more = extended (g.F.Files.held c.args.files.now) batch.first c.args.names.now to.bytes c.loop-k.k c.get-name.result.now file.bytes to.are c.get-name.ensures is in
-    let limit : c.min-limit.result ≡ min (file_limit c.args.run.now.limits) (total_limit c.args.run.now.limits - c.loop-k.tally.bytes) = rw (c.file_limit.ensures, c.total_limit.ensures) at c.min-limit.ensures in
+    let limit = c.next_limit-limit.ensures in
     let room : c.loop-k.tally.bytes + length file.bytes ≤ total_limit c.args.run.now.limits
-    = omega (arith, file.finds.1, c.loop-k.invariant.within, min-within (file_limit c.args.run.now.limits) (total_limit c.args.run.now.limits) c.loop-k.tally.bytes c.min-limit.result limit) in
+    = omega (arith, file.finds.1, c.loop-k.invariant.within, min-within (file_limit c.args.run.now.limits) (total_limit c.args.run.now.limits) c.loop-k.tally.bytes c.next_limit-limit.result limit) in
     let ended = (rw (c.deref.ensures.value, file.finds.0) at c.in_err-count_file.ensures.ended) c.loop-k.tally.bytes room in
     let e = count-ends (g.F.Files.held c.args.files.now) c.args.run.now.limits c.args.plan.now.sources (filter_test c.args.plan.now.filter) batch (g.F.Files.gave c.args.files.now) c.in_ok-file.file (g.F.Files.gave c.read_file.new.files) c.loop-k.k c.loop-k.tally.bytes c.loop-k.total c.get-name.result.now
     file.bytes c.in_err-count_file.field-0.0 to more c.get-name.ensures (omega (arith, c.loop-k-test.true, c.len-k-end.ensures)) ended file.gives in
-    let read = batch-file g.F.Files c.args.run.now.limits batch c.loop-k.k c.loop-k.tally.bytes c.min-limit.result c.loop-k.total.lengths c.get-name.result.now (Ok c.in_ok-file.file) c.args.files.now c.loop-k.files c.read_file.new.files
+    let read = batch-file g.F.Files c.args.run.now.limits batch c.loop-k.k c.loop-k.tally.bytes c.next_limit-limit.result c.loop-k.total.lengths c.get-name.result.now (Ok c.in_ok-file.file) c.args.files.now c.loop-k.files c.read_file.new.files
     c.get-name.ensures to.lengths_are c.loop-k.invariant.within limit c.loop-k.invariant.reads c.loop-k.invariant.taken file.reads in
     record {
       batch = rw (p.1, p.2) (record {
@@ -86,9 +87,9 @@ loop-k-preserved g c =
     let is = rw c.loop-k.invariant.reads.held at file.is in
     let to = c.loop-k.invariant.counted in
     let more = extended (g.F.Files.held c.args.files.now) batch.first c.args.names.now to.bytes c.loop-k.k c.get-name.result.now file.bytes to.are c.get-name.ensures is in
-    let limit : c.min-limit.result ≡ min (file_limit c.args.run.now.limits) (total_limit c.args.run.now.limits - c.loop-k.tally.bytes) = rw (c.file_limit.ensures, c.total_limit.ensures) at c.min-limit.ensures in
+    let limit = c.next_limit-limit.ensures in
     let room : c.loop-k.tally.bytes + length file.bytes ≤ total_limit c.args.run.now.limits
-    = omega (arith, file.finds.1, c.loop-k.invariant.within, min-within (file_limit c.args.run.now.limits) (total_limit c.args.run.now.limits) c.loop-k.tally.bytes c.min-limit.result limit) in
+    = omega (arith, file.finds.1, c.loop-k.invariant.within, min-within (file_limit c.args.run.now.limits) (total_limit c.args.run.now.limits) c.loop-k.tally.bytes c.next_limit-limit.result limit) in
     let f = ok-some _ ((rw (c.deref.ensures.value, file.finds.0) at c.in_ok-count_file.ensures.ended) c.loop-k.tally.bytes room) in
     let has = (rw (c.deref.ensures.value, file.finds.0) at c.in_ok-count_file.ensures.counted) c.loop-k.tally.bytes to.files f.0 room f.1 to.has in
     let le : c.loop-k.k ≤ length c.args.names.now = omega (arith, c.loop-k-test.true, c.len-k-end.ensures) in
@@ -96,7 +97,7 @@ loop-k-preserved g c =
     let lengths = rw c.deref.ensures.value at c.in_ok-count_file.ensures.lengths in
     let size : length c.in_ok-file.file.items ≡ c.len.result = omega (arith, c.len.ensures, c.in_ok-file.file.ok) in
     let taken = rw (c.loop-k.invariant.reads.held, size) at file.taken in
-    let read = batch-file g.F.Files c.args.run.now.limits batch c.loop-k.k c.loop-k.tally.bytes c.min-limit.result c.loop-k.total.lengths c.get-name.result.now (Ok c.in_ok-file.file) c.args.files.now c.loop-k.files c.read_file.new.files
+    let read = batch-file g.F.Files c.args.run.now.limits batch c.loop-k.k c.loop-k.tally.bytes c.next_limit-limit.result c.loop-k.total.lengths c.get-name.result.now (Ok c.in_ok-file.file) c.args.files.now c.loop-k.files c.read_file.new.files
     c.get-name.ensures to.lengths_are c.loop-k.invariant.within limit c.loop-k.invariant.reads c.loop-k.invariant.taken file.reads in
     let more_taken : c.count_file.new.total.lengths ≡ c.loop-k.total.lengths + c.len.result = omega (arith, lengths, size) in
     record {

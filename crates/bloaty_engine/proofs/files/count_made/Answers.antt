@@ -1,24 +1,25 @@
 -- The synthetic file is counted, or it is too long.
-use Rattle.std.proofs.Common.{◌≡◌, ◌+◌, ◌<◌, ◌≤◌, [], ◌∷◌, length, min, Err, ap, codes, arith, rules}
+use Rattle.std.proofs.Common.{◌+◌, ◌≤◌, [], ◌∷◌, length, Err, ap, codes, arith, rules}
 use Rattle.std.proofs.lemmas.Grind.{common_steps}
 use Rattle.std.proofs.lemmas.Result.{err_from_is_err_and}
 use Rattle.elf_synth.specs.Made.{made}
 use Rattle.file_profile.specs.Counts.{filter_test}
-use Rattle.bloaty_engine.specs.Verdict.{file_limit, total_limit}
-use Rattle.bloaty_engine.proofs.FileLemmas.{made-counted, made-ends, made-long, none-counted, ok-some}
+use Rattle.bloaty_engine.specs.Verdict.{total_limit}
+use Rattle.bloaty_engine.proofs.FileLemmas.{made-counted, made-ends, made-stops, none-counted}
 use Rattle.file_profile.proofs.MapLemmas.{err-same}
+use Rattle.bloaty_engine.proofs.ResultLemmas.{ok-some}
 use Rattle.bloaty_engine.proofs.files.count_made.Goals as goal
 
-pub returns-then-len-limit : goal.returns-then-len-limit
-returns-then-len-limit g c =
-    let limit : c.min-limit.result ≡ min (file_limit c.args.run.now.limits) (total_limit c.args.run.now.limits) = rw (c.file_limit.ensures, c.total_limit.ensures) at c.min-limit.ensures in
-    let long : c.min-limit.result < length c.in_ok-file.file.items = omega (arith, c.if-len-limit.true, c.len.ensures, c.in_ok-file.file.ok) in
+pub returns-in_err-file : goal.returns-in_err-file
+returns-in_err-file g c =
+    let p = err_from_is_err_and c.from_residual.result c.from_residual.ensures.1 in
+    let file = c.in_err-file.ensures in
     record {
-      uses = record {
-        ends = made-long c.args.run.now.limits c.args.plan.now.sources (codes "synth") (made c.args.n) (rw (← limit, ← c.in_ok-file.ensures.bytes) long);
-        unread = λ i e. cc;
-        long = λ i e. cc;
-      };
+      uses = rw (p.1, p.2) (record {
+        ends = made-stops c.args.run.now.limits c.args.plan.now.sources (filter_test c.args.plan.now.filter) (codes "synth") (made c.args.n) c.in_err-file.field-0.0 (λ i same. file.unread i (ap Err same)) file.ends;
+        unread = λ i e. file.unread i (ap Err (err-same _ _ e));
+        long = λ i e. file.long i (ap Err (err-same _ _ e));
+      });
       tally = first_of (search rules, grind (arith, common_steps));
       room = first_of (search rules, grind (arith, common_steps));
       cost = first_of (search rules, grind (arith, common_steps));
@@ -26,10 +27,10 @@ returns-then-len-limit g c =
 
 pub returns : goal.returns
 returns g c =
-    let ended = rw (c.new-total.ensures, c.deref.ensures.value, c.in_ok-file.ensures.bytes, c.in_ok-name.ensures) at c.in_ok-count_file.ensures.ended in
-    let counted = rw (c.new-total.ensures, c.deref.ensures.value, c.in_ok-file.ensures.bytes, c.in_ok-name.ensures) at c.in_ok-count_file.ensures.counted in
-    let limit : c.min-limit.result ≡ min (file_limit c.args.run.now.limits) (total_limit c.args.run.now.limits) = rw (c.file_limit.ensures, c.total_limit.ensures) at c.min-limit.ensures in
-    let room : 0 + length (made c.args.n) ≤ total_limit c.args.run.now.limits = omega (arith, limit, c.if-len-limit.false, c.len.ensures, c.in_ok-file.file.ok, ap length c.in_ok-file.ensures.bytes) in
+    let file = c.in_ok-file.ensures.ends in
+    let room : 0 + length (made c.args.n) ≤ total_limit c.args.run.now.limits = omega (arith, file.1) in
+    let ended = rw (c.new-total.ensures, c.deref.ensures.value, file.0, c.in_ok-name.ensures) at c.in_ok-count_file.ensures.ended in
+    let counted = rw (c.new-total.ensures, c.deref.ensures.value, file.0, c.in_ok-name.ensures) at c.in_ok-count_file.ensures.counted in
     let f = ok-some _ (ended 0 room) in
     record {
       uses = record {
@@ -39,22 +40,22 @@ returns g c =
       };
       tally = first_of (search rules, grind (arith, common_steps));
       room = first_of (search rules, grind (arith, common_steps));
-      cost = rw (c.deref.ensures.value, c.in_ok-file.ensures.bytes, c.in_ok-name.ensures) at c.count_file.ensures.cost;
+      cost = rw (c.deref.ensures.value, file.0, c.in_ok-name.ensures) at c.count_file.ensures.cost;
     }
 
 pub returns-in_err-count_file : goal.returns-in_err-count_file
 returns-in_err-count_file g c =
     let p = err_from_is_err_and c.from_residual-in_err-count_file.result c.from_residual-in_err-count_file.ensures.1 in
-    let limit : c.min-limit.result ≡ min (file_limit c.args.run.now.limits) (total_limit c.args.run.now.limits) = rw (c.file_limit.ensures, c.total_limit.ensures) at c.min-limit.ensures in
-    let room : 0 + length (made c.args.n) ≤ total_limit c.args.run.now.limits = omega (arith, limit, c.if-len-limit.false, c.len.ensures, c.in_ok-file.file.ok, ap length c.in_ok-file.ensures.bytes) in
-    let ended = rw (c.new-total.ensures, c.deref.ensures.value, c.in_ok-file.ensures.bytes, c.in_ok-name.ensures) at c.in_err-count_file.ensures.ended in
+    let file = c.in_ok-file.ensures.ends in
+    let room : 0 + length (made c.args.n) ≤ total_limit c.args.run.now.limits = omega (arith, file.1) in
+    let ended = (rw (c.new-total.ensures, c.deref.ensures.value, file.0, c.in_ok-name.ensures) at c.in_err-count_file.ensures.ended) 0 room in
     record {
       uses = rw (p.1, p.2) (record {
-        ends = made-ends c.args.run.now.limits c.args.plan.now.sources (filter_test c.args.plan.now.filter) (codes "synth") (made c.args.n) c.in_err-count_file.field-0.0 (ended 0 room);
-        unread = λ i e. absurd (rw (err-same _ _ e) at (ended 0 room));
+        ends = made-ends c.args.run.now.limits c.args.plan.now.sources (filter_test c.args.plan.now.filter) (codes "synth") (made c.args.n) c.in_err-count_file.field-0.0 ended;
+        unread = λ i e. absurd (rw (err-same _ _ e) at ended);
         long = λ i e. absurd (c.in_err-count_file.ensures.short i (ap Err (err-same _ _ e)));
       });
       tally = first_of (search rules, grind (arith, common_steps));
       room = first_of (search rules, grind (arith, common_steps));
-      cost = rw (c.deref.ensures.value, c.in_ok-file.ensures.bytes, c.in_ok-name.ensures) at c.count_file.ensures.cost;
+      cost = rw (c.deref.ensures.value, file.0, c.in_ok-name.ensures) at c.count_file.ensures.cost;
     }

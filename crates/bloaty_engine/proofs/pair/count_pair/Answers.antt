@@ -1,8 +1,8 @@
 -- The file is read and opened, then its debug file is read, and then the two are counted.
-use Rattle.std.proofs.Common.{◌≡◌, ◌-◌, ◌≤◌, ◌∷◌, [], length, min, Ok, Err, refl, ap, arith}
+use Rattle.std.proofs.Common.{◌≡◌, ◌≤◌, ◌∷◌, [], length, Ok, Err, refl, ap, arith}
 use Rattle.std.proofs.lemmas.Result.{err_from_is_err_and}
 use Rattle.file_profile.specs.Counts.{filter_test}
-use Rattle.bloaty_engine.specs.Verdict.{file_limit, first_name, total_limit}
+use Rattle.bloaty_engine.specs.Verdict.{first_name, total_limit}
 use Rattle.bloaty_engine.proofs.GivenLemmas.{given-all, gives-stops}
 use Rattle.bloaty_engine.proofs.HeldLemmas.{held-some}
 use Rattle.bloaty_engine.proofs.PairLemmas.{both, both-held, first-fits, first-held, pair-batch, pair-counted, pair-first, pair-gives, pair-limit, paired-not-long, paired-unread, second-read}
@@ -42,10 +42,10 @@ returns-in_err-other g c =
     let first = c.in_ok-file.ensures in
     let second = rw c.as_str.ensures at c.in_err-other.ensures in
     let len : c.len.result ≡ length file.items = omega (arith, c.len.ensures, file.ok) in
-    let limit : c.min-limit.result ≡ min (file_limit limits) (total_limit limits - length file.items) = rw (c.file_limit.ensures, c.total_limit.ensures, len) at c.min-limit.ensures in
+    let limit = rw len at c.next_limit-limit.ensures in
     let end = c.in_err-other.field-0.0 in
     let left = pair-limit g.F.Files limits name c.args.debug.now file _ (Err end) _ _ _ first second limit in
-    let ends = second-read limits c.args.plan.now.sources (filter_test c.args.plan.now.filter) name (first.batch.bytes 1) first.batch.ends.1 second.bytes c.min-limit.result left end second.finds in
+    let ends = second-read limits c.args.plan.now.sources (filter_test c.args.plan.now.filter) name (first.batch.bytes 1) first.batch.ends.1 second.bytes c.next_limit-limit.result left end second.finds in
     record {
       batch = rw (p.1, p.2) (pair-batch g.F.Files limits name c.args.debug.now file _ (Err end) _ _ _ first second limit _ (Err end) refl ends);
       cost = costs-ended _ _ _ _ _ c.args.steps.now (pair-gives g.F.Files limits name c.args.debug.now file _ (Err end) _ _ _ first second limit);
@@ -63,12 +63,12 @@ returns g c =
     let own = first.batch.bytes 1 in
     let second = rw c.as_str.ensures at c.in_ok-other.ensures in
     let len : c.len.result ≡ length file.items = omega (arith, c.len.ensures, file.ok) in
-    let limit : c.min-limit.result ≡ min (file_limit limits) (total_limit limits - length file.items) = rw (c.file_limit.ensures, c.total_limit.ensures, len) at c.min-limit.ensures in
+    let limit = rw len at c.next_limit-limit.ensures in
     let left = pair-limit g.F.Files limits name c.args.debug.now file _ (Ok debug) _ _ _ first second limit in
     let room : length own ≤ total_limit limits = omega (arith, first-fits limits own first.batch.ends.1) in
     let paired = rw (c.deref.ensures.value, c.deref-2.ensures.value) at c.count_opened.ensures.ends in
     let counted = rw (c.deref.ensures.value, c.deref-2.ensures.value, first.batch.ends.0, second.finds.0) at c.count_opened.ensures in
-    let ends = pair-counted limits sources test name own first.batch.ends.1 second.bytes c.min-limit.result left second.finds.1 room c.count_opened.result counted.ends in
+    let ends = pair-counted limits sources test name own first.batch.ends.1 second.bytes c.next_limit-limit.result left second.finds.1 room c.count_opened.result counted.ends in
     let gave = given-all debug _ _ _ (pair-gives g.F.Files limits name c.args.debug.now file _ (Ok debug) _ _ _ first second limit) in
     record {
       batch = pair-batch g.F.Files limits name c.args.debug.now file _ (Ok debug) _ _ _ first second limit _ c.count_opened.result
@@ -76,10 +76,10 @@ returns g c =
       cost = costs-paired limits sources name own c.args.debug.now second.bytes _ _ c.args.steps.now c.count_opened.new.steps gave counted.cost;
     }
 
-pub overflow_sub-total_limit : goal.overflow_sub-total_limit
-overflow_sub-total_limit g c =
+pub next_limit-limit-requires : goal.next_limit-limit-requires
+next_limit-limit-requires g c =
     let first = c.in_ok-file.ensures.batch in
-    omega (arith, first-fits c.args.run.now.limits (first.bytes 1) first.ends.1, ap length first.ends.0, c.len.ensures, c.in_ok-file.file.ok, c.total_limit.ensures)
+    omega (arith, first-fits c.args.run.now.limits (first.bytes 1) first.ends.1, ap length first.ends.0, c.len.ensures, c.in_ok-file.file.ok)
 
 -- The file that was opened is within the limits, and so is its debug file.
 pub count_opened-requires-clause-fit : goal.count_opened-requires-clause-fit
@@ -88,10 +88,9 @@ count_opened-requires-clause-fit g c =
     let first = c.in_ok-file.ensures.batch in
     let fits = first-fits limits (first.bytes 1) first.ends.1 in
     let second = c.in_ok-other.ensures in
-    let limit = rw (c.file_limit.ensures, c.total_limit.ensures) at c.min-limit.ensures in
     record {
       fits = omega (arith, fits, ap length first.ends.0, ap length c.deref.ensures.value);
-      debug_fits = omega (arith, second.finds.1, ap length second.finds.0, ap length c.deref-2.ensures.value, limit);
+      debug_fits = omega (arith, second.finds.1, ap length second.finds.0, ap length c.deref-2.ensures.value, c.next_limit-limit.ensures);
       lengths = omega (arith, fits, ap length first.ends.0, ap length c.deref.ensures.value);
     }
 

@@ -1,9 +1,9 @@
 -- The file is within the limits and its format has no fault. Otherwise the run ends with that outcome.
-use Rattle.std.proofs.Common.{◌≡◌, ◌∷◌, [], min, Err, refl, arith, rules}
+use Rattle.std.proofs.Common.{◌∷◌, [], Err, refl, arith, rules}
 use Rattle.std.proofs.lemmas.Grind.{common_steps}
 use Rattle.std.proofs.lemmas.Result.{err_from_is_err_and}
 use Rattle.file_profile.proofs.MapLemmas.{err-same}
-use Rattle.bloaty_engine.specs.Verdict.{file_limit, first_name, total_limit}
+use Rattle.bloaty_engine.specs.Verdict.{first_name}
 use Rattle.bloaty_engine.proofs.GivenLemmas.{gives-as}
 use Rattle.bloaty_engine.proofs.PairLemmas.{first-fault, first-read, first-sound, one-held, sound-short}
 use Rattle.bloaty_engine.specs.Reading.{file_reading}
@@ -15,16 +15,16 @@ pub returns-in_err-file : goal.returns-in_err-file
 returns-in_err-file g c =
     let p = err_from_is_err_and c.from_residual.result c.from_residual.ensures.1 in
     let file = rw c.first_name.ensures at c.in_err-file.ensures in
-    let limit : c.min-limit.result ≡ min (file_limit c.args.run.now.limits) (total_limit c.args.run.now.limits) = rw (c.file_limit.ensures, c.total_limit.ensures) at c.min-limit.ensures in
+    let limit = c.next_limit-limit.ensures in
     let name = first_name c.args.run.now.options in
     record {
       batch = rw (p.1, p.2) (record {
         bytes = λ i. file.bytes;
         are = one-held (g.F.Files.held c.args.files.now) 1 name file.bytes (λ i. file.bytes) refl file.is;
-        ends = first-read c.args.run.now.limits file.bytes c.min-limit.result limit c.in_err-file.field-0.0 file.finds;
+        ends = first-read c.args.run.now.limits file.bytes c.next_limit-limit.result limit c.in_err-file.field-0.0 file.finds;
         gives = file.gives;
-        reads = stops g.F.Files (file_reading 1 name c.min-limit.result) (batch_reading c.args.run.now.limits (batch_of 0 0 (name ∷ []))) [] c.in_err-file.field-0.0 c.args.files.now c.read_file.new.files refl
-            (first-part c.args.run.now.limits name (name ∷ []) [] c.min-limit.result limit) file.reads;
+        reads = stops g.F.Files (file_reading 1 name c.next_limit-limit.result) (batch_reading c.args.run.now.limits (batch_of 0 0 (name ∷ []))) [] c.in_err-file.field-0.0 c.args.files.now c.read_file.new.files refl
+            (first-part c.args.run.now.limits name (name ∷ []) [] c.next_limit-limit.result limit) file.reads;
       });
       taken = first_of (search rules, grind (arith, common_steps));
     }
@@ -33,15 +33,15 @@ pub returns-in_err-check_format : goal.returns-in_err-check_format
 returns-in_err-check_format g c =
     let p = err_from_is_err_and c.from_residual-in_err-check_format.result c.from_residual-in_err-check_format.ensures.1 in
     let file = rw c.first_name.ensures at c.in_ok-file.ensures in
-    let limit : c.min-limit.result ≡ min (file_limit c.args.run.now.limits) (total_limit c.args.run.now.limits) = rw (c.file_limit.ensures, c.total_limit.ensures) at c.min-limit.ensures in
+    let limit = c.next_limit-limit.ensures in
     let name = first_name c.args.run.now.options in
     record {
       batch = rw (p.1, p.2) (record {
         bytes = λ i. file.bytes;
         are = one-held (g.F.Files.held c.args.files.now) 1 name file.bytes (λ i. file.bytes) refl file.is;
-        ends = first-fault c.args.run.now.limits file.bytes c.min-limit.result limit file.finds.1 c.in_err-check_format.field-0.0 (rw (c.deref.ensures.value, file.finds.0) at c.in_err-check_format.ensures);
+        ends = first-fault c.args.run.now.limits file.bytes c.next_limit-limit.result limit file.finds.1 c.in_err-check_format.field-0.0 (rw (c.deref.ensures.value, file.finds.0) at c.in_err-check_format.ensures);
         gives = gives-as c.in_ok-file.file _ _ _ _ file.gives;
-        reads = then-unread g.F.Files (file_reading 1 name c.min-limit.result) (batch_reading c.args.run.now.limits (batch_of 0 0 (name ∷ []))) [] c.in_ok-file.file (Err c.in_err-check_format.field-0.0) c.args.files.now c.read_file.new.files refl (omega (arith, limit)) tt
+        reads = then-unread g.F.Files (file_reading 1 name c.next_limit-limit.result) (batch_reading c.args.run.now.limits (batch_of 0 0 (name ∷ []))) [] c.in_ok-file.file (Err c.in_err-check_format.field-0.0) c.args.files.now c.read_file.new.files refl (omega (arith, limit)) tt
             (λ i e. rw (err-same _ _ e) at c.in_err-check_format.ensures) (λ i e. sound-short _ i (rw (err-same _ _ e) at c.in_err-check_format.ensures)) file.reads;
       });
       taken = first_of (search rules, grind (arith, common_steps));
@@ -50,15 +50,15 @@ returns-in_err-check_format g c =
 pub returns : goal.returns
 returns g c =
     let file = rw c.first_name.ensures at c.in_ok-file.ensures in
-    let limit : c.min-limit.result ≡ min (file_limit c.args.run.now.limits) (total_limit c.args.run.now.limits) = rw (c.file_limit.ensures, c.total_limit.ensures) at c.min-limit.ensures in
+    let limit = c.next_limit-limit.ensures in
     let name = first_name c.args.run.now.options in
     record {
       batch = record {
         bytes = λ i. file.bytes;
         are = one-held (g.F.Files.held c.args.files.now) 1 name file.bytes (λ i. file.bytes) refl file.is;
-        ends = (file.finds.0, first-sound c.args.run.now.limits file.bytes c.min-limit.result limit file.finds.1 (rw (c.deref.ensures.value, file.finds.0) at c.in_ok-check_format.ensures));
+        ends = (file.finds.0, first-sound c.args.run.now.limits file.bytes c.next_limit-limit.result limit file.finds.1 (rw (c.deref.ensures.value, file.finds.0) at c.in_ok-check_format.ensures));
         gives = file.gives;
-        reads = then-ok g.F.Files (file_reading 1 name c.min-limit.result) (batch_reading c.args.run.now.limits (batch_of 0 0 (name ∷ []))) [] c.in_ok-file.file c.in_ok-file.file c.args.files.now c.read_file.new.files refl (omega (arith, limit)) refl
+        reads = then-ok g.F.Files (file_reading 1 name c.next_limit-limit.result) (batch_reading c.args.run.now.limits (batch_of 0 0 (name ∷ []))) [] c.in_ok-file.file c.in_ok-file.file c.args.files.now c.read_file.new.files refl (omega (arith, limit)) refl
             file.reads;
       };
       taken = first_of (search rules, grind (arith, common_steps));

@@ -1,8 +1,8 @@
 -- The only file is the one that the arguments name, or the synthetic one.
-use Rattle.std.proofs.Common.{◌≡◌, [], length, min, refl, ap, ◌∙◌}
+use Rattle.std.proofs.Common.{◌≡◌, [], length, refl, ap, ◌∙◌}
 use Rattle.elf_synth.specs.Made.{made}
 use Rattle.bloaty_engine.specs.Reading.{file_reading, reading_for, unmade_names}
-use Rattle.bloaty_engine.specs.Verdict.{file_limit, first_name, total_limit}
+use Rattle.bloaty_engine.specs.Verdict.{first_name}
 use Rattle.bloaty_engine.proofs.GivenLemmas.{gives-none}
 use Rattle.bloaty_engine.proofs.PairLemmas.{one-held}
 use Rattle.bloaty_engine.proofs.PlaceLemmas.{first-file, first-of-run}
@@ -11,23 +11,21 @@ use Rattle.bloaty_engine.proofs.StepLemmas.{made-unread, reads-as}
 use Rattle.bloaty_engine.proofs.place.only_file.Goals as goal
 
 pub returns-in-Some : goal.returns-in-Some
-returns-in-Some g c =
-    let limit : c.min-limit.result ≡ min (file_limit c.args.run.now.limits) (total_limit c.args.run.now.limits) = rw (c.file_limit.ensures, c.total_limit.ensures) at c.min-limit.ensures in
-    record {
-      bytes = λ i. made c.in-Some.n;
-      are = rw c.in-Some.is refl;
-      ends = rw (← limit) c.made_file.ensures.ends;
-      gives = rw c.in-Some.is (gives-none _ _ [] (OnOk-any _ _ refl));
-      unmade = λ k e. absurd (c.made_file.ensures.unread _ e);
-      reads = made-unread g.F.Files c.args.run.now.limits c.args.run.now.options c.in-Some.n c.in-Some.is c.made_file.result c.args.files.now c.made_file.ensures.unread c.made_file.ensures.long;
-    }
+returns-in-Some g c = record {
+  bytes = λ i. made c.in-Some.n;
+  are = rw c.in-Some.is refl;
+  ends = c.made_file.ensures.ends;
+  gives = rw c.in-Some.is (gives-none _ _ [] (OnOk-any _ _ refl));
+  unmade = λ k e. absurd (c.made_file.ensures.unread _ e);
+  reads = made-unread g.F.Files c.args.run.now.limits c.args.run.now.options c.in-Some.n c.in-Some.is c.made_file.result c.args.files.now c.made_file.ensures.unread c.made_file.ensures.long;
+}
 
 pub returns-in-None : goal.returns-in-None
 returns-in-None g c =
     let o = c.args.run.now.options in
     let one : length o.files ≡ 1 = rw c.in-None.is at c.requires.one in
     let files = first-file o c.in-None.is one in
-    let limit : c.min-limit.result ≡ min (file_limit c.args.run.now.limits) (total_limit c.args.run.now.limits) = rw (c.file_limit.ensures, c.total_limit.ensures) at c.min-limit.ensures in
+    let limit = c.next_limit.ensures in
     let file = rw c.first_name.ensures at c.read_file.ensures in
     record {
       bytes = λ i. file.bytes;
@@ -35,6 +33,6 @@ returns-in-None g c =
       ends = rw (← limit) file.finds;
       gives = rw (c.in-None.is, files) file.gives;
       unmade = rw c.in-None.is (λ k e. tt);
-      reads = reads-as g.F.Files (file_reading 1 (first_name o) c.min-limit.result) (reading_for c.args.run.now.limits o (unmade_names o.synth o.files)) c.read_file.result c.args.files.now c.read_file.new.files
-          (ap (λ s. unmade_names s o.files) c.in-None.is ∙ files) (first-of-run c.args.run.now.limits o (unmade_names o.synth o.files) c.min-limit.result limit c.in-None.is files) file.reads;
+      reads = reads-as g.F.Files (file_reading 1 (first_name o) c.next_limit.result) (reading_for c.args.run.now.limits o (unmade_names o.synth o.files)) c.read_file.result c.args.files.now c.read_file.new.files
+          (ap (λ s. unmade_names s o.files) c.in-None.is ∙ files) (first-of-run c.args.run.now.limits o (unmade_names o.synth o.files) c.next_limit.result limit c.in-None.is files) file.reads;
     }
