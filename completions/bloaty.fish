@@ -27,6 +27,6 @@ complete -c bloaty -n __bloaty_options -l tsv -d 'write values with tabs between
 complete -c bloaty -n __bloaty_options -s c -r -F -d 'configuration with data sources of your own'
 complete -c bloaty -n __bloaty_options -l source-filter -x -d 'count only what has this in a label'
 complete -c bloaty -n __bloaty_options -l synth -x -d 'profile a synthetic file with N functions'
-complete -c bloaty -n __bloaty_options -l debug-file -r -F -d 'take symbols and lines from this file'
+complete -c bloaty -n __bloaty_options -l debug-file -r -F -d 'take symbols, units and lines from this file'
 complete -c bloaty -n __bloaty_options -l debug-fileoff -x -d 'explain this byte of the file'
 complete -c bloaty -n __bloaty_options -l debug-vmaddr -x -d 'explain this address'

@@ -3,7 +3,9 @@
 
 mod program;
 
+use custom_rewrites::RegexPatterns;
 use outside::{HostFiles, HostSink};
+use program::Host;
 use std::process::ExitCode;
 use std::{env, io};
 
@@ -14,9 +16,12 @@ fn args_of(rt: &HostRuntime) -> io::Result<Vec<String>> {
 
 fn main(rt: HostRuntime) -> ExitCode {
     let args = args_of(&rt);
-    let mut files = HostFiles::new(&rt);
-    let mut out = HostSink::new(rt.stdout());
-    let mut err = HostSink::new(rt.stderr());
-    let status = program::run(rt.alloc(), &args, &mut files, &mut out, &mut err);
+    let mut host = Host {
+        files: HostFiles::new(&rt),
+        patterns: RegexPatterns::new(Vec::new(rt.alloc())),
+        out: HostSink::new(rt.stdout()),
+        err: HostSink::new(rt.stderr()),
+    };
+    let status = program::run(rt.alloc(), &args, &mut host);
     ExitCode::from(status)
 }

@@ -18,56 +18,65 @@ use std::{io, rt};
 const NO_MEMORY: u8 = 5;
 
 // The exit status if the arguments can't be read for any other reason.
-const NO_WORDS: u8 = 7;
+const NO_ARGUMENTS: u8 = 7;
+
+/// The devices of a run on the host: its files, the patterns, the standard output and the standard error output.
+#[derive(Drop)]
+pub struct Host<'r, R: rt::Files> {
+    pub files: HostFiles<'r, R>,
+    pub patterns: RegexPatterns,
+    pub out: HostSink<Stdout>,
+    pub err: HostSink<Stderr>,
+}
 
 // The exit status if the arguments can't be read.
-fn status_without_words(e: &io::Error) -> u8
+fn status_without_arguments(e: &io::Error) -> u8
     ensures { IsUnread (error_kind e.now) result }
 {
     if e.kind() == ErrorKind::OutOfMemory {
         NO_MEMORY
     } else {
-        NO_WORDS
+        NO_ARGUMENTS
     }
 }
 
 // Runs the program with the arguments after its name, and returns the exit status.
-fn run_words<R: rt::Files>(
-    alloc: Global,
-    words: &[String],
-    files: &mut HostFiles<'_, R>,
-    out: &mut HostSink<Stdout>,
-    err: &mut HostSink<Stderr>,
-) -> u8
-    ensures { IsProgramRun FULL (seen_words words.now) (seen files.old out.old err.old)
-        (seen files.new out.new err.new) result }
+fn run_arguments<R: rt::Files>(alloc: Global, arguments: &[String], host: &mut Host<'_, R>) -> u8
+    ensures { let before = seen host.old.files host.old.patterns host.old.out host.old.err in
+        let after = seen host.new.files host.new.patterns host.new.out host.new.err in
+        IsProgramRun FULL (seen_words arguments.now) before after result }
 {
-    let mut patterns = RegexPatterns::new(Vec::new(alloc));
-    let outcome = bloaty(alloc, words, files, &mut patterns, out, err, &FULL);
+    let outcome = bloaty(
+        alloc,
+        arguments,
+        &mut host.files,
+        &mut host.patterns,
+        &mut host.out,
+        &mut host.err,
+        &FULL,
+    );
     outcome.status()
 }
 
 /// Runs the program with its arguments, the first of which is its name, and returns the exit status. If the arguments
-/// can't be read, it reads and writes nothing.
+/// can't be read, it leaves the devices as they are.
 pub fn run<R: rt::Files>(
     alloc: Global,
     args: &io::Result<Vec<String>>,
-    files: &mut HostFiles<'_, R>,
-    out: &mut HostSink<Stdout>,
-    err: &mut HostSink<Stderr>,
+    host: &mut Host<'_, R>,
 ) -> u8
-    ensures run { IfOk args.now (λ all. IsProgramRun FULL (seen_words (drop 1 all.items))
-        (seen files.old out.old err.old) (seen files.new out.new err.new) result) }
+    ensures run { let before = seen host.old.files host.old.patterns host.old.out host.old.err in
+        let after = seen host.new.files host.new.patterns host.new.out host.new.err in
+        IfOk args.now
+        (λ all. IsProgramRun FULL (seen_words (drop 1 all.items)) before after result) }
     ensures unread { IfErr args.now (λ e. IsUnread (error_kind e) result) }
-    ensures files { OnErr args.now (files.new ≡ files.old) }
-    ensures out { OnErr args.now (out.new ≡ out.old) }
-    ensures err { OnErr args.now (err.new ≡ err.old) }
+    ensures kept { OnErr args.now (host.new ≡ host.old) }
 {
     match args {
-        Err(e) => status_without_words(e),
+        Err(e) => status_without_arguments(e),
         Ok(all) => match all.as_slice() {
-            [] => run_words(alloc, &[], files, out, err),
-            [_, words @ ..] => run_words(alloc, words, files, out, err),
+            [] => run_arguments(alloc, &[], host),
+            [_, rest @ ..] => run_arguments(alloc, rest, host),
         },
     }
 }

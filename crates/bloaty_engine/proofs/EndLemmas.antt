@@ -2,7 +2,8 @@
 use Rattle.std.proofs.Common.{◌≡◌, ℕ, ◌<◌, List, length, Result, Err, refl}
 use Rattle.run_outcome.specs.declared.outcome.Outcome.{Outcome}
 use Rattle.run_outcome.specs.declared.outcome.Outcome.TheVariants.{ReadFailed, TooLong, NoMemory}
-use Rattle.bloaty_engine.specs.Steps.{EndsBy, Finds}
+use Rattle.bloaty_engine.specs.Devices.{IsEndAt}
+use Rattle.bloaty_engine.specs.Steps.{EndsBy, Finds, Nowhere}
 
 -- If both have the same result.
 pub ends-so : {X Y : Type 0} (old new : ℕ → Type 0) (decided : Result X Outcome) (found : Result Y Outcome) (end : Outcome) → ((i : ℕ) → end ≡ ReadFailed i → old i → new i)
@@ -18,3 +19,9 @@ ends-read new found i limit bytes (ReadFailed j) at long e = at j refl e
 ends-read new found i limit bytes (TooLong j) at long e = rw e.0 (long e.1)
 ends-read new found i limit bytes NoMemory at long e = tt
 ends-read new found i limit bytes end at long e = absurd e
+
+-- If a step that reads nothing ends the run at a file, this is its decided result.
+pub ends-at : {X : Type 0} (decided : Result X Outcome) (end : Outcome) (i late : ℕ) (R : Type 0) → (decided ≡ Err end → R) → EndsBy Nowhere decided end → IsEndAt i late end → R
+ends-at decided (ReadFailed j) i late R so e at = absurd e
+ends-at decided NoMemory i late R so e at = absurd at
+ends-at decided end i late R so e at = so e

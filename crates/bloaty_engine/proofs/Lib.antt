@@ -8,6 +8,7 @@ pub mod KindLemmas
 pub mod LineLemmas
 pub mod LocationLemmas
 pub mod NextLemmas
+pub mod NumberLemmas
 pub mod PairLemmas
 pub mod PlaceLemmas
 pub mod PlanLemmas

@@ -1,5 +1,5 @@
 -- Steps that read nothing, after a step that reads.
-use Rattle.std.proofs.Common.{◌≡◌, ℕ, List, [], ◌++◌, Result, Ok, Err, refl, sym}
+use Rattle.std.proofs.Common.{◌≡◌, ℕ, List, [], ◌++◌, length, Result, Ok, Err, refl, sym}
 use Rattle.std.specs.Prelude.{OnOk, Vec}
 use Rattle.std.specs.declared.alloc.Global.{Global}
 use Rattle.std.proofs.lemmas.List.{append-nil}
@@ -10,8 +10,8 @@ use Rattle.report_rows.specs.Rows.{row_tree}
 use Rattle.rollup.specs.Totals.{IsTotals, Totals}
 use Rattle.size_options.specs.declared.run_options.Options.{Options}
 use Rattle.run_outcome.specs.declared.outcome.Outcome.{Outcome}
-use Rattle.run_outcome.specs.declared.outcome.Outcome.TheVariants.{ReadFailed, TooLong, NoMemory}
-use Rattle.bloaty_engine.specs.Devices.{Reads}
+use Rattle.run_outcome.specs.declared.outcome.Outcome.TheVariants.{NoMemory}
+use Rattle.bloaty_engine.specs.Devices.{EndsAt, Reads}
 use Rattle.bloaty_engine.specs.FileSteps.{ReadsBatch}
 use Rattle.bloaty_engine.specs.Given.{Gives}
 use Rattle.bloaty_engine.specs.Reading.{Reading}
@@ -19,38 +19,38 @@ use Rattle.bloaty_engine.specs.Report.{printed, row_options}
 use Rattle.bloaty_engine.specs.Steps.{Batch, batch_reading}
 use Rattle.bloaty_engine.proofs.GivenLemmas.{gives-as, gives-ended, gives-stops, gives-then}
 use Rattle.bloaty_engine.proofs.ReadLemmas.{OnOk-any}
-use Rattle.bloaty_engine.proofs.StepLemmas.{IsPart, part-most, same-all, stops, then-unread}
+use Rattle.bloaty_engine.proofs.StepLemmas.{IsPart, IsWithin, part-most, same-all, stops, then-unread}
 
--- How a step goes on after another one. If the other one ended the run, so does this one, with the same outcome. Otherwise this
--- one doesn't end it with a failed read or a file that is too long.
-abbrev pub GoesOn : {X Y : Type 0} → Result X Outcome → Result Y Outcome → Type 0
-GoesOn (Err end) r = r ≡ Err end
-GoesOn (Ok x) r = ((i : ℕ) → r ≡ Err (ReadFailed i) → ⊥) × ((i : ℕ) → r ≡ Err (TooLong i) → ⊥)
+-- How a step goes on after another one. If the other one ended the run, so does this one, with the same outcome. If this one ends
+-- it at a file, the other one has read it, and `At` holds of its number.
+abbrev pub GoesOn : {X Y : Type 0} → (ℕ → Type 0) → Result X Outcome → Result Y Outcome → Type 0
+GoesOn At (Err end) r = r ≡ Err end
+GoesOn At (Ok x) r = (i late : ℕ) → EndsAt i late r → (late ≡ 0) × At i
 
 -- The run has read what the other step read.
 pub reads-next : {F X Y : Type 0} (f : FilesGhosts F) (p q : Reading) (rest : List (List ℕ)) (a : Result X Outcome) (r : Result Y Outcome) (s t : F) → q.names ≡ p.names ++ rest → IsPart p q 0 0 0
-    → GoesOn a r → OnOk r (rest ≡ []) → Reads f p a s t → Reads f q r s t
+    → GoesOn (λ i. IsWithin q (length p.names) i 0) a r → OnOk r (rest ≡ []) → Reads f p a s t → Reads f q r s t
 reads-next f p q rest (Err end) r s t names part next none reads = rw next (stops f p q rest end s t names part reads)
-reads-next f p q rest (Ok x) r s t names part next none reads = then-unread f p q rest x r s t names (part-most p q part) none next.0 next.1 reads
+reads-next f p q rest (Ok x) r s t names part next none reads = then-unread f p q rest x r s t names (part-most p q part) none next reads
 
-pub gives-next : {X Y : Type 0} (a : Result X Outcome) (r : Result Y Outcome) (before after front rest : Pairs) → GoesOn a r → OnOk r (rest ≡ []) → Gives a before after front → Gives r before after (front ++ rest)
-gives-next (Err end) r before after front rest next none gives = rw next (gives-stops end before after front rest gives)
-gives-next (Ok x) r before after front rest next none gives = gives-then x r before after front rest none gives
+pub gives-next : {X Y : Type 0} (At : ℕ → Type 0) (a : Result X Outcome) (r : Result Y Outcome) (before after front rest : Pairs) → GoesOn At a r → OnOk r (rest ≡ []) → Gives a before after front → Gives r before after (front ++ rest)
+gives-next At (Err end) r before after front rest next none gives = rw next (gives-stops end before after front rest gives)
+gives-next At (Ok x) r before after front rest next none gives = gives-then x r before after front rest none gives
 
-pub gives-same : {X Y : Type 0} (a : Result X Outcome) (r : Result Y Outcome) (before after pairs : Pairs) → GoesOn a r → Gives a before after pairs → Gives r before after pairs
-gives-same (Err end) r before after pairs next gives = rw next (gives-ended end before after pairs gives)
-gives-same (Ok x) r before after pairs next gives = gives-as x r before after pairs gives
+pub gives-same : {X Y : Type 0} (At : ℕ → Type 0) (a : Result X Outcome) (r : Result Y Outcome) (before after pairs : Pairs) → GoesOn At a r → Gives a before after pairs → Gives r before after pairs
+gives-same At (Err end) r before after pairs next gives = rw next (gives-ended end before after pairs gives)
+gives-same At (Ok x) r before after pairs next gives = gives-as x r before after pairs gives
 
 -- The other step read a batch of files.
 pub batch-next : {F X Y : Type 0} (f : FilesGhosts F) (limits : Limits) (b : Batch) (P : (ℕ → List ℕ) → Result X Outcome → Type 0) (Q : (ℕ → List ℕ) → Result Y Outcome → Type 0) (a : Result X Outcome) (r : Result Y Outcome) (s t : F)
-    → (batch : ReadsBatch f limits b P a s t) → GoesOn a r → Q batch.bytes r → ReadsBatch f limits b Q r s t
+    → (batch : ReadsBatch f limits b P a s t) → GoesOn (λ i. IsWithin (batch_reading limits b) (length b.names) i 0) a r → Q batch.bytes r → ReadsBatch f limits b Q r s t
 batch-next f limits b P Q a r s t batch next ends =
     let q = batch_reading limits b in
     record {
       bytes = batch.bytes;
       are = batch.are;
       ends = ends;
-      gives = gives-same a r _ _ _ next batch.gives;
+      gives = gives-same _ a r _ _ _ next batch.gives;
       reads = reads-next f q q [] a r s t (sym (append-nil q.names)) (same-all q) next (OnOk-any r _ refl) batch.reads;
     }
 
@@ -61,10 +61,10 @@ Shows P (Err end) r = r ≡ Err end
 Shows P (Ok x) (Ok text) = P x text
 Shows P (Ok x) (Err end) = end ≡ NoMemory
 
-pub shows-next : {X : Type 0} (P : X → Vec ℕ Global → Type 0) (a : Result X Outcome) (r : Result (Vec ℕ Global) Outcome) → Shows P a r → GoesOn a r
-shows-next P (Err end) r shows = shows
-shows-next P (Ok x) (Ok text) shows = (λ i e. cc, λ i e. cc)
-shows-next P (Ok x) (Err end) shows = rw shows (λ i e. cc, λ i e. cc)
+pub shows-next : {X : Type 0} (At : ℕ → Type 0) (P : X → Vec ℕ Global → Type 0) (a : Result X Outcome) (r : Result (Vec ℕ Global) Outcome) → Shows P a r → GoesOn At a r
+shows-next At P (Err end) r shows = shows
+shows-next At P (Ok x) (Ok text) shows = λ i late e. absurd e
+shows-next At P (Ok x) (Err end) shows = rw shows (λ i late e. absurd e)
 
 pub shows-ok : {X : Type 0} (P : X → Vec ℕ Global → Type 0) (a : Result X Outcome) (r : Result (Vec ℕ Global) Outcome) (Q : Type 0) → ((x : X) (text : Vec ℕ Global) → P x text → Q) → Shows P a r → OnOk r Q
 shows-ok P (Err end) r Q so shows = rw shows tt

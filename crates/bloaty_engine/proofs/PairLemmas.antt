@@ -1,6 +1,6 @@
 -- A file with its debug file, read and counted.
-use Rattle.std.proofs.Common.{◌≡◌, ℕ, zero, suc, ◌+◌, ◌<◌, ◌≤◌, Bool, true, false, cond, ◌||◌, nat_lt, List, [], ◌∷◌, ◌++◌, length, Option, None, Some, Result, Ok, Err, refl, ap, ◌∙◌, arith}
-use Rattle.std.specs.Prelude.{IsOk, slice_get, unwrap_or, Vec}
+use Rattle.std.proofs.Common.{◌≡◌, ℕ, zero, suc, ◌+◌, ◌<◌, ◌≤◌, Bool, true, false, cond, ◌||◌, nat_lt, List, [], ◌∷◌, ◌++◌, length, Option, None, Some, Result, Ok, Err, inl, inr, refl, sym, ap, ◌∙◌, arith}
+use Rattle.std.specs.Prelude.{⊤, IsOk, slice_get, unwrap_or, Vec}
 use Rattle.std.specs.declared.alloc.Global.{Global}
 use Rattle.std.proofs.lemmas.Bool.Decides.{nat_tests}
 use Rattle.std.proofs.lemmas.Option.{none-some, same_Some}
@@ -22,24 +22,26 @@ use Rattle.file_profile.specs.Counts.{filter_test}
 use Rattle.file_profile.proofs.MapLemmas.{err-same}
 use Rattle.size_options.specs.declared.run_options.Options.{Options}
 use Rattle.run_outcome.specs.declared.outcome.Outcome.{Outcome}
-use Rattle.run_outcome.specs.declared.outcome.Outcome.TheVariants.{ReadFailed, TooLong}
+use Rattle.run_outcome.specs.declared.outcome.Outcome.TheVariants.{TooLong}
+use Rattle.bloaty_engine.specs.Devices.{EndsAt, IsEndAt}
 use Rattle.bloaty_engine.specs.FileSteps.{ReadsBatch, ReadsFile}
 use Rattle.bloaty_engine.specs.Given.{Gives, input_pairs, pairs_from}
 use Rattle.bloaty_engine.specs.Named.{AreFiles, AreHeld}
 use Rattle.run_outcome.specs.Names.{all_names, debug_names, file_names, name_at, names_of, other_names}
 use Rattle.bloaty_engine.specs.PairSteps.{CountsPair, EndsFirst, EndsPair, EndsPaired, IsOfPair, OpensFirst}
-use Rattle.bloaty_engine.specs.Steps.{EndsAs, Finds, Nowhere, batch_of, batch_reading}
+use Rattle.bloaty_engine.specs.Steps.{EndsAs, EndsBy, Finds, Nowhere, batch_of, batch_reading}
 use Rattle.bloaty_engine.specs.Reading.{file_reading, files_to_read, reading_for, unmade_names}
 use Rattle.bloaty_engine.specs.Reports.{AsksPair, EndsFinding, IsReadFile, Reports}
 use Rattle.bloaty_engine.specs.Verdict.{◌>>=◌, Counted, Sides, as_counted, counted_pair, end_of_pair, file_limit, first_name, found, found_by, if_paired, if_sound, next_limit, one_file, opened_first, total_limit}
 use Rattle.bloaty_engine.proofs.CostLemmas.{costs-pair}
-use Rattle.bloaty_engine.proofs.EndLemmas.{ends-read, ends-so}
+use Rattle.bloaty_engine.proofs.EndLemmas.{ends-at, ends-read, ends-so}
 use Rattle.bloaty_engine.proofs.GivenLemmas.{given-all, gives-behind}
 use Rattle.bloaty_engine.proofs.NextLemmas.{GoesOn, PrintsTotal, Shows, gives-same, reads-next, shows-next}
+use Rattle.bloaty_engine.proofs.NumberLemmas.{IsNumbered, IsOneOrTwo, numbered-pair}
 use Rattle.bloaty_engine.proofs.ReadLemmas.{OnOk-any}
 use Rattle.bloaty_engine.proofs.SidesLemmas.{beyond, size-report, sizes-for}
 use Rattle.bloaty_engine.proofs.ResultLemmas.{short-long, short-next}
-use Rattle.bloaty_engine.proofs.StepLemmas.{IsPart, batch-part, files-part, follows, same-all}
+use Rattle.bloaty_engine.proofs.StepLemmas.{IsPart, IsWithin, batch-part, files-part, follows, same-all}
 
 -- The first file.
 
@@ -138,26 +140,37 @@ pub ok-view : (r : Result FileView PairAnswer) → IsOk r → (f : FileView) × 
 ok-view (Ok f) ok = (f, refl)
 ok-view (Err e) ok = cc
 
--- Neither a fault of a format nor an answer about the pair is the outcome that a file is too long.
-pub sound-short : (o : Result Binary BadFile) (i : ℕ) → if_sound o ≡ Err (TooLong i) → ⊥
-sound-short (Ok binary) i e = cc
-sound-short (Err bad) i e = cc
+-- A fault of the format ends the run at file 1.
+pub sound-at : (decided : Result Binary BadFile) (end : Outcome) (i late : ℕ) → EndsBy Nowhere (if_sound decided) end → IsEndAt i late end → (i ≡ 1) × (late ≡ 0)
+sound-at decided end i late e at = ends-at (if_sound decided) end i late _ (λ is. by-fault decided is) e at
+  where
+    by-fault : (decided : Result Binary BadFile) → if_sound decided ≡ Err end → (i ≡ 1) × (late ≡ 0)
+    by-fault (Ok binary) is = let wrong : ⊥ = cc in absurd wrong
+    by-fault (Err bad) is = let b = rw (← err-same _ _ is) at at in (sym b.0, b.1)
 
-end-pair-short : (why : PairAnswer) (i : ℕ) → end_of_pair why ≡ TooLong i → ⊥
-end-pair-short (pair.Bad k bad) i e = cc
-end-pair-short why i e = cc
+-- An answer about the pair ends the run at one of the two files.
+paired-at : (decided : Result FileView PairAnswer) (end : Outcome) (i late : ℕ) → IsNumbered decided → if_paired decided ≡ Err end → IsEndAt i late end → (late ≡ 0) × IsOneOrTwo i
+paired-at (Ok f) end i late numbered is at = let wrong : ⊥ = cc in absurd wrong
+paired-at (Err why) end i late numbered is at = by-answer why numbered (rw (← err-same _ _ is) at at)
+  where
+    by-answer : (why : PairAnswer) → IsNumbered {X = FileView} (Err why) → IsEndAt i late (end_of_pair why) → (late ≡ 0) × IsOneOrTwo i
+    by-answer (pair.Bad k bad) numbered at = (at.1, rw at.0 at numbered)
+    by-answer pair.NoMatch numbered at = (at.1, inr (sym at.0))
+    by-answer pair.TooManyClaims numbered at = (at.1, inl (sym at.0))
+    by-answer why numbered at = absurd at
 
-pub paired-short : (decided : Result FileView PairAnswer) (i : ℕ) → if_paired decided ≡ Err (TooLong i) → ⊥
-paired-short (Ok f) i e = cc
-paired-short (Err why) i e = end-pair-short why i (err-same _ _ e)
+two-within : (limits : Limits) (name debug : List ℕ) (i : ℕ) → IsOneOrTwo i → IsWithin (batch_reading limits (batch_of 0 0 (name ∷ debug ∷ []))) 2 i 0
+two-within limits name debug i (inl is) = (name, rw is refl, omega (arith, is))
+two-within limits name debug i (inr is) = (debug, rw is refl, omega (arith, is))
 
-pub paired-unread : (limits : Limits) (sources : List Chosen) (filter : Option (List ℕ → Bool)) (name file debug : List ℕ) (r : Result Totals Outcome) → EndsPaired limits sources filter name file debug r
-    → (i : ℕ) → r ≡ Err (ReadFailed i) → ⊥
-paired-unread limits sources filter name file debug r e i is = rw is at e
-
-pub paired-not-long : (limits : Limits) (sources : List Chosen) (filter : Option (List ℕ → Bool)) (name file debug : List ℕ) (r : Result Totals Outcome) → EndsPaired limits sources filter name file debug r
-    → (i : ℕ) → r ≡ Err (TooLong i) → ⊥
-paired-not-long limits sources filter name file debug r e i is = paired-short (pair_viewed 0 limits.claims name file debug sources) i (rw is at e)
+-- Both files were read then.
+pub paired-within : (limits : Limits) (sources : List Chosen) (filter : Option (List ℕ → Bool)) (name file debug first second : List ℕ) (r : Result Totals Outcome) → EndsPaired limits sources filter name file debug r
+    → (i late : ℕ) → EndsAt i late r → (late ≡ 0) × IsWithin (batch_reading limits (batch_of 0 0 (first ∷ second ∷ []))) 2 i 0
+paired-within limits sources filter name file debug first second (Ok t) e i late at = absurd at
+paired-within limits sources filter name file debug first second (Err end) e i late at =
+    let decided = pair_viewed 0 limits.claims name file debug sources in
+    let n = ends-at (if_paired decided) end i late _ (λ is. paired-at decided end i late (numbered-pair 0 limits.claims name file debug sources) is at) e at in
+    (n.0, two-within limits first second i n.1)
 
 -- The options of a pair.
 
@@ -300,7 +313,6 @@ pair-reported f limits p o debug asks a r s t old new counts shows =
     let batch = counts.batch in
     let own = batch.bytes 1 in
     let other = batch.bytes 2 in
-    let next = shows-next (PrintsTotal o) a r shows in
     record {
       report = record {
         bytes = two o name debug is asks.debug named own other;
@@ -309,8 +321,8 @@ pair-reported f limits p o debug asks a r s t old new counts shows =
           debug-held o name debug is asks.debug named (f.held s) own other (second-held (f.held s) name debug [] batch.bytes batch.are),
         );
         ends = pair-shown o name debug is asks.debug named limits p.sources p.filter asks.ready.planned.filter asks.ready.planned.depth asks.no_place own other a r batch.ends shows;
-        gives = rw (pair-pairs o name debug is asks.debug named own other) (gives-same a r _ _ _ next batch.gives);
-        reads = reads-next f (batch_reading limits (batch_of 0 0 (name ∷ debug ∷ []))) (reading_for limits o (files_to_read o)) [] a r s t (read-are o name debug is asks.debug named) (pair-part limits o debug is asks.debug (files_to_read o)) next (OnOk-any r _ refl) batch.reads;
+        gives = rw (pair-pairs o name debug is asks.debug named own other) (gives-same (λ i. ⊤) a r _ _ _ (shows-next (λ i. ⊤) (PrintsTotal o) a r shows) batch.gives);
+        reads = reads-next f (batch_reading limits (batch_of 0 0 (name ∷ debug ∷ []))) (reading_for limits o (files_to_read o)) [] a r s t (read-are o name debug is asks.debug named) (pair-part limits o debug is asks.debug (files_to_read o)) (shows-next _ (PrintsTotal o) a r shows) (OnOk-any r _ refl) batch.reads;
       };
       cost = costs-pair limits p.sources o debug (f.gave s) (f.gave t) old new asks.no_place asks.debug counts.cost;
     }
@@ -324,10 +336,11 @@ module _ {F : Type 0} (f : FilesGhosts F) (limits : Limits) (name debug : List �
   pub pair-gives : Gives read (f.gave s) (f.gave u) ((name, first.batch.bytes 1) ∷ (debug, second.bytes) ∷ [])
   pair-gives = gives-behind read _ _ _ ((name, first.batch.bytes 1) ∷ []) ((debug, second.bytes) ∷ []) (given-all file _ _ _ first.batch.gives) second.gives
 
-  pub pair-batch : (Q : (ℕ → List ℕ) → Result Totals Outcome → Type 0) (r : Result Totals Outcome) → GoesOn read r → Q (both (first.batch.bytes 1) second.bytes) r → ReadsBatch f limits (batch_of 0 0 (name ∷ debug ∷ [])) Q r s u
+  pub pair-batch : (Q : (ℕ → List ℕ) → Result Totals Outcome → Type 0) (r : Result Totals Outcome) → GoesOn (λ i. IsWithin (batch_reading limits (batch_of 0 0 (name ∷ debug ∷ []))) 2 i 0) read r → Q (both (first.batch.bytes 1) second.bytes) r → ReadsBatch f limits (batch_of 0 0 (name ∷ debug ∷ [])) Q r s u
   pair-batch Q r next ends =
       let batch = batch_of 0 0 (name ∷ debug ∷ []) in
       let one = file_reading 2 debug limit in
+      let all = batch_reading limits batch in
       let size = length file.items in
       let fits : size ≤ total_limit limits = omega (arith, first-fits limits (first.batch.bytes 1) first.batch.ends.1, ap length first.batch.ends.0) in
       let part = batch-part limits batch 1 1 size limit size debug batch.names refl refl (omega arith) fits is in
@@ -335,7 +348,7 @@ module _ {F : Type 0} (f : FilesGhosts F) (limits : Limits) (name debug : List �
         bytes = both (first.batch.bytes 1) second.bytes;
         are = both-held (f.held s) name debug (first.batch.bytes 1) second.bytes (first-held (f.held s) name [] first.batch.bytes first.batch.are) (rw first.batch.reads.held at second.is);
         ends = ends;
-        gives = gives-same read r _ _ _ next pair-gives;
-        reads = follows f (batch_reading limits (batch_of 0 0 (name ∷ []))) one (batch_reading limits batch) file r size s t u refl part first.batch.reads first.taken
-            (reads-next f one one [] read r t u refl (same-all one) next (OnOk-any r _ refl) second.reads);
+        gives = gives-same _ read r _ _ _ next pair-gives;
+        reads = reads-next f all all [] read r s u refl (same-all all) next (OnOk-any r _ refl)
+            (follows f (batch_reading limits (batch_of 0 0 (name ∷ []))) one all file read size s t u refl part first.batch.reads first.taken second.reads);
       }

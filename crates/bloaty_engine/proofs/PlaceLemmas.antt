@@ -1,5 +1,5 @@
 -- A location of the only file, which is read or synthetic.
-use Rattle.std.proofs.Common.{◌≡◌, ℕ, ◌+◌, ◌-◌, ◌<◌, ◌≤◌, List, [], ◌∷◌, ◌++◌, length, Option, None, Some, Result, Ok, Err, refl, ap, ◌∙◌, arith}
+use Rattle.std.proofs.Common.{◌≡◌, ℕ, ◌+◌, ◌-◌, ◌<◌, ◌≤◌, List, [], ◌∷◌, ◌++◌, length, Option, None, Some, Result, Ok, Err, codes, refl, sym, ap, ◌∙◌, arith}
 use Rattle.std.specs.Prelude.{IsOk, Vec, slice_get, unwrap_or}
 use Rattle.std.specs.declared.alloc.Global.{Global}
 use Rattle.std.proofs.lemmas.Option.{none-some}
@@ -17,19 +17,21 @@ use Rattle.file_profile.specs.Explanations.{Explains}
 use Rattle.file_profile.specs.Sources.{Chosen}
 use Rattle.run_outcome.specs.declared.outcome.Outcome.{Outcome}
 use Rattle.run_outcome.specs.declared.outcome.Outcome.TheVariants.{ReadFailed, TooLong, NoMemory}
+use Rattle.file_profile.proofs.MapLemmas.{err-same}
+use Rattle.bloaty_engine.specs.Devices.{IsEndAt}
 use Rattle.bloaty_engine.specs.FileSteps.{ReadsFiles}
 use Rattle.bloaty_engine.specs.Given.{pairs_from}
 use Rattle.bloaty_engine.specs.Named.{AreHeld}
 use Rattle.run_outcome.specs.Names.{debug_names, file_names, names_of, other_names}
 use Rattle.bloaty_engine.specs.PlaceSteps.{EndsExplained, explained_within}
 use Rattle.bloaty_engine.specs.Reports.{EndsFinding, IsReadFile, IsUnmade, MakesReport}
-use Rattle.bloaty_engine.specs.Reading.{file_reading, files_to_read, reading_for, unmade_names}
+use Rattle.bloaty_engine.specs.Reading.{file_reading, files_to_read, read_upto, reading_for, unmade_names}
 use Rattle.bloaty_engine.specs.Steps.{Finds}
 use Rattle.bloaty_engine.proofs.EndLemmas.{ends-read}
 use Rattle.bloaty_engine.proofs.NextLemmas.{GoesOn, gives-next, reads-next}
 use Rattle.bloaty_engine.proofs.ReadLemmas.{OnOk-any, none-name}
 use Rattle.bloaty_engine.proofs.ResultLemmas.{short-long, short-next}
-use Rattle.bloaty_engine.proofs.StepLemmas.{IsPart, files-part, first-part, same-run}
+use Rattle.bloaty_engine.proofs.StepLemmas.{IsPart, IsWithin, files-part, first-part, same-run}
 use Rattle.bloaty_engine.specs.Verdict.{Explained, counted_files, counted_sides, as_explained, end_of_place, explained_file, next_limit, first_name, found, found_by, if_explained}
 
 -- The outcome of an answer about a location.
@@ -112,9 +114,39 @@ first-of-run limits o all limit is none files =
       most = omega (arith, first.most, run.most);
     }
 
+-- The only file is file 1, and a step that ends the run at it has read it or made it.
+alone-within : (limits : Limits) (o : Options) (all : List (List ℕ)) → IsOneInput o.synth o.files → IsWithin (reading_for limits o all) (length (unmade_names o.synth o.files)) 1 0
+alone-within limits o all one = by-synth o.synth o.files one
+  where
+    by-synth : (synth : Option ℕ) (files : List (List ℕ)) → IsOneInput synth files
+        → (name : List ℕ) × (slice_get (names_of synth files ++ other_names o) 0 ≡ Some name) × (read_upto synth 1 ≤ length (unmade_names synth files) + 0)
+    by-synth None [] one = absurd (omega (arith, one))
+    by-synth None (n ∷ files) one = (n, refl, omega arith)
+    by-synth (Some k) files one = (codes "synth", refl, omega arith)
+
+explained-number : (decided : Result (List PlaceSource) PlaceAnswer) (end : Outcome) (i late : ℕ) → if_explained decided ≡ Err end → IsEndAt i late end → (i ≡ 1) × (late ≡ 0)
+explained-number (Ok sources) end i late e at = let wrong : ⊥ = cc in absurd wrong
+explained-number (Err answer) end i late e at = by-answer answer (rw (← err-same _ _ e) at at)
+  where
+    by-answer : (answer : PlaceAnswer) → IsEndAt i late (end_of_place answer) → (i ≡ 1) × (late ≡ 0)
+    by-answer (explaining.Bad bad) at = (sym at.0, at.1)
+    by-answer explaining.PlaceOutside at = (sym at.0, at.1)
+    by-answer explaining.TooManyClaims at = (sym at.0, at.1)
+    by-answer answer at = absurd at
+
+-- A location that isn't explained ends the run at the only file.
+pub explained-at : (limits : Limits) (o : Options) (all : List (List ℕ)) → IsOneInput o.synth o.files → (decided : Result (List PlaceSource) PlaceAnswer) (end : Outcome) → EndsExplained (if_explained decided) (Err end)
+    → (i late : ℕ) → IsEndAt i late end → (late ≡ 0) × IsWithin (reading_for limits o all) (length (unmade_names o.synth o.files)) i 0
+explained-at limits o all one decided (ReadFailed j) e i late at = absurd e
+explained-at limits o all one decided (TooLong j) e i late at = absurd e
+explained-at limits o all one decided NoMemory e i late at = absurd at
+explained-at limits o all one decided end e i late at =
+    let n = explained-number decided end i late e at in
+    (n.1, rw n.0 (alone-within limits o all one))
+
 -- A report about the only file, after the step that read or made it, and then nothing more is read.
 pub alone-reported : {F X : Type 0} (f : FilesGhosts F) (limits : Limits) (sources : List Chosen) (o : Options) → IsAlone o → (P : (ℕ → List ℕ) → Result X Outcome → Type 0) (a : Result X Outcome) (r : Result (Vec ℕ Global) Outcome) (s t : F)
-    → (file : ReadsFiles f limits o P a s t) → GoesOn a r → EndsFinding limits sources file.bytes o r → MakesReport f limits sources o r s t
+    → (file : ReadsFiles f limits o P a s t) → GoesOn (λ i. IsWithin (reading_for limits o (files_to_read o)) (length (unmade_names o.synth o.files)) i 0) a r → EndsFinding limits sources file.bytes o r → MakesReport f limits sources o r s t
 alone-reported f limits sources o alone P a r s t file next ends =
     let none = no-other-names o alone in
     let first = length (file_names o) + 1 in
@@ -122,6 +154,6 @@ alone-reported f limits sources o alone P a r s t file next ends =
       bytes = file.bytes;
       are = (file.are, no-others-held (f.held s) first (other_names o) file.bytes none);
       ends = ends;
-      gives = gives-next a r _ _ _ _ next (OnOk-any r _ (ap (λ ns. pairs_from first ns file.bytes) none)) file.gives;
+      gives = gives-next _ a r _ _ _ _ next (OnOk-any r _ (ap (λ ns. pairs_from first ns file.bytes) none)) file.gives;
       reads = reads-next f (reading_for limits o (unmade_names o.synth o.files)) (reading_for limits o (files_to_read o)) (other_names o) a r s t refl (same-run limits o (unmade_names o.synth o.files) (files_to_read o)) next (OnOk-any r _ none) file.reads;
     }

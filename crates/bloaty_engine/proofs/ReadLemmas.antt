@@ -2,7 +2,7 @@
 use Rattle.std.proofs.Common.{◌≡◌, ℕ, zero, suc, ◌+◌, ◌≤◌, List, [], ◌∷◌, ◌++◌, length, take, false, true, None, Some, Result, Ok, Err, refl, sym, ap, ◌∙◌, append_assoc, length-append, arith}
 use Rattle.std.specs.Prelude.{IfOk, OnOk, slice_get}
 use Rattle.std.proofs.Math.Seq.{take-append-add}
-use Rattle.std.proofs.lemmas.List.{append-nil, take-append-le}
+use Rattle.std.proofs.lemmas.List.{append-nil, take-append-le, take_all}
 use Rattle.std.proofs.lemmas.Option.{none-some, same_Some}
 use Rattle.size_options.specs.declared.run_options.Options.{Options}
 use Rattle.run_outcome.specs.Names.{debug_names, file_names, name_at, other_names}
@@ -50,6 +50,10 @@ reads-more count before after front rest reads = record {
 -- No name has been read yet.
 pub reads-none : (before names : List (List ℕ)) → ReadsFirst 0 before before names
 reads-none before names = record { within = omega arith; are = read-none before names }
+
+-- All names have been read.
+pub reads-all : (before after names : List (List ℕ)) → after ≡ before ++ names → ReadsFirst (length names) before after names
+reads-all before after names are = record { within = omega arith; are = are ∙ ap (λ ns. before ++ ns) (sym (take_all (length names) names (omega arith))) }
 
 -- Names before others.
 module _ (before middle front rest : List (List ℕ)) (are : middle ≡ before ++ front) where

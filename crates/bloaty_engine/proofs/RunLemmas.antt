@@ -24,8 +24,8 @@ use Rattle.run_outcome.specs.declared.outcome.Outcome.{Outcome}
 use Rattle.run_outcome.specs.declared.outcome.Outcome.TheVariants.{Done, Usage, ReadFailed, TooLong, Config, UnknownSource, PatternSyntax, PatternTooBig, Bad, TooManyClaims, MappedTooLarge, NoMatch, PlaceOutside, WriteFailed, NoMemory}
 use Rattle.size_options.specs.Answers.{IsUsageOf}
 use Rattle.size_options.specs.Asked.{asked as options_of}
-use Rattle.bloaty_engine.specs.Answers.{CountsFile, EndsReport, HasReport, IsAnswer, IsAsked, IsFinished, IsReached, IsRun, Writes, is_end}
-use Rattle.bloaty_engine.specs.Devices.{ended}
+use Rattle.bloaty_engine.specs.Answers.{CountsFile, EndsReport, GaveConfig, HasReport, IsAnswer, IsAsked, IsFinished, IsReached, IsRun, Writes, is_end, is_plan_end}
+use Rattle.bloaty_engine.specs.Devices.{IsEndAt, reported}
 use Rattle.bloaty_engine.specs.Given.{Gives, SeenFiles, config_pairs, input_pairs, run_pairs}
 use Rattle.bloaty_engine.specs.Named.{AreContents, AreFiles, AreHeld, Contents, IsText}
 use Rattle.run_outcome.specs.Names.{file_names, other_names}
@@ -52,10 +52,8 @@ use Rattle.bloaty_engine.proofs.FileLemmas.{some-held}
 use Rattle.bloaty_engine.proofs.GivenLemmas.{given-all, gives-as, gives-behind, gives-ended, gives-none, gives-stops, gives-then}
 use Rattle.bloaty_engine.proofs.HeldLemmas.{held-some}
 use Rattle.bloaty_engine.proofs.LocationLemmas.{explains-file}
-use Rattle.bloaty_engine.proofs.ReadLemmas.{done-is-no-end}
 use Rattle.bloaty_engine.proofs.ResultLemmas.{ok-is, ok-same, short-error, short-some, then-error, then-some}
 use Rattle.bloaty_engine.proofs.SidesLemmas.{behind-held, beyond, front-files}
-use Rattle.bloaty_engine.proofs.StepLemmas.{not-done}
 
 -- The request, case by case.
 
@@ -239,6 +237,13 @@ config-never-past limits name text (TooLong zero) e past = cc
 config-never-past limits name text (Config kind offset) e past = cc
 config-never-past limits name text end e past = customs-error limits name text end e
 
+-- It never ends a run at a name in `-d` or at a pattern.
+config-never-planned : (limits : Limits) (name : Option (List ℕ)) (text : List ℕ) (end : Outcome) → EndsConfig limits name text (Err end) → is_plan_end end ≡ true → ⊥
+config-never-planned limits name text (UnknownSource i) e plan = customs-error limits name text (UnknownSource i) e
+config-never-planned limits name text (PatternSyntax i) e plan = customs-error limits name text (PatternSyntax i) e
+config-never-planned limits name text (PatternTooBig i) e plan = customs-error limits name text (PatternTooBig i) e
+config-never-planned limits name text end e plan = cc
+
 -- With a debug file the sizes are those of the file alone.
 
 pair-file : (limits : Limits) (sources : List Chosen) (name file debug : List ℕ) (s : Sides) → counted_pair limits sources name file debug ≡ Ok s → All (IsOfFile file) s.files
@@ -276,6 +281,21 @@ never-big limits sources files o i e = found-error limits sources files o (Patte
 pub never-bad : (limits : Limits) (sources : List Chosen) (files : ℕ → List ℕ) (o : Options) (i : ℕ) → EndsFinding limits sources files o (Err (PatternSyntax i)) → ⊥
 never-bad limits sources files o i e = found-error limits sources files o (PatternSyntax i) e
 
+-- Nor at a name in `-d`.
+never-planned : (limits : Limits) (sources : List Chosen) (files : ℕ → List ℕ) (o : Options) (end : Outcome) → EndsFinding limits sources files o (Err end) → is_plan_end end ≡ true → ⊥
+never-planned limits sources files o (UnknownSource i) e plan = found-error limits sources files o (UnknownSource i) e
+never-planned limits sources files o (PatternSyntax i) e plan = found-error limits sources files o (PatternSyntax i) e
+never-planned limits sources files o (PatternTooBig i) e plan = found-error limits sources files o (PatternTooBig i) e
+never-planned limits sources files o end e plan = cc
+
+-- A plan that isn't made ends the run at no file.
+pub plan-at : (names : List (List ℕ)) (filter : Option (List ℕ)) (customs : List CustomSource) (last : List ℕ) (end : Outcome) → EndsPlan names filter customs last end → (i late : ℕ) → IsEndAt i late end → ⊥
+plan-at names filter customs last (UnknownSource k) e i late at = at
+plan-at names filter customs last (PatternSyntax k) e i late at = at
+plan-at names filter customs last (PatternTooBig k) e i late at = at
+plan-at names filter customs last NoMemory e i late at = at
+plan-at names filter customs last end e i late at = e
+
 -- The result of the run from its steps.
 
 -- Bytes of files, if they aren't read.
@@ -294,6 +314,7 @@ some-bytes held o others =
 abbrev pub RunsTo : SeenFiles → Limits → Options → List ℕ → Result (Vec ℕ Global) Outcome → Type 0
 RunsTo seen limits o last result = (contents : Contents) × AreContents seen.held o contents × EndsReport limits o last contents result
     × Gives result seen.before seen.after (run_pairs (Ok o) contents)
+    × ((end : Outcome) → result ≡ Err end → is_plan_end end ≡ true → GaveConfig (Ok o) contents seen.before seen.after)
 
 contents-of : List ℕ → (ℕ → List ℕ) → Contents
 contents-of text files = record { config = text; files = files }
@@ -323,7 +344,13 @@ module _ (held : Option Pairs) (limits : Limits) (o : Options) (last text : List
   pub ends-config : (before after : Pairs) (end : Outcome) → EndsConfig limits o.config text (Err end) → Gives {X = Vec CustomSource Global} (Err end) before after (config_pairs o.config text)
       → RunsTo (record { held = held; before = before; after = after }) limits o last (Err end)
   unfolding contents-of unread
-  ends-config before after end e gave = (unread, unread-are, config-ended end e, gives-stops end before after (config_pairs o.config text) (input_pairs o (other_names o) unread.files) gave)
+  ends-config before after end e gave = (
+    unread,
+    unread-are,
+    config-ended end e,
+    gives-stops end before after (config_pairs o.config text) (input_pairs o (other_names o) unread.files) gave,
+    λ x is plan. absurd (config-never-planned limits o.config text end e (rw (err-same _ _ is) plan)),
+  )
 
   module _ (customs : List CustomSource) (configured : customs_in limits o.config text ≡ Ok customs) where
     unknown-verdict : (i : ℕ) → chosen_sources customs o.sources ≡ Err i → verdict limits (Ok o) unread ≡ Err (UnknownSource i)
@@ -347,7 +374,13 @@ module _ (held : Option Pairs) (limits : Limits) (o : Options) (last text : List
     pub ends-plan : {X : Type 0} (x : X) (before after : Pairs) (end : Outcome) → EndsPlan o.sources o.filter customs last end → Gives (Ok x) before after (config_pairs o.config text)
         → RunsTo (record { held = held; before = before; after = after }) limits o last (Err end)
     unfolding contents-of unread
-    ends-plan x before after end e gave = (unread, unread-are, plan-ended end e, gives-then x (Err end) before after (config_pairs o.config text) (input_pairs o (other_names o) unread.files) tt gave)
+    ends-plan x before after end e gave = (
+      unread,
+      unread-are,
+      plan-ended end e,
+      gives-then x (Err end) before after (config_pairs o.config text) (input_pairs o (other_names o) unread.files) tt gave,
+      λ y is plan p same. rw (← ok-same o p same) (given-all x before after (config_pairs o.config text) gave),
+    )
 
     module _ (p : Plans) (planned : IsPlan o.sources o.filter customs p) (files : ℕ → List ℕ) (are : AreFiles held o.synth o.files files)
         (others-are : AreHeld held (length (file_names o) + 1) (other_names o) files) where
@@ -416,6 +449,7 @@ module _ (held : Option Pairs) (limits : Limits) (o : Options) (last text : List
         read-are,
         finding-ended r e,
         gives-behind r before middle after (config_pairs o.config text) (input_pairs o (other_names o) files) (given-all x before middle (config_pairs o.config text) config) gave,
+        λ y is plan. absurd (never-planned limits p.sources files o y (rw is at e) plan),
       )
 
 -- The end of a run with an outcome.
@@ -441,6 +475,12 @@ usage-verdict limits given contents kind e = rw e refl
 usage-answer : (limits : Limits) (words : List (List ℕ)) (contents : Contents) (last : List ℕ) (kind : UsageKind) → IsUsageOf words kind → IsAnswer limits (options_of words) contents last (Usage kind)
 usage-answer limits words contents last usage.Words is = tt
 usage-answer limits words contents last kind is = usage-verdict limits (options_of words) contents kind (is.first (λ e. cc))
+
+-- A run that ended before its report has none.
+not-reported : (end : Outcome) → is_end end ≡ true → reported end ≡ Err end
+not-reported Done is = cc
+not-reported WriteFailed is = cc
+not-reported end is = refl
 
 -- A run whose verdict is a report has an outcome of `IsFinished`.
 no-error : {X : Type 0} (r : Result X Outcome) (end : Outcome) → IsOk r → r ≡ Err end → ⊥
@@ -471,28 +511,30 @@ module _ (seen : SeenFiles) (limits : Limits) (last : List ℕ) (o : Options) (c
 
   -- A run that ends before its report.
   pub run-ends : {X : Type 0} (out : Option (List ℕ)) (end : Outcome) → EndsReport limits o last contents (Err end) → Gives {X = X} (Err end) seen.before seen.after (run_pairs (Ok o) contents)
-      → IsRun seen limits (Ok o) last out out end
-  run-ends out end e gave = record {
+      → (is_plan_end end ≡ true → GaveConfig (Ok o) contents seen.before seen.after) → IsRun seen limits (Ok o) last out out end
+  run-ends out end e gave planned = record {
     contents = contents;
     bytes = own-bytes;
-    gave = rw (not-done end (λ q. done-is-no-end end q e.2)) (gives-ended end seen.before seen.after (run_pairs (Ok o) contents) gave);
+    planned = planned;
+    gave = rw (not-reported end e.2) (gives-ended end seen.before seen.after (run_pairs (Ok o) contents) gave);
     answer = e.0;
     patterns = e.1;
     written = unwritten limits (Ok o) contents last out end e.2;
     complete = finished limits (Ok o) contents last end e.0;
   }
 
-  reported : (P : List ℕ → Type 0) (text : List ℕ) → HasReport limits (Ok o) contents (λ t. t ≡ text) → P text → HasReport limits (Ok o) contents P
-  reported P text has so =
+  shows-report : (P : List ℕ → Type 0) (text : List ℕ) → HasReport limits (Ok o) contents (λ t. t ≡ text) → P text → HasReport limits (Ok o) contents P
+  shows-report P text has so =
       record { found = has.found; text = has.text; decided = has.decided; report = has.report; stripped = has.stripped; explained = has.explained; so = rw has.so so }
 
   -- A run that writes its report, or a part of it.
-  wrote : (old new : Option (List ℕ)) (text : Vec ℕ Global) (outcome : Outcome) → EndsReport limits o last contents (Ok text) → Gives (ended outcome) seen.before seen.after (run_pairs (Ok o) contents)
-      → IsAnswer limits (Ok o) contents last outcome → Writes limits (Ok o) contents old new outcome → IsFinished outcome → IsRun seen limits (Ok o) last old new outcome
-  wrote old new text outcome e gave answer written finished = record {
+  wrote : (old new : Option (List ℕ)) (text : Vec ℕ Global) (outcome : Outcome) → EndsReport limits o last contents (Ok text) → Gives (reported outcome) seen.before seen.after (run_pairs (Ok o) contents)
+      → (is_plan_end outcome ≡ true → ⊥) → IsAnswer limits (Ok o) contents last outcome → Writes limits (Ok o) contents old new outcome → IsFinished outcome → IsRun seen limits (Ok o) last old new outcome
+  wrote old new text outcome e gave unplanned answer written finished = record {
     contents = contents;
     bytes = own-bytes;
     gave = gave;
+    planned = λ plan. absurd (unplanned plan);
     answer = answer;
     patterns = λ q. e.1;
     written = written;
@@ -503,9 +545,9 @@ module _ (seen : SeenFiles) (limits : Limits) (last : List ℕ) (o : Options) (c
       → (outcome ≡ Done) ⊎ (outcome ≡ WriteFailed)
       → (outcome ≡ Done → Grew old new text.items) → (outcome ≡ WriteFailed → GrewByPart old new text.items) → IsRun seen limits (Ok o) last old new outcome
   run-writes old new text outcome e gave (inl is) done part =
-      rw is (wrote old new text Done e (gives-as text (Ok tt) _ _ _ gave) (ok-is _ e.0.found e.0.decided) (reported (Grew old new) text.items e.0 (done is)) tt)
+      rw is (wrote old new text Done e (gives-as text (Ok tt) _ _ _ gave) (λ plan. cc) (ok-is _ e.0.found e.0.decided) (shows-report (Grew old new) text.items e.0 (done is)) tt)
   run-writes old new text outcome e gave (inr is) done part =
-      rw is (wrote old new text WriteFailed e (gives-as text (Err WriteFailed) _ _ _ gave) (ok-is _ e.0.found e.0.decided) (reported (GrewByPart old new) text.items e.0 (part is)) tt)
+      rw is (wrote old new text WriteFailed e (gives-as text (Ok tt) _ _ _ gave) (λ plan. cc) (ok-is _ e.0.found e.0.decided) (shows-report (GrewByPart old new) text.items e.0 (part is)) tt)
 
 -- A run whose arguments are misused.
 pub usage-run : (held : Option Pairs) (before : Pairs) (limits : Limits) (words : List (List ℕ)) (last : List ℕ) (out : Option (List ℕ)) (kind : UsageKind) → IsUsageOf words kind
@@ -517,6 +559,7 @@ usage-run held before limits words last out kind is =
       contents = some.0;
       bytes = some.1;
       gave = gives-none (Err (Usage kind)) before (run_pairs (options_of words) some.0) tt;
+      planned = λ e. cc;
       answer = answer;
       patterns = λ e. cc;
       written = refl;
@@ -531,6 +574,7 @@ no-memory-run held before limits given last out =
       contents = some.0;
       bytes = some.1;
       gave = gives-none (Err NoMemory) before (run_pairs given some.0) tt;
+      planned = λ e. cc;
       answer = tt;
       patterns = λ e. cc;
       written = refl;

@@ -1,6 +1,6 @@
 -- Files and base files, counted one after the other.
 use Rattle.std.proofs.Common.{◌≡◌, ℕ, ◌+◌, ◌-◌, ◌<◌, ◌≤◌, true, false, cond, nat_le, List, [], ◌∷◌, ◌++◌, length, take, Option, None, Some, Result, Ok, Err, refl, sym, ap, ◌∙◌, arith}
-use Rattle.std.specs.Prelude.{IsErrOf, OnOk, if◌then◌else◌, Vec}
+use Rattle.std.specs.Prelude.{⊤, IsErrOf, OnOk, if◌then◌else◌, Vec}
 use Rattle.std.specs.declared.alloc.Global.{Global}
 use Rattle.std.proofs.lemmas.Bool.Decides.{nat_tests}
 use Rattle.std.proofs.lemmas.List.{length-append, length-take-le, take_all}
@@ -252,13 +252,12 @@ pub sizes-reported : {F : Type 0} (f : FilesGhosts F) (limits : Limits) (p : Pla
 sizes-reported f limits p o planned counted r s t files shows =
     let count = length (file_names o) in
     let behind = some-held (f.held s) (count + 1) o.bases in
-    let next = shows-next (PrintsSizes o) counted r shows in
     let none : OnOk r (o.bases ≡ []) = shows-ok (PrintsSizes o) counted r (o.bases ≡ []) (λ t text prints. prints.0) shows in
     let unread = OnOk-then r _ _ (λ is. ap (λ ns. pairs_from (count + 1) ns (beyond count files.bytes behind.0)) is) none in
     record {
       bytes = beyond count files.bytes behind.0;
       are = (front-files (f.held s) o.synth o.files files.bytes behind.0 files.are, behind-held (f.held s) count o.bases files.bytes behind.0 behind.1);
       ends = sizes-shown limits p.sources o p.filter planned.filter planned.depth files.bytes behind.0 counted r files.unmade files.ends shows;
-      gives = rw (front-pairs o.synth o.files files.bytes behind.0) (gives-next counted r _ _ _ _ next unread files.gives);
-      reads = reads-next f (reading_for limits o (unmade_names o.synth o.files)) (reading_for limits o (unmade_names o.synth o.files ++ o.bases)) o.bases counted r s t refl (same-run limits o (unmade_names o.synth o.files) (unmade_names o.synth o.files ++ o.bases)) next none files.reads;
+      gives = rw (front-pairs o.synth o.files files.bytes behind.0) (gives-next (λ i. ⊤) counted r _ _ _ _ (shows-next (λ i. ⊤) (PrintsSizes o) counted r shows) unread files.gives);
+      reads = reads-next f (reading_for limits o (unmade_names o.synth o.files)) (reading_for limits o (unmade_names o.synth o.files ++ o.bases)) o.bases counted r s t refl (same-run limits o (unmade_names o.synth o.files) (unmade_names o.synth o.files ++ o.bases)) (shows-next _ (PrintsSizes o) counted r shows) none files.reads;
     }

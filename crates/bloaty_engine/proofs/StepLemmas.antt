@@ -3,11 +3,11 @@ use Rattle.std.proofs.Common.{◌≡◌, ℕ, zero, suc, ◌+◌, ◌-◌, ◌<�
 use Rattle.std.specs.Prelude.{⊤, IfSome, OnOk, Vec, slice_get}
 use Rattle.std.specs.declared.alloc.Global.{Global}
 use Rattle.std.proofs.lemmas.Bool.Decides.{nat_tests}
-use Rattle.std.proofs.lemmas.List.{append-nil, take-append-drop, take_all}
+use Rattle.std.proofs.lemmas.List.{append-nil, map-append, take-append-drop, take_all}
 use Rattle.std.proofs.lemmas.Option.{none-some, same_Some, slice_get_within}
 use Rattle.outside.specs.declared.files.Files.{Ghosts as FilesGhosts}
 use Rattle.outside.specs.Causes.{Rose}
-use Rattle.outside.specs.Held.{IsTaken, IsTakenAtLeast}
+use Rattle.outside.specs.Held.{IsTaken, IsTakenAtLeast, Pairs}
 use Rattle.file_profile.proofs.MapLemmas.{err-same}
 use Rattle.run_outcome.specs.declared.outcome.Outcome.{Outcome}
 use Rattle.run_outcome.specs.declared.outcome.Outcome.TheVariants.{Done, Usage, ReadFailed, TooLong, WriteFailed, NoMemory}
@@ -15,12 +15,12 @@ use Rattle.size_core.specs.declared.limits.Limits.{Limits}
 use Rattle.size_options.specs.declared.run_options.Options.{Options}
 use Rattle.size_options.specs.declared.errors.UsageKind.{UsageKind}
 use Rattle.run_outcome.specs.Names.{file_names, name_at, names_of, other_names}
-use Rattle.bloaty_engine.specs.Devices.{Reads, ReadsFirst, ended}
+use Rattle.bloaty_engine.specs.Devices.{EndsAt, GaveFirst, Reads, ReadsFirst, ended, names_given}
 use Rattle.bloaty_engine.specs.Reading.{Reading, config_most, config_names, config_reading, file_reading, least_taken, made_len, numbered, read_upto, reading_for, run_reading, unmade_names}
 use Rattle.bloaty_engine.specs.Steps.{Batch, batch_of, batch_reading}
-use Rattle.bloaty_engine.specs.Verdict.{file_limit, next_limit, total_limit}
+use Rattle.bloaty_engine.specs.Verdict.{config_limit, file_limit, next_limit, total_limit}
 use Rattle.bloaty_engine.specs.Stages.{ends_without, is_failed_read}
-use Rattle.bloaty_engine.proofs.ReadLemmas.{OnOk-any, OnOk-then, base-name, get-front, reads-as-many, reads-behind, reads-more, reads-none, reads-whole, take-length, take-next}
+use Rattle.bloaty_engine.proofs.ReadLemmas.{OnOk-any, OnOk-then, base-name, get-front, reads-all, reads-as-many, reads-behind, reads-more, reads-none, reads-whole, take-length, take-next}
 use Rattle.bloaty_engine.proofs.TakenLemmas.{at-least-any, at-least-behind, at-least-less, left-over, most-over, rose-later, some-limit, some-most}
 
 -- The files of a reading are files of another reading, after `before` names of the other. At least `taken` and at most
@@ -65,6 +65,10 @@ numbered-at first i names name at = by-test (nat_lt i first) refl at
 pub read-number : (i j : ℕ) → ReadFailed i ≡ ReadFailed j → i ≡ j
 read-number i j e = cc
 
+-- The names of what reads returned, with one more.
+pub names-more : (old new : Pairs) (name bytes : List ℕ) → new ≡ old ++ (name, bytes) ∷ [] → names_given new ≡ names_given old ++ name ∷ []
+names-more old new name bytes are = ap names_given are ∙ map-append (λ (pair : List ℕ × List ℕ). pair.0) old ((name, bytes) ∷ [])
+
 pub long-number : (i j : ℕ) → TooLong i ≡ TooLong j → i ≡ j
 long-number i j e = cc
 
@@ -79,14 +83,35 @@ part-behind : (front : List (List ℕ)) (p q : Reading) (taken spent : ℕ) → 
 part-behind front p q taken spent names part i name at old mid new are reads =
     reads-as-many (length front + p.upto i) (q.upto i) old new q.names (part.upto i name at) (rw names (reads-behind old mid front p.names are (p.upto i) new reads))
 
+-- The same of the names that returned their bytes.
+gave-front : (p q : Reading) (rest : List (List ℕ)) (taken spent : ℕ) → q.names ≡ p.names ++ rest → IsPart p q 0 taken spent
+    → (i late : ℕ) (name : List ℕ) → p.name_of i ≡ Some name → (old new : Pairs) → GaveFirst (p.upto i - late) old new p.names → GaveFirst (q.upto i - late) old new q.names
+gave-front p q rest taken spent names part i late name at old new (n, le, gave) =
+    (n, omega (arith, le, part.upto i name at), rw names (reads-more n (names_given old) (names_given new) p.names rest gave))
+
+gave-behind : (front : List (List ℕ)) (p q : Reading) (taken spent : ℕ) → q.names ≡ front ++ p.names → IsPart p q (length front) taken spent
+    → (i late : ℕ) (name : List ℕ) → p.name_of i ≡ Some name → (old mid new : Pairs) → names_given mid ≡ names_given old ++ front → GaveFirst (p.upto i - late) mid new p.names → GaveFirst (q.upto i - late) old new q.names
+gave-behind front p q taken spent names part i late name at old mid new are (n, le, gave) =
+    (length front + n, omega (arith, le, part.upto i name at), rw names (reads-behind (names_given old) (names_given mid) front p.names are n (names_given new) gave))
+
+-- A step that ends the run at a file, after all files of a reading returned their bytes.
+abbrev pub IsWithin : Reading → ℕ → ℕ → ℕ → Type 0
+IsWithin q count i late = (name : List ℕ) × (q.name_of i ≡ Some name) × (q.upto i ≤ count + late)
+
+gave-all : (names rest : List (List ℕ)) (old new : Pairs) → names_given new ≡ names_given old ++ names → ReadsFirst (length names) (names_given old) (names_given new) (names ++ rest)
+gave-all names rest old new are = reads-more (length names) (names_given old) (names_given new) names rest (reads-all (names_given old) (names_given new) names are)
+
 module _ {F : Type 0} (f : FilesGhosts F) where
   -- A step that reads no file.
   pub unread : {X : Type 0} (q : Reading) (r : Result X Outcome) (s : F) → OnOk r (q.names ≡ []) → ((i : ℕ) → r ≡ Err (ReadFailed i) → ⊥)
-      → ((i : ℕ) → r ≡ Err (TooLong i) → (name : List ℕ) × (q.name_of i ≡ Some name) × (q.upto i ≡ 0) × (q.least i ≡ 0)) → Reads f q r s s
-  unread q r s none unfailed short = record {
+      → ((i : ℕ) → r ≡ Err (TooLong i) → (name : List ℕ) × (q.name_of i ≡ Some name) × (q.upto i ≡ 0) × (q.least i ≡ 0))
+      → ((i late : ℕ) → EndsAt i late r → IsWithin q 0 i late) → Reads f q r s s
+  unread q r s none unfailed short at = record {
     held = refl;
     asked = (0, reads-none (f.asked s) q.names);
     all = OnOk-then r _ _ (λ e. rw e (sym (append-nil (f.asked s)))) none;
+    gave = OnOk-then r _ _ (λ e. rw e (sym (append-nil (names_given (f.gave s))))) none;
+    reached = λ i late e. let a = at i late e in (a.0, a.1, (0, omega (arith, a.2), reads-none (names_given (f.gave s)) q.names));
     failed = λ i e. absurd (unfailed i e);
     sound = λ e. refl;
     later = omega arith;
@@ -103,6 +128,8 @@ module _ {F : Type 0} (f : FilesGhosts F) where
     held = a.held;
     asked = rw names a.asked;
     all = rw names a.all;
+    gave = rw names a.gave;
+    reached = λ i late e. let g = a.reached i late e in (g.0, part.name_of i g.0 g.1, gave-front p q [] 0 0 whole part i late g.0 g.1 _ _ g.2);
     failed = λ i is. let g = a.failed i is in (g.0, part.name_of i g.0 g.1, part-front p q [] 0 0 whole part i g.0 g.1 _ _ g.2, g.3, g.4);
     sound = a.sound;
     later = a.later;
@@ -123,6 +150,8 @@ module _ {F : Type 0} (f : FilesGhosts F) where
     held = a.held;
     asked = (a.asked.0, rw names (reads-more a.asked.0 (f.asked s) (f.asked t) p.names rest a.asked.1));
     all = tt;
+    gave = tt;
+    reached = λ i late e'. let g = a.reached i late e' in (g.0, part.name_of i g.0 g.1, gave-front p q rest 0 0 names part i late g.0 g.1 _ _ g.2);
     failed = λ i is. let g = a.failed i (ap Err (err-same _ _ is)) in (g.0, part.name_of i g.0 g.1, part-front p q rest 0 0 names part i g.0 g.1 _ _ g.2, g.3, g.4);
     sound = a.sound;
     later = a.later;
@@ -140,6 +169,8 @@ module _ {F : Type 0} (f : FilesGhosts F) where
     held = b.held ∙ a.held;
     asked = (length p1.names + b.asked.0, rw names (reads-behind (f.asked s) (f.asked t) p1.names p2.names a.all b.asked.0 (f.asked u) b.asked.1));
     all = rw names (OnOk-then r _ _ (reads-whole (f.asked s) (f.asked t) p1.names p2.names a.all (f.asked u)) b.all);
+    gave = rw names (OnOk-then r _ _ (reads-whole (names_given (f.gave s)) (names_given (f.gave t)) p1.names p2.names a.gave (names_given (f.gave u))) b.gave);
+    reached = λ i late e. let g = b.reached i late e in (g.0, part.name_of i g.0 g.1, gave-behind p1.names p2 q taken spent names part i late g.0 g.1 _ _ _ a.gave g.2);
     failed = λ i e.
         let g = b.failed i e in
         (g.0, part.name_of i g.0 g.1, part-behind p1.names p2 q taken spent names part i g.0 g.1 _ _ _ a.all g.2, rose-later 1 _ _ _ a.later g.3, g.4);
@@ -169,35 +200,45 @@ module _ {F : Type 0} (f : FilesGhosts F) where
 
   -- A step that reads nothing, after one that succeeded.
   pub then-unread : {X Y : Type 0} (p q : Reading) (rest : List (List ℕ)) (x : X) (r : Result Y Outcome) (s t : F) → q.names ≡ p.names ++ rest → p.most ≤ q.most → OnOk r (rest ≡ [])
-      → ((i : ℕ) → r ≡ Err (ReadFailed i) → ⊥) → ((i : ℕ) → r ≡ Err (TooLong i) → ⊥) → Reads f p (Ok x) s t → Reads f q r s t
-  then-unread p q rest x r s t names most none unfailed short a = record {
+      → ((i late : ℕ) → EndsAt i late r → (late ≡ 0) × IsWithin q (length p.names) i 0) → Reads f p (Ok x) s t → Reads f q r s t
+  then-unread p q rest x r s t names most none at a = record {
     held = a.held;
     asked = (a.asked.0, rw names (reads-more a.asked.0 (f.asked s) (f.asked t) p.names rest a.asked.1));
     all = rw names (OnOk-then r _ _ (λ e. rw e (a.all ∙ ap (λ ns. f.asked s ++ ns) (sym (append-nil p.names)))) none);
-    failed = λ i e. absurd (unfailed i e);
+    gave = rw names (OnOk-then r _ _ (λ e. rw e (a.gave ∙ ap (λ ns. names_given (f.gave s) ++ ns) (sym (append-nil p.names)))) none);
+    reached = λ i late e.
+        let b = at i late e in
+        (b.1.0, b.1.1, (length p.names, omega (arith, b.1.2), rw names (gave-all p.names rest (f.gave s) (f.gave t) a.gave)));
+    failed = λ i e. absurd (failed-late r i e at);
     sound = λ e. a.sound refl;
     later = a.later;
     more = a.more;
-    long = λ i e. absurd (short i e);
+    long = λ i e. absurd (long-late r i e at);
     most = omega (arith, a.most, most);
   }
+    where
+      failed-late : {Z : Type 0} {P : ℕ → ℕ → Type 0} (z : Result Z Outcome) (i : ℕ) → z ≡ Err (ReadFailed i) → ((i late : ℕ) → EndsAt i late z → (late ≡ 0) × P i late) → ⊥
+      failed-late z i e at = omega (arith, ((rw e at at) i 1 (refl, refl)).0)
+
+      long-late : {Z : Type 0} {P : ℕ → ℕ → Type 0} (z : Result Z Outcome) (i : ℕ) → z ≡ Err (TooLong i) → ((i late : ℕ) → EndsAt i late z → (late ≡ 0) × P i late) → ⊥
+      long-late z i e at = omega (arith, ((rw e at at) i 1 (refl, refl)).0)
 
   -- The same with another value.
   pub same-ok : {X Y : Type 0} (q : Reading) (x : X) (y : Y) (s t : F) → Reads f q (Ok x) s t → Reads f q (Ok y) s t
-  same-ok q x y s t a = then-unread q q [] x (Ok y) s t (sym (append-nil q.names)) (omega arith) refl (λ i e. cc) (λ i e. cc) a
+  same-ok q x y s t a = then-unread q q [] x (Ok y) s t (sym (append-nil q.names)) (omega arith) refl (λ i late e. absurd e) a
 
   -- The usual cases: nothing was read, or the step ran out of memory.
   pub unread-ok : {X : Type 0} (q : Reading) (x : X) (s : F) → q.names ≡ [] → Reads f q (Ok x) s s
-  unread-ok q x s none = unread q (Ok x) s none (λ i e. cc) (λ i e. absurd cc)
+  unread-ok q x s none = unread q (Ok x) s none (λ i e. cc) (λ i e. absurd cc) (λ i late e. absurd e)
 
   pub unread-no-memory : {X : Type 0} (q : Reading) (s : F) → Reads {X = X} f q (Err NoMemory) s s
-  unread-no-memory q s = unread q (Err NoMemory) s tt (λ i e. cc) (λ i e. absurd cc)
+  unread-no-memory q s = unread q (Err NoMemory) s tt (λ i e. cc) (λ i e. absurd cc) (λ i late e. absurd e)
 
   pub unread-usage : {X : Type 0} (q : Reading) (kind : UsageKind) (s : F) → Reads {X = X} f q (Err (Usage kind)) s s
-  unread-usage q kind s = unread q (Err (Usage kind)) s tt (λ i e. cc) (λ i e. absurd cc)
+  unread-usage q kind s = unread q (Err (Usage kind)) s tt (λ i e. cc) (λ i e. absurd cc) (λ i late e. absurd e)
 
   pub then-ok : {X Y : Type 0} (p q : Reading) (rest : List (List ℕ)) (x : X) (y : Y) (s t : F) → q.names ≡ p.names ++ rest → p.most ≤ q.most → rest ≡ [] → Reads f p (Ok x) s t → Reads f q (Ok y) s t
-  then-ok p q rest x y s t names most none a = then-unread p q rest x (Ok y) s t names most none (λ i e. cc) (λ i e. cc) a
+  then-ok p q rest x y s t names most none a = then-unread p q rest x (Ok y) s t names most none (λ i late e. absurd e) a
 
   -- One read.
   pub one-read : {X : Type 0} (number : ℕ) (name : List ℕ) (limit : ℕ) (r : Result X Outcome) (s t : F) → f.asked t ≡ f.asked s ++ name ∷ [] → f.held t ≡ f.held s → f.faults s ≤ f.faults t → f.taken s ≤ f.taken t
@@ -205,11 +246,16 @@ module _ {F : Type 0} (f : FilesGhosts F) where
       → ((i : ℕ) → r ≡ Err (ReadFailed i) → (i ≡ number) × Rose (f.faults s) (f.faults t) × IfSome (f.last_failed t) (λ n. n ≡ name))
       → (ends_without is_failed_read r ≡ true → f.faults t ≡ f.faults s)
       → ((i : ℕ) → r ≡ Err (TooLong i) → (i ≡ number) × IsTakenAtLeast (f.held s) (limit + 1) (f.taken s) (f.taken t))
+      → OnOk r (names_given (f.gave t) ≡ names_given (f.gave s) ++ name ∷ []) → ((i late : ℕ) → EndsAt i late r → (i ≡ number) × (late ≡ 1) × (f.gave t ≡ f.gave s))
       → Reads f (file_reading number name limit) r s t
-  one-read number name limit r s t asked held later more most failed sound long = record {
+  one-read number name limit r s t asked held later more most failed sound long gave at = record {
     held = held;
     asked = (1, one);
     all = OnOk-any r _ asked;
+    gave = gave;
+    reached = λ i late e.
+        let a = at i late e in
+        (name, rw a.0 here, (0, omega (arith, a.0, a.1), rw a.2 (reads-none (names_given (f.gave s)) (name ∷ []))));
     failed = λ i e. let g = failed i e in (name, rw g.0 here, rw g.0 upto, g.1, g.2);
     sound = sound;
     later = later;
@@ -236,7 +282,7 @@ module _ {F : Type 0} (f : FilesGhosts F) where
 -- A run that wrote its report, or a part of it.
 pub written-reads : {F X : Type 0} (f : FilesGhosts F) (q : Reading) (x : X) (outcome : Outcome) (s t : F) → (outcome ≡ Done) ⊎ (outcome ≡ WriteFailed) → Reads f q (Ok x) s t → Reads f q (ended outcome) s t
 written-reads f q x outcome s t (inl is) a = rw is (same-ok f q x tt s t a)
-written-reads f q x outcome s t (inr is) a = rw is (then-unread f {Y = ⊤} q q [] x (Err WriteFailed) s t (sym (append-nil q.names)) (omega arith) tt (λ i e. cc) (λ i e. cc) a)
+written-reads f q x outcome s t (inr is) a = rw is (then-unread f {Y = ⊤} q q [] x (Err WriteFailed) s t (sym (append-nil q.names)) (omega arith) tt (λ i late e. absurd e) a)
 
 -- Parts of a batch, and of a run with options.
 
@@ -247,6 +293,19 @@ single-at first i name n at = by-index (numbered-at first i (name ∷ []) n at)
     by-index : (j : ℕ) × (i ≡ first + j) × (slice_get (name ∷ []) j ≡ Some n) → (i ≡ first) × (name ≡ n)
     by-index (zero, number, same) = (omega (arith, number), same_Some name n same)
     by-index (suc j, number, same) = absurd (none-some n same)
+
+none-before : (synth : Option ℕ) → read_upto synth 0 ≡ 0
+none-before None = refl
+none-before (Some n) = refl
+
+-- The only file of the configuration.
+pub config-part : (limits : Limits) (o : Options) (name : List ℕ) (limit : ℕ) → o.config ≡ Some name → limit ≡ config_limit limits → IsPart (file_reading 0 name limit) (config_reading limits o) 0 0 0
+config-part limits o name limit is limited = record {
+  name_of = λ i n at. let one = single-at 0 i name n at in rw one.0 (is ∙ ap Some one.1);
+  upto = λ i n at. let one = single-at 0 i name n at in rw one.0 (omega (arith, ap (λ c. length (config_names c)) is, none-before o.synth));
+  least = λ i n at. let one = single-at 0 i name n at in rw one.0 (omega (arith, limited));
+  most = omega (arith, ap (config_most limits) is, limited);
+}
 
 -- A file of a batch, if this many bytes were read before it.
 pub batch-part : (limits : Limits) (b : Batch) (k before lengths limit taken : ℕ) (name : List ℕ) (names : List (List ℕ)) → before ≡ k → slice_get b.names k ≡ Some name → lengths ≡ b.before + taken → lengths ≤ total_limit limits
@@ -280,6 +339,12 @@ batch-file f limits b k lengths limit taken name r s t u at are within is before
     let inside : k < length b.names = slice_get_within b.names k name at in
     let part = batch-part limits b k (length (take k b.names)) lengths limit taken name (take (k + 1) b.names) (take-length b.names k (omega (arith, inside))) at are within is in
     follows f (front limits b k) (file_reading (b.first + k) name limit) (front limits b (k + 1)) tt r taken s t u (take-next b.names k name at) part before had read
+
+-- File k of a batch, after the first k + 1 files.
+pub batch-at : (limits : Limits) (b : Batch) (k i : ℕ) (name : List ℕ) → slice_get b.names k ≡ Some name → i ≡ b.first + k → IsWithin (batch_reading limits b) (length (take (k + 1) b.names)) i 0
+batch-at limits b k i name at is =
+    let inside : k < length b.names = slice_get_within b.names k name at in
+    (name, rw is (numbered-first b.first k b.names ∙ at), omega (arith, is, take-length b.names (k + 1) (omega (arith, inside))))
 
 pub same-batch : (limits : Limits) (b : Batch) (k : ℕ) → IsPart (front limits b k) (batch_reading limits b) 0 0 0
 same-batch limits b k = record { name_of = λ i name at. at; upto = λ i name at. omega arith; least = λ i name at. omega arith; most = omega arith }
@@ -325,12 +390,21 @@ files-part limits o names all none named = record {
 
 -- A synthetic file isn't read. It is file 1.
 pub made-unread : {F X : Type 0} (f : FilesGhosts F) (limits : Limits) (o : Options) (n : ℕ) → o.synth ≡ Some n → (r : Result X Outcome) (s : F)
-    → ((i : ℕ) → r ≡ Err (ReadFailed i) → ⊥) → ((i : ℕ) → r ≡ Err (TooLong i) → i ≡ 1) → Reads f (reading_for limits o (unmade_names o.synth o.files)) r s s
-made-unread f limits o n is r s unread_all long =
+    → ((i : ℕ) → r ≡ Err (ReadFailed i) → ⊥) → ((i late : ℕ) → EndsAt i late r → i ≡ 1) → Reads f (reading_for limits o (unmade_names o.synth o.files)) r s s
+made-unread f limits o n is r s unread_all at =
     unread f (reading_for limits o (unmade_names o.synth o.files)) r s (OnOk-any r _ (ap (λ t. unmade_names t o.files) is)) unread_all
     (λ i e.
-    let number = long i e in
-    (codes "synth", rw number (ap (λ t. slice_get (names_of t o.files ++ other_names o) 0) is), rw number (ap (λ t. read_upto t 1) is), rw number (ap (λ t. least_taken limits t 1) is)))
+    let number = at i 1 (rw e (refl, refl)) in
+    (codes "synth", rw number named, rw number upto, rw number (ap (λ t. least_taken limits t 1) is)))
+    (λ i late e.
+    let number = at i late e in
+    (codes "synth", rw number named, omega (arith, upto, ap (read_upto o.synth) number)))
+  where
+    named : name_at o 1 ≡ Some (codes "synth")
+    named = ap (λ t. slice_get (names_of t o.files ++ other_names o) 0) is
+
+    upto : read_upto o.synth 1 ≡ 0
+    upto = ap (λ t. read_upto t 1) is
 
 -- Base files, after files with this many bytes.
 base-least : (limits : Limits) (synth : Option ℕ) (files : List (List ℕ)) (lengths i : ℕ) → length (names_of synth files) < i → made_len synth ≤ lengths → lengths ≤ total_limit limits

@@ -1,10 +1,10 @@
 -- How many bytes are read before a file is found too long.
-use Rattle.std.proofs.Common.{◌≡◌, ℕ, ◌+◌, ◌-◌, ◌≤◌, List, min, Option, None, Some, arith}
+use Rattle.std.proofs.Common.{◌≡◌, ℕ, ◌+◌, ◌-◌, ◌≤◌, List, min, Option, None, Some, sym, arith}
 use Rattle.outside.specs.Causes.{RoseBy}
 use Rattle.outside.specs.Held.{Pairs, IsLonger, IsTaken, IsTakenAtLeast}
 use Rattle.file_profile.specs.declared.answer.ProfileAnswer.{ProfileAnswer}
 use Rattle.file_profile.specs.declared.answer.ProfileAnswer.TheVariants as profile
-use Rattle.run_outcome.specs.declared.outcome.Outcome.TheVariants.{TooLong}
+use Rattle.bloaty_engine.specs.Devices.{IsEndAt}
 use Rattle.bloaty_engine.specs.Verdict.{end_at}
 
 rose-none : (before : ℕ) → RoseBy 0 before before
@@ -65,7 +65,8 @@ some-most file total before taken lengths limit are within is = grind arith
 pub most-over : (total made lengths : ℕ) → made ≤ lengths → lengths ≤ total → (lengths - made) + (total - lengths + 1) ≤ total - made + 1
 most-over total made lengths le within = grind arith
 
--- A file that was read completely isn't too long.
-pub end-short : (number : ℕ) (answer : ProfileAnswer) (i : ℕ) → end_at number answer ≡ TooLong i → ⊥
-end-short number (profile.Bad bad) i e = cc
-end-short number answer i e = cc
+-- A file that can't be counted was read.
+pub end-number : (number : ℕ) (answer : ProfileAnswer) (i late : ℕ) → IsEndAt i late (end_at number answer) → (i ≡ number) × (late ≡ 0)
+end-number number (profile.Bad bad) i late at = (sym at.0, at.1)
+end-number number profile.TooManyClaims i late at = (sym at.0, at.1)
+end-number number answer i late at = absurd at

@@ -1,17 +1,18 @@
 -- The outcome of a run and what it writes, by its arguments and the bytes of its files. `IsRun` is the main
 -- definition.
-use Rattle.std.specs.Prelude.{⊤, ◌≡◌, ℕ, zero, suc, ◌<◌, Bool, true, false, List, length, Option, Some, Result, Ok, Err, Vec, IsOk, All}
+use Rattle.std.specs.Prelude.{⊤, ◌≡◌, ℕ, zero, suc, ◌<◌, Bool, true, false, List, ◌++◌, length, Option, Some, Result, Ok, Err, Vec, IsOk, All}
 use Rattle.std.specs.declared.alloc.Global.{Global}
 use Rattle.size_core.specs.declared.limits.Limits.{Limits}
 use Rattle.outside.specs.Grown.{Grew, GrewByPart}
+use Rattle.outside.specs.Held.{Pairs}
 use Rattle.custom_rewrites.specs.Pattern.{IsNoPattern}
 use Rattle.size_options.specs.declared.run_options.Options.{Options}
 use Rattle.size_options.specs.declared.errors.UsageKind.{UsageKind}
 use Rattle.size_options.specs.declared.errors.UsageKind.TheVariants as usage
 use Rattle.run_outcome.specs.declared.outcome.Outcome.{Outcome}
-use Rattle.run_outcome.specs.declared.outcome.Outcome.TheVariants.{Done, Usage, ReadFailed, PatternSyntax, PatternTooBig, WriteFailed, NoMemory}
-use Rattle.bloaty_engine.specs.Devices.{ended}
-use Rattle.bloaty_engine.specs.Given.{Gives, SeenFiles, run_pairs}
+use Rattle.run_outcome.specs.declared.outcome.Outcome.TheVariants.{Done, Usage, ReadFailed, UnknownSource, PatternSyntax, PatternTooBig, WriteFailed, NoMemory}
+use Rattle.bloaty_engine.specs.Devices.{reported}
+use Rattle.bloaty_engine.specs.Given.{Gives, SeenFiles, config_pairs, run_pairs}
 use Rattle.bloaty_engine.specs.LocationReport.{ExplainsFile}
 use Rattle.bloaty_engine.specs.Named.{AreContents, Contents}
 use Rattle.run_outcome.specs.Names.{all_names}
@@ -95,6 +96,17 @@ Writes limits given contents old new Done = HasReport limits given contents (Gre
 Writes limits given contents old new WriteFailed = HasReport limits given contents (GrewByPart old new)
 Writes limits given contents old new answer = new ≡ old
 
+-- The outcomes that end a run at a name in `-d` or at a pattern, after the configuration was read and before the files are.
+abbrev pub is_plan_end : Outcome → Bool
+is_plan_end (UnknownSource i) = true
+is_plan_end (PatternSyntax i) = true
+is_plan_end (PatternTooBig i) = true
+is_plan_end outcome = false
+
+-- The reads of a run returned the configuration, if there is one, and nothing else.
+abbrev pub GaveConfig : Result Options UsageKind → Contents → Pairs → Pairs → Type 0
+GaveConfig given contents before after = (o : Options) → given ≡ Ok o → after ≡ before ++ config_pairs o.config contents.config
+
 -- A run, by what it read and wrote. `seen` is what the run saw of the files; `given` is the result of parsing the arguments;
 -- `last` is the last pattern that was refused for its size; `old` and `new` are what the output held before and after.
 --
@@ -102,7 +114,8 @@ Writes limits given contents old new answer = new ≡ old
 -- bytes: They are those that the files hold, if the implementation of `Files` reveals this, as files in memory do.
 --     The bytes of a synthetic file are known.
 -- gave: They are those that the reads of this run returned: of the configuration first and then of the files, in the order
---     in which they are read. A run that is done has read all of them, and any other run the first ones.
+--     in which they are read. A run that made its report has read all of them, and any other run the first ones.
+-- planned: If it ended at a name in `-d` or at a pattern, they returned the configuration, if there is one, and nothing else.
 -- answer: The outcome is what the arguments and these bytes decide, or an interruption at a stage that the run reached.
 -- patterns: If the run got past the stage of the patterns, all of them are regular expressions.
 -- written: Done has written the report, WriteFailed a proper prefix of it, and any other outcome nothing.
@@ -112,7 +125,8 @@ pub record IsRun (seen : SeenFiles) (limits : Limits) (given : Result Options Us
     (old new : Option (List ℕ)) (outcome : Outcome) : Type 0 where
   pub contents : Contents
   pub bytes : (o : Options) → given ≡ Ok o → AreContents seen.held o contents
-  pub gave : Gives (ended outcome) seen.before seen.after (run_pairs given contents)
+  pub gave : Gives (reported outcome) seen.before seen.after (run_pairs given contents)
+  pub planned : is_plan_end outcome ≡ true → GaveConfig given contents seen.before seen.after
   pub answer : IsAnswer limits given contents last outcome
   pub patterns : is_past Patterns outcome ≡ true → HasGoodPatterns limits given contents
   pub written : Writes limits given contents old new outcome

@@ -1,6 +1,6 @@
 -- What a step of a run did to the files, the patterns, the output and the error output: each is seen before and after
 -- the step. That a read or a write failed means that its count of failures rose, or has stopped at 2^64 - 1 (`Rose`).
-use Rattle.std.specs.Prelude.{◌≡◌, ◌≢◌, ℕ, ◌+◌, ◌<◌, ◌≤◌, [], ◌∷◌, ◌++◌, List, length, take, true, Some, Result, Ok, Err, OnOk, IsErrOf, IfSome, ⊤}
+use Rattle.std.specs.Prelude.{◌≡◌, ◌≢◌, ℕ, ◌+◌, ◌-◌, ◌<◌, ◌≤◌, [], ◌∷◌, ◌++◌, List, length, map, take, true, Some, Result, Ok, Err, OnOk, IsErrOf, IfSome, ⊤}
 use Rattle.outside.specs.declared.files.Files.{Ghosts as FilesGhosts}
 use Rattle.outside.specs.declared.sink.Sink.{Ghosts as SinkGhosts}
 use Rattle.custom_rewrites.specs.declared.pattern.Patterns.{Ghosts as PatternsGhosts}
@@ -14,7 +14,7 @@ use Rattle.file_profile.specs.declared.plan.PlanAnswer.{PlanAnswer}
 use Rattle.file_profile.specs.declared.plan.PlanAnswer.TheVariants as plan
 use Rattle.file_profile.specs.Plans.{KeepsLast, answers_without_refusal}
 use Rattle.run_outcome.specs.declared.outcome.Outcome.{Outcome}
-use Rattle.run_outcome.specs.declared.outcome.Outcome.TheVariants.{Done, ReadFailed, TooLong, PatternSyntax, PatternTooBig, WriteFailed}
+use Rattle.run_outcome.specs.declared.outcome.Outcome.TheVariants.{Done, Config, Bad, TooManyClaims, NoMatch, PlaceOutside, ReadFailed, TooLong, PatternSyntax, PatternTooBig, WriteFailed}
 use Rattle.bloaty_engine.specs.PatternLists.{PatternList, no_patterns, run_patterns}
 use Rattle.bloaty_engine.specs.Given.{SeenFiles, asked_given}
 use Rattle.bloaty_engine.specs.Reading.{Reading}
@@ -25,16 +25,50 @@ abbrev pub ended : Outcome → Result ⊤ Outcome
 ended Done = Ok tt
 ended outcome = Err outcome
 
+-- The outcome of a run as the result of making its report: `Ok` if it was made, whether or not it was written whole.
+abbrev pub reported : Outcome → Result ⊤ Outcome
+reported Done = Ok tt
+reported WriteFailed = Ok tt
+reported outcome = Err outcome
+
 -- The names that were read before, and then the first `count` of these names, each once and in order.
 pub record ReadsFirst (count : ℕ) (before after names : List (List ℕ)) : Type 0 where
   pub within : count ≤ length names
   pub are : after ≡ before ++ take count names
+
+-- The names of the files that returned these bytes.
+abbrev pub names_given : Pairs → List (List ℕ)
+names_given pairs = map (λ (pair : List ℕ × List ℕ). pair.0) pairs
+
+-- At least the first `count` of these names returned their bytes, each once and in order.
+abbrev pub GaveFirst : ℕ → Pairs → Pairs → List (List ℕ) → Type 0
+GaveFirst count before after names = (n : ℕ) × (count ≤ n) × ReadsFirst n (names_given before) (names_given after) names
+
+-- A run ended with this outcome at file i. `unread` is 1 if the read of file i returned no bytes, and 0 if it returned them. The
+-- configuration is file 0. `NoMatch` needs a file and its debug file, and the file of a location is file 1.
+abbrev pub IsEndAt : ℕ → ℕ → Outcome → Type 0
+IsEndAt i unread (ReadFailed j) = (j ≡ i) × (unread ≡ 1)
+IsEndAt i unread (TooLong j) = (j ≡ i) × (unread ≡ 1)
+IsEndAt i unread (Config kind offset) = (0 ≡ i) × (unread ≡ 0)
+IsEndAt i unread (Bad j fault offset) = (j ≡ i) × (unread ≡ 0)
+IsEndAt i unread (TooManyClaims j) = (j ≡ i) × (unread ≡ 0)
+IsEndAt i unread NoMatch = (2 ≡ i) × (unread ≡ 0)
+IsEndAt i unread PlaceOutside = (1 ≡ i) × (unread ≡ 0)
+IsEndAt i unread end = ⊥
+
+-- The step ended the run at file i.
+abbrev pub EndsAt : {X : Type 0} → ℕ → ℕ → Result X Outcome → Type 0
+EndsAt i unread (Ok x) = ⊥
+EndsAt i unread (Err end) = IsEndAt i unread end
 
 -- The effect of a step on the files. It reads the files of a reading, one after the other, and no others.
 --
 -- held: The contents of the files are unchanged.
 -- asked: The names that were read are the first ones of the reading, each once and in order.
 -- all: If the step succeeded, all names were read.
+-- gave: If it succeeded, each of these reads returned the bytes of its file.
+-- reached: If it ended at file i, the reads of the files before it returned their bytes, and so did that of file i, unless it
+--     couldn't be read or was too long.
 -- failed: If it ended because file i couldn't be read, the names that were read are those up to file i, a read failed, and it
 --     was the read of the name of file i, if the files report the name.
 -- sound: Otherwise no read failed.
@@ -46,6 +80,9 @@ pub record Reads {F X : Type 0} (f : FilesGhosts F) (reading : Reading) (result 
   pub held : f.held after ≡ f.held before
   pub asked : (count : ℕ) × ReadsFirst count (f.asked before) (f.asked after) reading.names
   pub all : OnOk result (f.asked after ≡ f.asked before ++ reading.names)
+  pub gave : OnOk result (names_given (f.gave after) ≡ names_given (f.gave before) ++ reading.names)
+  pub reached : (i unread : ℕ) → EndsAt i unread result → (name : List ℕ) × (reading.name_of i ≡ Some name)
+      × GaveFirst (reading.upto i - unread) (f.gave before) (f.gave after) reading.names
   pub failed : (i : ℕ) → IsErrOf result (ReadFailed i) → (name : List ℕ) × (reading.name_of i ≡ Some name)
       × ReadsFirst (reading.upto i) (f.asked before) (f.asked after) reading.names
       × Rose (f.faults before) (f.faults after) × IfSome (f.last_failed after) (λ n. n ≡ name)

@@ -14,10 +14,10 @@ use Rattle.file_profile.specs.Sources.{Chosen}
 use Rattle.size_options.specs.Answers.{HasInput}
 use Rattle.size_options.specs.declared.run_options.Options.{Options}
 use Rattle.run_outcome.specs.declared.outcome.Outcome.{Outcome}
-use Rattle.run_outcome.specs.declared.outcome.Outcome.TheVariants.{ReadFailed, TooLong}
+use Rattle.run_outcome.specs.declared.outcome.Outcome.TheVariants.{ReadFailed}
 use Rattle.bloaty_engine.specs.declared.files.Tally.{Tally}
 use Rattle.bloaty_engine.specs.Costs.{CostsAtMost, counting_cost, file_cost, files_cost}
-use Rattle.bloaty_engine.specs.Devices.{Reads}
+use Rattle.bloaty_engine.specs.Devices.{EndsAt, Reads}
 use Rattle.bloaty_engine.specs.Given.{Gives, pairs_from}
 use Rattle.bloaty_engine.specs.Named.{AreFiles, AreHeld}
 use Rattle.bloaty_engine.specs.Reading.{file_reading, made_len, reading_for, unmade_names}
@@ -79,11 +79,11 @@ pub record ReadsBatch {F X : Type 0} (f : FilesGhosts F) (limits : Limits) (batc
 --
 -- ends: The step has this result.
 -- unread: No read failed.
--- long: A file that is too long is the synthetic one, which is file 1.
+-- at: If it ends the run at a file, this is the synthetic one, which is file 1.
 pub record UsesMade {X : Type 0} (P : Result X Outcome → Type 0) (result : Result X Outcome) : Type 0 where
   pub ends : P result
   pub unread : (i : ℕ) → IsErrOf result (ReadFailed i) → ⊥
-  pub long : (i : ℕ) → IsErrOf result (TooLong i) → i ≡ 1
+  pub at : (i unread : ℕ) → EndsAt i unread result → i ≡ 1
 
 -- A file with these bytes can be added to a total.
 --
@@ -98,7 +98,7 @@ pub record FitsTotal (limits : Limits) (sources : List Chosen) (t : Totals) (byt
 -- The effect of a step that counts file `number`, with this name and these bytes, and adds its sizes to a total. `old` and `new`
 -- are the total before and after it, `before` and `after` the counts of steps.
 --
--- short: It doesn't end the run as a file that is too long.
+-- at: If it ends the run at a file, this is the file, whose bytes were read.
 -- ended: The bytes decide its result, or memory ran out. `lengths` are those of the files before it.
 -- counted: If it succeeded, a total of some files is now that of these files and this one.
 -- depth: A path of the total has as many labels as before.
@@ -106,7 +106,7 @@ pub record FitsTotal (limits : Limits) (sources : List Chosen) (t : Totals) (byt
 -- cost: It took at most the steps for this file.
 pub record AddsFile (limits : Limits) (p : Plans) (number : ℕ) (name bytes : List ℕ) (result : Result (Unit {0}) Outcome)
     (old new : Totals) (before after : ℕ) : Type 0 where
-  pub short : (i : ℕ) → IsErrOf result (TooLong i) → ⊥
+  pub at : (i unread : ℕ) → EndsAt i unread result → (i ≡ number) × (unread ≡ 0)
   pub ended : (lengths : ℕ) → lengths + length bytes ≤ total_limit limits
       → EndsAs result (counted_file limits p.sources number lengths old.mapped name bytes)
   pub counted : OnOk result ((lengths : ℕ) (files : List FileView) (f : FileView) → lengths + length bytes ≤ total_limit limits

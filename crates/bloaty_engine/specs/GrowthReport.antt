@@ -109,7 +109,7 @@ growth_sizes filter files bases path = record {
 --     left out. Its own key gives its position, before an equal label.
 -- levels: The rows form a tree with a level for each data source: a row has rows below it unless it is of the last level or
 --     an Others row.
--- once: No byte is counted for two rows of a level.
+-- once: No byte is counted for two paths with the same number of labels. So no two rows of a level count it.
 -- sums: The growths of the children of a row, Others included, add up to that row's, and those of the first level to the total growth.
 -- is: The text is the printed tree.
 pub record IsGrowthReport (o : Options) (files bases : List FileView) (text : List ℕ) : Type 0 where

@@ -88,7 +88,7 @@ printed_as Tsv o tree = tsv_text tree o.domain o.sources
 unfoldable pub printed : Options → RowTree → List ℕ
 printed o tree = printed_as o.format o tree
 
--- No byte is counted for two rows of a level: a path of labels begins with at most one path of a length.
+-- No byte is counted for two paths with the same number of labels: its own path begins with at most one of them.
 abbrev pub CountsOnce : Option (List ℕ → Bool) → Type 0
 CountsOnce filter = (path p q : List (List ℕ)) → length p ≡ length q → counts_for filter p path ≡ true → counts_for filter q path ≡ true → p ≡ q
 
@@ -106,7 +106,7 @@ CountsOnce filter = (path p q : List (List ℕ)) → length p ≡ length q → c
 --     an Others row.
 -- each: The sizes of a row are those of its path, which is read off the rows above it; an Others row has the sums of the
 --     labels that are left out.
--- once: No byte is counted for two rows of a level.
+-- once: No byte is counted for two paths with the same number of labels. So no two rows of a level count it.
 -- sums: The sizes of the children of a row, Others included, add up to that row's, and those of the first level to the total.
 -- whole: Without a filter the totals are the lengths of all files and the numbers of addresses that they map.
 -- is: The text is the printed tree.

@@ -1,5 +1,5 @@
 -- The effects of the last steps of a run: it makes its report and writes it.
-use Rattle.std.specs.Prelude.{◌≡◌, ◌⊎◌, ℕ, ◌<◌, List, Result, Ok, Vec}
+use Rattle.std.specs.Prelude.{◌≡◌, ◌⊎◌, ℕ, ◌<◌, List, Result, Ok, Err, true, Vec}
 use Rattle.std.specs.declared.alloc.Global.{Global}
 use Rattle.size_core.specs.declared.limits.Limits.{Limits}
 use Rattle.outside.specs.declared.files.Files.{Ghosts as FilesGhosts}
@@ -10,7 +10,7 @@ use Rattle.size_options.specs.declared.run_options.Options.{Options}
 use Rattle.size_options.specs.declared.errors.UsageKind.{UsageKind}
 use Rattle.run_outcome.specs.declared.outcome.Outcome.{Outcome}
 use Rattle.run_outcome.specs.declared.outcome.Outcome.TheVariants.{Done, Usage, WriteFailed}
-use Rattle.bloaty_engine.specs.Answers.{EndsReport, IsRun}
+use Rattle.bloaty_engine.specs.Answers.{EndsReport, GaveConfig, IsRun, is_plan_end}
 use Rattle.bloaty_engine.specs.Devices.{BuildsAsked, CountsWrites, Reads, ended}
 use Rattle.bloaty_engine.specs.Given.{Gives, run_pairs, seen_files}
 use Rattle.bloaty_engine.specs.Named.{AreContents, Contents}
@@ -28,6 +28,7 @@ pub record IsBlankOf (ledger_name ledger_parts blank_name blank_parts : ℕ) : T
 -- contents, are: The configuration and the files have these bytes.
 -- ends: The step returns the text that they decide, or ends the run with the outcome that they decide, or is interrupted.
 -- gives: Its reads returned these bytes.
+-- planned: If it ended at a name in `-d` or at a pattern, they returned the configuration, if there is one, and nothing else.
 -- files: It reads the configuration and the files, one after the other.
 -- patterns: It builds the patterns of its request.
 pub record MakesText {F P : Type 0} (f : FilesGhosts F) (p : PatternsGhosts P) (limits : Limits) (o : Options)
@@ -36,6 +37,7 @@ pub record MakesText {F P : Type 0} (f : FilesGhosts F) (p : PatternsGhosts P) (
   pub are : AreContents (f.held old_files) o contents
   pub ends : EndsReport limits o (p.last_refused new_patterns) contents result
   pub gives : Gives result (f.gave old_files) (f.gave new_files) (run_pairs (Ok o) contents)
+  pub planned : (end : Outcome) → result ≡ Err end → is_plan_end end ≡ true → GaveConfig (Ok o) contents (f.gave old_files) (f.gave new_files)
   pub files : Reads f (run_reading limits (Ok o)) result old_files new_files
   pub patterns : BuildsAsked p (seen_files f old_files new_files) limits (Ok o) result old_patterns new_patterns
 

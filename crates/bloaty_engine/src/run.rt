@@ -86,12 +86,13 @@ fn misused<E: Sink>(err: &mut E, kind: UsageKind) -> Outcome
 /// A run that returns `Done` has written the whole report (`run.written`) on the bytes that its reads returned
 /// (`run.gave`), and on its synthetic file if it has one. In a report of sizes, the row of a label has as its sizes
 /// the numbers of file bytes and of mapped addresses, over all files but a debug file, that pass the filter and whose
-/// path begins with the path of the row (`IsSizeReport.each`). Two rows of one level never count the same byte
-/// (`IsSizeReport.once`).
+/// path begins with the path of the row (`IsSizeReport.each`). A byte is never counted for two paths with the same
+/// number of labels (`IsSizeReport.once`), and a path has at most one row (`IsSizeReport.order`).
 ///
 /// Any other outcome has a cause: a fault or an exceeded limit that the arguments and these bytes decide
 /// (`run.answer`), arguments that clap can't parse (`words`), a failed read (`files`), a pattern that was refused for
-/// its size (`patterns`), or a failed write (`out`). Only for running out of memory no clause gives a cause.
+/// its size (`patterns`), or a failed write (`out`). A fault comes only after the reads of the files that it needs
+/// returned their bytes (`run.planned`, `files`). Only for running out of memory no clause gives a cause.
 pub fn bloaty<F: Files, P: Patterns, O: Sink, E: Sink>(
     alloc: Global,
     words: &[String],

@@ -1,5 +1,5 @@
 -- Rewrites compiled one after the other.
-use Rattle.std.proofs.Common.{◌≡◌, ◌∙◌, ◌<◌, ◌≤◌, ◌+◌, ℕ, List, [], ◌∷◌, ◌++◌, All, Some, map, take, length, slice_get, Err, sym, ap, ap₂, append_assoc, arith}
+use Rattle.std.proofs.Common.{◌≡◌, ◌∙◌, ◌<◌, ◌+◌, ℕ, List, [], ◌∷◌, ◌++◌, All, Some, map, take, length, slice_get, Err, sym, ap, ap₂, append_assoc, arith}
 use Rattle.std.proofs.lemmas.List.{take-map, take_more, map-append}
 use Rattle.std.proofs.lemmas.List.Elements.{All-push}
 use Rattle.std.proofs.lemmas.Option.{get_or_from_slice_get}

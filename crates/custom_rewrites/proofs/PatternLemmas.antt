@@ -1,5 +1,5 @@
-use Rattle.std.proofs.Common.{◌≡◌, ◌∙◌, ◌<◌, ◌≢◌, ℕ, true, false, List, Option, Some, None, is_some, option_map, option_and_then, IsSomeAnd, refl, sym, ap, get_or, inl, inr}
-use Rattle.std.specs.Prelude.{chars}
+use Rattle.std.proofs.Common.{◌≡◌, ◌∙◌, ◌<◌, ◌≤◌, ◌≢◌, ℕ, false, List, Option, Some, None, is_some, option_map, option_and_then, IsSomeAnd, ◌⊎◌, arith, refl, sym, ap, get_or, inl, inr}
+use Rattle.std.specs.Prelude.{IfSome, chars}
 use Rattle.regex.specs.Patterns.{Re, Match, find, slot_of, span, Reads}
 use Rattle.regex.specs.Bytes.{regex_pattern, regex_source, regex_config, IsReadFromSource}
 use Rattle.regex.specs.declared.bytes.regex.Regex.{Regex}
@@ -11,7 +11,7 @@ use Rattle.regex_syntax.specs.Brackets.{Nested}
 use Rattle.regex_syntax.specs.Same.{SameTree}
 use Rattle.regex_syntax.specs.declared.error.ErrorKind.{ErrorKind}
 use Rattle.regex_syntax.specs.declared.error.ErrorKind.TheVariants.{OutOfMemory}
-use Rattle.custom_rewrites.specs.Pattern.{bytes_config, tree_of, found_in, is_found, FindsAs, IsNoPattern}
+use Rattle.custom_rewrites.specs.Pattern.{bytes_config, tree_of, found_in, is_found, FindsAs, IsNoPattern, IsPattern}
 
 -- The syntax tree of a text that the grammar can read.
 read_some : (P : Nested Re × Names → Type 0) (o : Option (Nested Re × Names)) → IsSomeAnd o P
@@ -55,11 +55,26 @@ no_pattern source kind (inl h) other = absurd (other h)
 no_pattern source kind (inr (inl h)) other = inl (none_read _ h)
 no_pattern source kind (inr (inr h)) other = inr h.1
 
-pub tree_some : (r : Regex) (source : List ℕ) → regex_source r ≡ source → regex_config r ≡ bytes_config → IsReadFromSource r
-    → is_some (tree_of source) ≡ true
-tree_some r source is_source is_config is_read = ap is_some (tree_is r source is_source is_config is_read).1
+-- What the grammar reads has less than all these facts.
+read_has : (P Q : Nested Re × Names → Type 0) (o : Option (Nested Re × Names)) → ((p : Nested Re × Names) → P p → Q p) → IsSomeAnd o P → IsSomeAnd o Q
+read_has P Q None f h = absurd h
+read_has P Q (Some p) f h = f p h
+
+-- The text of a compiled pattern is a pattern.
+pub is_pattern : (r : Regex) (source : List ℕ) → regex_source r ≡ source → regex_config r ≡ bytes_config → IsReadFromSource r → IsPattern source
+unfolding Reads
+is_pattern r source is_source is_config is_read = read_has _ (λ p. p.0.depth ≤ bytes_config.nest_limit) (read bytes_config (chars source)) (λ p h. h.0) (rw (is_source, is_config) at is_read)
 
 pub finds_as : (r : Regex) (source : List ℕ) → regex_source r ≡ source → regex_config r ≡ bytes_config → IsReadFromSource r
     → (re : Re) → re ≡ regex_pattern r → FindsAs re source
 finds_as r source is_source is_config is_read re is label bytes =
     ap (λ (p : Re). is_some (find p label 0)) is ∙ matches_as_written r source is_source is_config is_read label bytes
+
+-- No text is a pattern and also no pattern.
+none-both : (limit : ℕ) (o : Option (Nested Re × Names)) → IsSomeAnd o (λ (re, _). re.depth ≤ limit) → (option_map (λ p. p.0.value) o ≡ None) ⊎ IfSome o (λ (re, _). limit < re.depth) → ⊥
+none-both limit None is none = absurd is
+none-both limit (Some p) is (inl none) = cc none
+none-both limit (Some p) is (inr deep) = absurd (omega (arith, is, deep))
+
+pub not-both : (source : List ℕ) → IsPattern source → IsNoPattern source → ⊥
+not-both source is none = none-both bytes_config.nest_limit (read bytes_config (chars source)) is none

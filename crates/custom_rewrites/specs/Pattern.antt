@@ -1,5 +1,5 @@
 -- What a pattern finds in a label, as a function of the two texts.
-use Rattle.std.specs.Prelude.{◌≡◌, ◌⊎◌, ◌<◌, ℕ, Bool, true, false, List, Option, None, is_some, IfSome, get_or, option_map, option_and_then, chars}
+use Rattle.std.specs.Prelude.{◌≡◌, ◌⊎◌, ◌<◌, ◌≤◌, ℕ, Bool, false, List, Option, None, is_some, IfSome, IsSomeAnd, get_or, option_map, option_and_then, chars}
 use Rattle.regex.specs.Patterns.{Re, Match, Config, default_config, find}
 use Rattle.regex_syntax.specs.Grammar.{read}
 
@@ -19,9 +19,9 @@ found_in source label = option_and_then (λ re. find re label 0) (tree_of source
 abbrev pub is_found : List ℕ → List ℕ → Bool
 is_found source label = is_some (found_in source label)
 
--- The text is a pattern of the grammar.
+-- The text is a pattern of the grammar, and isn't nested too deeply.
 abbrev pub IsPattern : List ℕ → Type 0
-IsPattern source = is_some (tree_of source) ≡ true
+IsPattern source = IsSomeAnd (read bytes_config (chars source)) (λ (re, _). re.depth ≤ bytes_config.nest_limit)
 
 -- The text is no pattern of the grammar, or it is nested too deeply.
 abbrev pub IsNoPattern : List ℕ → Type 0

@@ -5,8 +5,7 @@ use Rattle.file_profile.specs.Counts.{filter_test}
 use Rattle.file_profile.specs.Views.{file_view, viewed}
 use Rattle.bloaty_engine.proofs.CostLemmas.{view-costs}
 use Rattle.bloaty_engine.proofs.FileLemmas.{counted-one, counted-within, ends-viewed, ok-viewed, view-len, viewed-ok}
-use Rattle.file_profile.proofs.MapLemmas.{err-same}
-use Rattle.bloaty_engine.proofs.TakenLemmas.{end-short}
+use Rattle.bloaty_engine.proofs.TakenLemmas.{end-number}
 use Rattle.bloaty_engine.proofs.files.count_file.Goals as goal
 
 pub profile_file-requires : goal.profile_file-requires
@@ -25,7 +24,7 @@ returns-in-Ok g c =
     let mapped = c.args.total.now.mapped in
     let effect = rw c.as_str-name.ensures at c.in-Ok.ensures.effect in
     record {
-      short = λ i e. cc;
+      at = λ i late e. absurd e;
       ended = λ lengths room.
           let within = counted-within limits sources c.args.file.number lengths mapped name bytes c.requires.fits room in
           rw within (ok-viewed c.args.file.number _ (rw c.as_str-name.ensures at c.in-Ok.ensures.answer));
@@ -48,7 +47,7 @@ returns-in-Err g c =
     let bytes = c.args.file.bytes.now in
     let effect = rw c.as_str-name.ensures at c.in-Err.ensures.effect in
     record {
-      short = λ i e. end-short c.args.file.number c.in-Err.answer i (sym c.end_at.ensures ∙ err-same _ _ e);
+      at = λ i late e. end-number c.args.file.number c.in-Err.answer i late (rw c.end_at.ensures at e);
       ended = λ lengths room.
           let within = counted-within limits sources c.args.file.number lengths c.args.total.now.mapped name bytes c.requires.fits room in
           rw (c.end_at.ensures, within) (ends-viewed c.args.file.number c.in-Err.answer _ (rw c.as_str-name.ensures at c.in-Err.ensures.answer));

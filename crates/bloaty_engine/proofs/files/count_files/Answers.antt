@@ -8,9 +8,8 @@ use Rattle.bloaty_engine.proofs.CostLemmas.{costs-more, costs-none, costs-one, c
 use Rattle.bloaty_engine.proofs.GivenLemmas.{given-all}
 use Rattle.bloaty_engine.proofs.FileLemmas.{all-counted, count-ends, counted-next, counted-none, extended, min-within, read-ends}
 use Rattle.bloaty_engine.specs.Verdict.{file_limit, total_limit}
-use Rattle.file_profile.proofs.MapLemmas.{err-same}
 use Rattle.bloaty_engine.proofs.ReadLemmas.{take-none}
-use Rattle.bloaty_engine.proofs.StepLemmas.{batch-file, front, front-all, front-rest, same-batch, same-ok, stops, then-ok, then-unread, unread-ok}
+use Rattle.bloaty_engine.proofs.StepLemmas.{batch-at, batch-file, front, front-all, front-rest, same-batch, same-ok, stops, then-ok, then-unread, unread-ok}
 use Rattle.bloaty_engine.proofs.TakenLemmas.{taken-more, taken-none}
 use Rattle.bloaty_engine.proofs.ResultLemmas.{ok-some}
 use Rattle.bloaty_engine.proofs.files.count_files.Goals as goal
@@ -73,7 +72,7 @@ returns-in_err-count_file g c =
         ends = e.2;
         gives = e.3;
         reads = then-unread g.F.Files (front c.args.run.now.limits batch (c.loop-k.k + 1)) (batch_reading c.args.run.now.limits batch) (drop (c.loop-k.k + 1) c.args.names.now) c.in_ok-file.file (Err c.in_err-count_file.field-0.0) c.args.files.now c.read_file.new.files
-            (front-rest c.args.names.now (c.loop-k.k + 1)) (omega arith) tt (λ i is. rw (err-same _ _ is) at ended) (λ i is. c.in_err-count_file.ensures.short i (ap Err (err-same _ _ is))) read;
+            (front-rest c.args.names.now (c.loop-k.k + 1)) (omega arith) tt (λ i late e. let n = c.in_err-count_file.ensures.at i late e in (n.1, batch-at c.args.run.now.limits batch c.loop-k.k i c.get-name.result.now c.get-name.ensures n.0)) read;
       });
       tally = rw (p.1, p.2) (record { counts = tt; room = c.loop-k.invariant.within; taken = tt });
       cost = costs-then c.args.run.now.limits c.args.plan.now.sources _ (g.F.Files.gave c.loop-k.files) (g.F.Files.gave c.read_file.new.files) c.args.tally.now.steps c.loop-k.tally.steps c.count_file.new.steps c.loop-k.invariant.cost

@@ -18,7 +18,7 @@ returns-in_err-file g c =
       uses = rw (p.1, p.2) (record {
         ends = made-stops c.args.run.now.limits c.args.plan.now.sources (filter_test c.args.plan.now.filter) (codes "synth") (made c.args.n) c.in_err-file.field-0.0 (λ i same. file.unread i (ap Err same)) file.ends;
         unread = λ i e. file.unread i (ap Err (err-same _ _ e));
-        long = λ i e. file.long i (ap Err (err-same _ _ e));
+        at = file.at;
       });
       tally = first_of (search rules, grind (arith, common_steps));
       room = first_of (search rules, grind (arith, common_steps));
@@ -36,7 +36,7 @@ returns g c =
       uses = record {
         ends = (f.0 ∷ [], made-counted c.args.run.now.limits c.args.plan.now.sources (codes "synth") (made c.args.n) f.0 f.1, counted 0 [] f.0 room f.1 (none-counted _ _ c.depth.result c.depth.ensures));
         unread = λ i e. cc;
-        long = λ i e. cc;
+        at = λ i late e. absurd e;
       };
       tally = first_of (search rules, grind (arith, common_steps));
       room = first_of (search rules, grind (arith, common_steps));
@@ -53,7 +53,7 @@ returns-in_err-count_file g c =
       uses = rw (p.1, p.2) (record {
         ends = made-ends c.args.run.now.limits c.args.plan.now.sources (filter_test c.args.plan.now.filter) (codes "synth") (made c.args.n) c.in_err-count_file.field-0.0 ended;
         unread = λ i e. absurd (rw (err-same _ _ e) at ended);
-        long = λ i e. absurd (c.in_err-count_file.ensures.short i (ap Err (err-same _ _ e)));
+        at = λ i late e. (c.in_err-count_file.ensures.at i late e).0;
       });
       tally = first_of (search rules, grind (arith, common_steps));
       room = first_of (search rules, grind (arith, common_steps));

@@ -3,7 +3,7 @@ use Rattle.std.proofs.Common.{refl, sym}
 use Rattle.file_profile.proofs.MapLemmas.{err-same}
 use Rattle.bloaty_engine.proofs.GivenLemmas.{gives-all, gives-failed}
 use Rattle.bloaty_engine.proofs.HeldLemmas.{held-long, held-some}
-use Rattle.bloaty_engine.proofs.StepLemmas.{one-read, read-number, long-number}
+use Rattle.bloaty_engine.proofs.StepLemmas.{names-more, one-read, read-number, long-number}
 use Rattle.bloaty_engine.proofs.TakenLemmas.{at-least-longer}
 use Rattle.bloaty_engine.proofs.files.read_file.Goals as goal
 
@@ -14,7 +14,7 @@ returns-in-Ok g c = record {
   finds = (refl, c.in-Ok.ensures.within);
   gives = gives-all _ _ _ _ c.in-Ok.ensures.gave;
   reads = one-read g.F.Files c.args.number c.args.name.now c.args.limit _ _ _ c.read.ensures.asked c.read.ensures.held c.read.ensures.later c.read.ensures.more c.read.ensures.most
-      (λ i e. absurd cc) (λ e. c.in-Ok.ensures.uncounted (λ q. cc)) (λ i e. absurd cc);
+      (λ i e. absurd cc) (λ e. c.in-Ok.ensures.uncounted (λ q. cc)) (λ i e. absurd cc) (names-more _ _ c.args.name.now c.in-Ok.bytes.items c.in-Ok.ensures.gave) (λ i late e. absurd e);
   taken = c.in-Ok.ensures.taken;
 }
 
@@ -29,7 +29,7 @@ returns-in-Err-Failed g c =
       finds = refl;
       gives = gives-failed _ _ _ _ c.in-Err-Failed.ensures.ungiven;
       reads = one-read g.F.Files c.args.number c.args.name.now c.args.limit _ _ _ c.read.ensures.asked c.read.ensures.held c.read.ensures.later c.read.ensures.more c.read.ensures.most
-          (λ i e. (sym (read-number _ i (err-same _ _ e)), failed refl, told refl)) (λ e. absurd cc) (λ i e. absurd cc);
+          (λ i e. (sym (read-number _ i (err-same _ _ e)), failed refl, told refl)) (λ e. absurd cc) (λ i e. absurd cc) tt (λ i late e. (sym e.0, e.1, c.in-Err-Failed.ensures.ungiven));
       taken = tt;
     }
 
@@ -44,7 +44,8 @@ returns-in-Err-TooLong g c =
       finds = (refl, h.1.1);
       gives = gives-failed _ _ _ _ c.in-Err-TooLong.ensures.ungiven;
       reads = one-read g.F.Files c.args.number c.args.name.now c.args.limit _ _ _ c.read.ensures.asked c.read.ensures.held c.read.ensures.later c.read.ensures.more c.read.ensures.most
-          (λ i e. absurd cc) (λ e. uncounted (λ q. cc)) (λ i e. (sym (long-number _ i (err-same _ _ e)), at-least-longer (g.F.Files.held c.args.files.now) c.args.name.now c.args.limit _ _ (longer refl)));
+          (λ i e. absurd cc) (λ e. uncounted (λ q. cc)) (λ i e. (sym (long-number _ i (err-same _ _ e)), at-least-longer (g.F.Files.held c.args.files.now) c.args.name.now c.args.limit _ _ (longer refl)))
+          tt (λ i late e. (sym e.0, e.1, c.in-Err-TooLong.ensures.ungiven));
       taken = tt;
     }
 
@@ -58,6 +59,6 @@ returns-in-Err-NoMemory g c =
       finds = tt;
       gives = gives-failed _ _ _ _ c.in-Err-NoMemory.ensures.ungiven;
       reads = one-read g.F.Files c.args.number c.args.name.now c.args.limit _ _ _ c.read.ensures.asked c.read.ensures.held c.read.ensures.later c.read.ensures.more c.read.ensures.most
-          (λ i e. absurd cc) (λ e. uncounted (λ q. cc)) (λ i e. absurd cc);
+          (λ i e. absurd cc) (λ e. uncounted (λ q. cc)) (λ i e. absurd cc) tt (λ i late e. absurd e);
       taken = tt;
     }

@@ -5,7 +5,7 @@ use Rattle.file_profile.specs.Counts.{filter_test}
 use Rattle.bloaty_engine.specs.Verdict.{first_name, total_limit}
 use Rattle.bloaty_engine.proofs.GivenLemmas.{given-all, gives-stops}
 use Rattle.bloaty_engine.proofs.HeldLemmas.{held-some}
-use Rattle.bloaty_engine.proofs.PairLemmas.{both, both-held, first-fits, first-held, pair-batch, pair-counted, pair-first, pair-gives, pair-limit, paired-not-long, paired-unread, second-read}
+use Rattle.bloaty_engine.proofs.PairLemmas.{both, both-held, first-fits, first-held, pair-batch, pair-counted, pair-first, pair-gives, pair-limit, paired-within, second-read}
 use Rattle.bloaty_engine.specs.Steps.{batch_of, batch_reading}
 use Rattle.bloaty_engine.proofs.StepLemmas.{front-part, stops}
 use Rattle.bloaty_engine.proofs.CostLemmas.{costs-ended, costs-paired}
@@ -72,7 +72,7 @@ returns g c =
     let gave = given-all debug _ _ _ (pair-gives g.F.Files limits name c.args.debug.now file _ (Ok debug) _ _ _ first second limit) in
     record {
       batch = pair-batch g.F.Files limits name c.args.debug.now file _ (Ok debug) _ _ _ first second limit _ c.count_opened.result
-          (paired-unread limits sources test name file.items debug.items c.count_opened.result paired, paired-not-long limits sources test name file.items debug.items c.count_opened.result paired) ends;
+          (paired-within limits sources test name file.items debug.items name c.args.debug.now c.count_opened.result paired) ends;
       cost = costs-paired limits sources name own c.args.debug.now second.bytes _ _ c.args.steps.now c.count_opened.new.steps gave counted.cost;
     }
 

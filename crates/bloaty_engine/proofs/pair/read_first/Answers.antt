@@ -2,13 +2,12 @@
 use Rattle.std.proofs.Common.{◌∷◌, [], Err, refl, arith, rules}
 use Rattle.std.proofs.lemmas.Grind.{common_steps}
 use Rattle.std.proofs.lemmas.Result.{err_from_is_err_and}
-use Rattle.file_profile.proofs.MapLemmas.{err-same}
 use Rattle.bloaty_engine.specs.Verdict.{first_name}
 use Rattle.bloaty_engine.proofs.GivenLemmas.{gives-as}
-use Rattle.bloaty_engine.proofs.PairLemmas.{first-fault, first-read, first-sound, one-held, sound-short}
+use Rattle.bloaty_engine.proofs.PairLemmas.{first-fault, first-read, first-sound, one-held, sound-at}
 use Rattle.bloaty_engine.specs.Reading.{file_reading}
 use Rattle.bloaty_engine.specs.Steps.{batch_of, batch_reading}
-use Rattle.bloaty_engine.proofs.StepLemmas.{first-part, stops, then-ok, then-unread}
+use Rattle.bloaty_engine.proofs.StepLemmas.{batch-at, first-part, stops, then-ok, then-unread}
 use Rattle.bloaty_engine.proofs.pair.read_first.Goals as goal
 
 pub returns-in_err-file : goal.returns-in_err-file
@@ -42,7 +41,7 @@ returns-in_err-check_format g c =
         ends = first-fault c.args.run.now.limits file.bytes c.next_limit-limit.result limit file.finds.1 c.in_err-check_format.field-0.0 (rw (c.deref.ensures.value, file.finds.0) at c.in_err-check_format.ensures);
         gives = gives-as c.in_ok-file.file _ _ _ _ file.gives;
         reads = then-unread g.F.Files (file_reading 1 name c.next_limit-limit.result) (batch_reading c.args.run.now.limits (batch_of 0 0 (name ∷ []))) [] c.in_ok-file.file (Err c.in_err-check_format.field-0.0) c.args.files.now c.read_file.new.files refl (omega (arith, limit)) tt
-            (λ i e. rw (err-same _ _ e) at c.in_err-check_format.ensures) (λ i e. sound-short _ i (rw (err-same _ _ e) at c.in_err-check_format.ensures)) file.reads;
+            (λ i late e. let n = sound-at _ c.in_err-check_format.field-0.0 i late c.in_err-check_format.ensures e in (n.1, batch-at c.args.run.now.limits (batch_of 0 0 (name ∷ [])) 0 i name refl n.0)) file.reads;
       });
       taken = first_of (search rules, grind (arith, common_steps));
     }

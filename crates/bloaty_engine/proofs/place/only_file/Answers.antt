@@ -17,7 +17,7 @@ returns-in-Some g c = record {
   ends = c.made_file.ensures.ends;
   gives = rw c.in-Some.is (gives-none _ _ [] (OnOk-any _ _ refl));
   unmade = λ k e. absurd (c.made_file.ensures.unread _ e);
-  reads = made-unread g.F.Files c.args.run.now.limits c.args.run.now.options c.in-Some.n c.in-Some.is c.made_file.result c.args.files.now c.made_file.ensures.unread c.made_file.ensures.long;
+  reads = made-unread g.F.Files c.args.run.now.limits c.args.run.now.options c.in-Some.n c.in-Some.is c.made_file.result c.args.files.now c.made_file.ensures.unread c.made_file.ensures.at;
 }
 
 pub returns-in-None : goal.returns-in-None

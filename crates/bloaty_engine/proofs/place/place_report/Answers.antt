@@ -2,10 +2,10 @@
 use Rattle.std.proofs.Common.{Ok, Err, refl, ap, subst, ◌∙◌, arith, rules}
 use Rattle.std.proofs.lemmas.Grind.{common_steps}
 use Rattle.std.proofs.lemmas.Result.{err_from_is_err_and}
-use Rattle.file_profile.proofs.MapLemmas.{err-same}
 use Rattle.run_outcome.specs.declared.outcome.Outcome.TheVariants.{NoMemory}
 use Rattle.bloaty_engine.specs.PlaceSteps.{EndsExplained, explained_within}
-use Rattle.bloaty_engine.proofs.PlaceLemmas.{alone-reported, only-ends, place-ends, place-found}
+use Rattle.bloaty_engine.specs.Reading.{files_to_read}
+use Rattle.bloaty_engine.proofs.PlaceLemmas.{alone-reported, explained-at, only-ends, place-ends, place-found}
 use Rattle.bloaty_engine.proofs.place.place_report.Goals as goal
 
 pub explained-requires : goal.explained-requires
@@ -39,13 +39,13 @@ returns-in_err-sources g c =
     let explained = subst (λ x. EndsExplained (explained_within limits sources o c.args.place.now x) (Err end)) (c.deref.ensures.value ∙ file.ends.0) c.in_err-sources.ensures in
     let ends = place-ends limits sources file.bytes o c.args.place.now c.requires.place file.ends.1 end explained in
     rw (p.1, p.2)
-    (alone-reported g.F.Files limits sources o alone _ (Ok c.in_ok-file.file) (Err end) _ _ file (λ i is. rw (err-same _ _ is) at c.in_err-sources.ensures, λ i is. rw (err-same _ _ is) at c.in_err-sources.ensures) ends)
+    (alone-reported g.F.Files limits sources o alone _ (Ok c.in_ok-file.file) (Err end) _ _ file (explained-at limits o (files_to_read o) alone.one_file _ end c.in_err-sources.ensures) ends)
 
 pub returns-in_err-text_of : goal.returns-in_err-text_of
 returns-in_err-text_of g c =
     let p = err_from_is_err_and c.from_residual-in_err-text_of.result c.from_residual-in_err-text_of.ensures.1 in
     let alone = c.requires.ready.limits.place _ c.requires.place in
-    rw (p.1, p.2) (alone-reported g.F.Files c.args.run.now.limits c.args.plan.now.sources c.args.run.now.options alone _ (Ok c.in_ok-file.file) (Err NoMemory) _ _ c.in_ok-file.ensures (λ i e. cc, λ i e. cc) tt)
+    rw (p.1, p.2) (alone-reported g.F.Files c.args.run.now.limits c.args.plan.now.sources c.args.run.now.options alone _ (Ok c.in_ok-file.file) (Err NoMemory) _ _ c.in_ok-file.ensures (λ i late e. absurd e) tt)
 
 pub returns : goal.returns
 returns g c =
@@ -56,4 +56,4 @@ returns g c =
     let file = c.in_ok-file.ensures in
     let ends = place-found limits sources file.bytes o c.args.place.now c.requires.place file.ends.1 c.in_ok-sources.sources.items c.in_ok-text_of.field-0 (rw (c.deref.ensures.value, file.ends.0) at c.in_ok-sources.ensures)
     (rw c.deref-2.ensures.value at c.in_ok-text_of.ensures) in
-    alone-reported g.F.Files limits sources o alone _ (Ok c.in_ok-file.file) (Ok c.in_ok-text_of.field-0) _ _ file (λ i e. cc, λ i e. cc) ends
+    alone-reported g.F.Files limits sources o alone _ (Ok c.in_ok-file.file) (Ok c.in_ok-text_of.field-0) _ _ file (λ i late e. absurd e) ends

@@ -7,7 +7,7 @@ use Rattle.bloaty_engine.specs.Given.{config_pairs, seen_files}
 use Rattle.bloaty_engine.proofs.BuildLemmas.{asked-any, asked-plan, build-stops, built, unbuilt}
 use Rattle.bloaty_engine.proofs.CostLemmas.{costs-ended, costs-run}
 use Rattle.bloaty_engine.proofs.GivenLemmas.{given-all, gives-then}
-use Rattle.bloaty_engine.proofs.RunLemmas.{config-never-bad, config-never-big, config-never-past, ends-config, ends-finding, ends-plan, never-bad, never-big, planned-count}
+use Rattle.bloaty_engine.proofs.RunLemmas.{config-never-bad, config-never-big, config-never-past, ends-config, ends-finding, ends-plan, never-bad, never-big, plan-at, planned-count}
 use Rattle.bloaty_engine.proofs.StepLemmas.{config-run, files-run, goes-on, stops, then-unread}
 use Rattle.bloaty_engine.proofs.report.report.Goals as goal
 
@@ -25,6 +25,7 @@ returns-in_err-customs-clause-text g c =
       are = e.1;
       ends = e.2;
       gives = e.3;
+      planned = e.4;
       files = stops g.F.Files (config_reading limits o) (run_reading limits (Ok o)) (files_to_read o) end c.args.files.now c.customs_of.new.files refl (config-run limits o) c.in_err-customs.ensures.reads;
       patterns = asked-any g.P.Patterns (seen_files g.F.Files c.args.files.now c.customs_of.new.files) limits (Ok o) (Err end) s s t.gives.given t.gives.are
           (λ b. unbuilt g.P.Patterns b (Err end) s (config-never-past limits o.config t.text end t.ends)
@@ -48,8 +49,9 @@ returns-in_err-plan-clause-text g c =
       are = e.1;
       ends = e.2;
       gives = e.3;
+      planned = e.4;
       files = then-unread g.F.Files (config_reading limits o) (run_reading limits (Ok o)) (files_to_read o) customs (Err end) c.args.files.now c.customs_of.new.files refl (omega arith) tt
-          (λ i is. rw (err-same _ _ is) at c.in_err-plan.ensures.ends) (λ i is. rw (err-same _ _ is) at c.in_err-plan.ensures.ends) c.in_ok-customs.ensures.reads;
+          (λ i late e. absurd (plan-at o.sources o.filter _ (g.P.Patterns.last_refused c.plan_of.new.patterns) end c.in_err-plan.ensures.ends i late e)) c.in_ok-customs.ensures.reads;
       patterns = asked-plan g.P.Patterns (seen_files g.F.Files c.args.files.now c.customs_of.new.files) limits o t.text [] (Err end) c.args.patterns.now c.plan_of.new.patterns customs.items
           (given-all customs _ _ _ read) t.ends (build-stops g.P.Patterns _ end c.args.patterns.now c.plan_of.new.patterns builds);
     })
@@ -82,6 +84,7 @@ returns-clause-text g c =
       are = e.1;
       ends = e.2;
       gives = e.3;
+      planned = e.4;
       files = goes-on g.F.Files (config_reading limits o) (reading_for limits o (files_to_read o)) (run_reading limits (Ok o)) customs c.report_of_kind.result
           c.args.files.now c.customs_of.new.files c.report_of_kind.new.files refl (files-run limits o (files_to_read o)) c.in_ok-customs.ensures.reads found.reads;
       patterns = asked-plan g.P.Patterns (seen_files g.F.Files c.args.files.now c.report_of_kind.new.files) limits o t.text found.gives.given c.report_of_kind.result c.args.patterns.now c.plan_of.new.patterns customs.items all t.ends

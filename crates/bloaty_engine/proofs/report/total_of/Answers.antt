@@ -46,7 +46,7 @@ returns-in-Some g c =
         ends = rw c.in-Some.is c.count_made.ensures.uses.ends;
         gives = rw c.in-Some.is (gives-none _ _ [] (OnOk-any _ _ refl));
         unmade = λ k e. absurd (c.count_made.ensures.uses.unread _ e);
-        reads = made-unread g.F.Files c.args.run.now.limits c.args.run.now.options c.in-Some.n c.in-Some.is c.count_made.result c.args.files.now c.count_made.ensures.uses.unread c.count_made.ensures.uses.long;
+        reads = made-unread g.F.Files c.args.run.now.limits c.args.run.now.options c.in-Some.n c.in-Some.is c.count_made.result c.args.files.now c.count_made.ensures.uses.unread c.count_made.ensures.uses.at;
       };
       tally = rw c.in-Some.is (record {
         counts = IfOk-then c.count_made.result _ _ all (λ t h. (omega (arith, h.0), omega (arith, h.1), omega (arith, h.2)));

@@ -1,5 +1,5 @@
 -- A run ends before its report, or it writes the report.
-use Rattle.std.proofs.Common.{Err, Ok, arith, rules}
+use Rattle.std.proofs.Common.{Err, Ok, refl, arith, rules}
 use Rattle.std.proofs.lemmas.Grind.{common_steps}
 use Rattle.bloaty_engine.specs.Given.{seen_files}
 use Rattle.bloaty_engine.specs.Reading.{run_reading}
@@ -17,7 +17,7 @@ returns-in-Err g c =
     let seen = seen_files g.F.Files c.args.files.now c.report.new.files in
     let ends = not-done c.in-Err.end (λ is. done-is-no-end _ is e.ends.2) in
     record {
-      run = run-ends seen limits (g.P.Patterns.last_refused c.report.new.patterns) o e.contents e.are (g.O.Sink.written c.args.out.now) c.in-Err.end e.ends e.gives;
+      run = run-ends seen limits (g.P.Patterns.last_refused c.report.new.patterns) o e.contents e.are (g.O.Sink.written c.args.out.now) c.in-Err.end e.ends e.gives (λ plan. e.planned c.in-Err.end refl plan);
       files = run-ended g.F.Files (run_reading limits (Ok o)) c.in-Err.end c.args.files.now c.report.new.files ends e.files;
       patterns = asked-as g.P.Patterns seen limits (Ok o) (Err c.in-Err.end) _ c.args.patterns.now c.report.new.patterns
           (λ b builds. builds-ended g.P.Patterns b c.in-Err.end c.args.patterns.now c.report.new.patterns ends builds) e.patterns;

@@ -1,4 +1,4 @@
-use Rattle.custom_rewrites.proofs.PatternLemmas.{no_pattern, tree_some}
+use Rattle.custom_rewrites.proofs.PatternLemmas.{no_pattern, is_pattern}
 use Rattle.custom_rewrites.proofs.pattern.LabelPattern.of.Goals as goal
 
 pub returns-in-Err-Syntax-clause-syntax : goal.returns-in-Err-Syntax-clause-syntax
@@ -10,4 +10,4 @@ returns-in-Err-Syntax-clause-syntax c h =
 pub returns-in-Ok-clause-ok : goal.returns-in-Ok-clause-ok
 returns-in-Ok-clause-ok c =
     let made = c.in-Ok.ensures in
-    (made.source, tree_some c.in-Ok.regex c.args.pattern.now made.source made.config made.read)
+    (made.source, is_pattern c.in-Ok.regex c.args.pattern.now made.source made.config made.read)
