@@ -5,11 +5,11 @@ from typing import NamedTuple
 import report
 
 NUMBERS = r"\n?[ \t]+0x(?P<%s>[0-9a-f]+)[ \t]+0x(?P<%s>[0-9a-f]+)"
-# An output section begins a line. An input section is indented, and has the object behind its address and size. A long name
-# has a line of its own.
+# An output section begins a line. An input section is indented, and its object follows its address and size. A long name has
+# a line of its own.
 SECTION = re.compile(
     r"^(?:(?P<output>[^\s*]\S*)" + NUMBERS % ("start", "length") + r"[^\n]*"
-    r"| (?:\S+)" + NUMBERS % ("address", "size") + r"[ \t]+(?P<object>\S[^\n]*?))[ \t]*$",
+    r"| \S+" + NUMBERS % ("address", "size") + r"[ \t]+(?P<object>\S[^\n]*?))[ \t]*$",
     re.M,
 )
 
