@@ -24,7 +24,8 @@ use Rattle.file_profile.specs.Counts.{file_size_where, vm_size_where}
 use Rattle.bloaty_engine.specs.Given.{Gives, pairs_from}
 use Rattle.bloaty_engine.specs.Named.{AreHeld}
 use Rattle.file_profile.specs.Sources.{Chosen}
-use Rattle.bloaty_engine.specs.Steps.{Batch, EndsAs, EndsFiles, Finds, HasCounted, IsFileOf, Nowhere, batch_of, counted_batch}
+use Rattle.file_reports.specs.SizeReport.{HasCounted}
+use Rattle.bloaty_engine.specs.Steps.{Batch, EndsAs, EndsFiles, Finds, IsFileOf, Nowhere, batch_of, counted_batch}
 use Rattle.bloaty_engine.specs.Verdict.{◌>>=◌, counted_file, counted_from, end_at, file_limit, if_viewed, next_limit, total_limit}
 use Rattle.file_profile.specs.Answers.{of_file_alone, refused_as}
 use Rattle.file_profile.specs.Views.{Answers, alone, if_opened, opened_viewed, viewed}
@@ -32,7 +33,8 @@ use Rattle.file_profile.proofs.AloneLemmas.{ok-before}
 use Rattle.file_profile.proofs.LawLemmas.{of-viewed}
 use Rattle.bloaty_engine.proofs.EndLemmas.{ends-read, ends-so}
 use Rattle.bloaty_engine.proofs.GivenLemmas.{given-all, gives-all, gives-as, gives-behind, gives-stops, pairs-append, pairs-same}
-use Rattle.bloaty_engine.proofs.ReadLemmas.{take-length, take-next, take-none}
+use Rattle.run_plan.proofs.FirstLemmas.{take-next, take-none}
+use Rattle.bloaty_engine.proofs.ReadLemmas.{take-length}
 use Rattle.bloaty_engine.proofs.ResultLemmas.{ok-is, ok-same, short-long, short-next}
 
 -- One file.

@@ -8,7 +8,7 @@ use Rattle.size_core.specs.declared.limits.Limits.{Limits}
 use Rattle.run_outcome.specs.declared.outcome.Outcome.{Outcome}
 use Rattle.bloaty_engine.specs.Given.{Gives, config_given, config_pairs, files_given, pairs_from, run_pairs}
 use Rattle.bloaty_engine.specs.Verdict.{customs_in}
-use Rattle.bloaty_engine.specs.ReportLaws.{DoneReportsWhatItRead}
+use Rattle.bloaty_engine.specs.RunLaws.{DoneReportsWhatItRead}
 use Rattle.bloaty_engine.proofs.ReadLemmas.{OnOk-any}
 
 -- Nothing is read.

@@ -11,13 +11,9 @@ pub mod NextLemmas
 pub mod NumberLemmas
 pub mod PairLemmas
 pub mod PlaceLemmas
-pub mod PlanLemmas
-pub mod ReadBackLemmas
 pub mod ReadLemmas
-pub mod ReportLemmas
 pub mod ResultLemmas
 pub mod RunLemmas
 pub mod SidesLemmas
 pub mod StepLemmas
 pub mod TakenLemmas
-pub mod UserLemmas

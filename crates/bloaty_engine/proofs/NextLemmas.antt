@@ -6,7 +6,6 @@ use Rattle.std.proofs.lemmas.List.{append-nil}
 use Rattle.size_core.specs.declared.limits.Limits.{Limits}
 use Rattle.outside.specs.declared.files.Files.{Ghosts as FilesGhosts}
 use Rattle.outside.specs.Held.{Pairs}
-use Rattle.report_rows.specs.Rows.{row_tree}
 use Rattle.rollup.specs.Totals.{IsTotals, Totals}
 use Rattle.size_options.specs.declared.run_options.Options.{Options}
 use Rattle.run_outcome.specs.declared.outcome.Outcome.{Outcome}
@@ -15,7 +14,7 @@ use Rattle.bloaty_engine.specs.Devices.{EndsAt, Reads}
 use Rattle.bloaty_engine.specs.FileSteps.{ReadsBatch}
 use Rattle.bloaty_engine.specs.Given.{Gives}
 use Rattle.bloaty_engine.specs.Reading.{Reading}
-use Rattle.bloaty_engine.specs.Report.{printed, row_options}
+use Rattle.file_reports.specs.SizeReport.{PrintsSizes}
 use Rattle.bloaty_engine.specs.Steps.{Batch, batch_reading}
 use Rattle.bloaty_engine.proofs.GivenLemmas.{gives-as, gives-ended, gives-stops, gives-then}
 use Rattle.bloaty_engine.proofs.ReadLemmas.{OnOk-any}
@@ -71,6 +70,6 @@ shows-ok P (Err end) r Q so shows = rw shows tt
 shows-ok P (Ok x) (Ok text) Q so shows = so x text shows
 shows-ok P (Ok x) (Err end) Q so shows = tt
 
--- The text of a total is its report of sizes.
+-- The text shows the sizes of a rollup.
 abbrev pub PrintsTotal : Options → Totals → Vec ℕ Global → Type 0
-PrintsTotal o t text = IsTotals t.depth t.rows t.lengths t.mapped × (text.items ≡ printed o (row_tree (row_options o) t))
+PrintsTotal o t text = IsTotals t.depth t.rows t.lengths t.mapped × PrintsSizes o t text.items

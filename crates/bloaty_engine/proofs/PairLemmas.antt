@@ -39,7 +39,7 @@ use Rattle.bloaty_engine.proofs.GivenLemmas.{given-all, gives-behind}
 use Rattle.bloaty_engine.proofs.NextLemmas.{GoesOn, PrintsTotal, Shows, gives-same, reads-next, shows-next}
 use Rattle.bloaty_engine.proofs.NumberLemmas.{IsNumbered, IsOneOrTwo, numbered-pair}
 use Rattle.bloaty_engine.proofs.ReadLemmas.{OnOk-any}
-use Rattle.bloaty_engine.proofs.SidesLemmas.{beyond, size-report, sizes-for}
+use Rattle.bloaty_engine.proofs.SidesLemmas.{beyond, counted-as, sizes-for}
 use Rattle.bloaty_engine.proofs.ResultLemmas.{short-long, short-next}
 use Rattle.bloaty_engine.proofs.StepLemmas.{IsPart, IsWithin, batch-part, files-part, follows, same-all}
 
@@ -295,7 +295,7 @@ module _ (o : Options) (name debug : List ℕ) (is : IsPair o) (asked : o.debug 
     pair-shown (Err end) r e shows = rw shows (pair-ends end e)
     pair-shown (Ok t) (Err end) e shows = rw shows tt
     pair-shown (Ok t) (Ok out) e shows =
-        (Counted (one_file e.0), found-pair (Ok (one_file e.0)) e.1, sizes-for o.bases o (one_file e.0) out.items is.no_base (size-report sources o filter same depth t (e.0 ∷ []) e.2 shows.0 out.items shows.1))
+        (Counted (one_file e.0), found-pair (Ok (one_file e.0)) e.1, sizes-for o.bases o (one_file e.0) out.items is.no_base (shows.1.report shows.0 (e.0 ∷ []) (counted-as sources o filter same depth t (e.0 ∷ []) e.2)))
 
 -- The files that are read for a pair.
 pair-part : (limits : Limits) (o : Options) (debug : List ℕ) (is : IsPair o) → o.debug ≡ Some debug → (all : List (List ℕ))

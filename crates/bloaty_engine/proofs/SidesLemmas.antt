@@ -1,5 +1,5 @@
 -- Files and base files, counted one after the other.
-use Rattle.std.proofs.Common.{◌≡◌, ℕ, ◌+◌, ◌-◌, ◌<◌, ◌≤◌, true, false, cond, nat_le, List, [], ◌∷◌, ◌++◌, length, take, Option, None, Some, Result, Ok, Err, refl, sym, ap, ◌∙◌, arith}
+use Rattle.std.proofs.Common.{◌≡◌, ℕ, ◌+◌, ◌-◌, ◌<◌, ◌≤◌, true, false, cond, nat_le, List, [], ◌∷◌, ◌++◌, length, take, Option, None, Some, Result, Ok, Err, refl, sym, ap, ◌∙◌, subst, arith}
 use Rattle.std.specs.Prelude.{⊤, IsErrOf, OnOk, if◌then◌else◌, Vec}
 use Rattle.std.specs.declared.alloc.Global.{Global}
 use Rattle.std.proofs.lemmas.Bool.Decides.{nat_tests}
@@ -9,41 +9,35 @@ use Rattle.size_core.specs.declared.limits.Limits.{Limits}
 use Rattle.size_model.specs.declared.view.FileView.{FileView}
 use Rattle.outside.specs.declared.files.Files.{Ghosts as FilesGhosts}
 use Rattle.outside.specs.Held.{Pairs}
-use Rattle.rollup.specs.Totals.{IsTotals, Totals}
-use Rattle.report_rows.specs.declared.row.RowOptions.{RowOptions}
-use Rattle.report_rows.specs.Rows.{row_tree}
+use Rattle.rollup.specs.Totals.{Totals}
 use Rattle.size_options.specs.declared.run_options.Options.{Options}
 use Rattle.run_outcome.specs.declared.outcome.Outcome.{Outcome}
 use Rattle.run_outcome.specs.declared.outcome.Outcome.TheVariants.{ReadFailed}
 use Rattle.file_profile.specs.Counts.{filter_test}
 use Rattle.file_profile.specs.Plans.{Plans}
-use Rattle.bloaty_engine.specs.FileSteps.{ReadsFiles}
-use Rattle.bloaty_engine.specs.GrowthReport.{AreGrowths, EndsGrowth, IsGrowthReport, PrintsGrowth}
+use Rattle.bloaty_engine.specs.FileSteps.{EndsGrowth, ReadsFiles}
+use Rattle.file_reports.specs.GrowthReport.{IsGrowthReport}
 use Rattle.bloaty_engine.specs.Given.{pairs_from}
 use Rattle.bloaty_engine.specs.Named.{AreFiles, AreHeld}
 use Rattle.run_outcome.specs.Names.{file_names, names_of}
 use Rattle.bloaty_engine.specs.Reading.{reading_for, unmade_names}
-use Rattle.bloaty_engine.specs.Report.{AreSizes, IsSizeReport, depth_of, printed, report_tree, row_options}
 use Rattle.bloaty_engine.specs.Reports.{EndsCounting, IsCountedFile, IsPlanned, IsReportFor, IsUnmade, ReadsInputs}
 use Rattle.file_profile.specs.Sources.{Chosen}
-use Rattle.bloaty_engine.specs.Steps.{EndsFiles, HasCounted, IsFileOf, batch_of, counted_batch}
+use Rattle.file_reports.specs.SizeReport.{HasCounted, IsSizeReport, depth_of}
+use Rattle.bloaty_engine.specs.Steps.{EndsFiles, IsFileOf, batch_of, counted_batch}
 use Rattle.bloaty_engine.specs.Verdict.{◌>>=◌, Sides, counted_from, counted_sides, lengths_of}
-use Rattle.report_rows.proofs.TreeLemmas.{adds-up, is-tree}
-use Rattle.size_growth.proofs.TreeLemmas.{grows, is-tree as growth-tree}
-use Rattle.size_growth.specs.Rows.{growth_tree}
-use Rattle.size_model.proofs.Paths.{counts_for-unique}
 use Rattle.bloaty_engine.proofs.EndLemmas.{ends-so}
 use Rattle.bloaty_engine.proofs.FileLemmas.{same-counted, some-held}
 use Rattle.bloaty_engine.proofs.GivenLemmas.{pairs-same}
 use Rattle.bloaty_engine.proofs.NextLemmas.{PrintsTotal, Shows, gives-next, reads-next, shows-next, shows-ok}
-use Rattle.bloaty_engine.proofs.ReadLemmas.{OnOk-then, take-none}
-use Rattle.bloaty_engine.proofs.ReportLemmas.{growth-order, rows-show, size-order, totals-whole}
+use Rattle.run_plan.proofs.FirstLemmas.{take-none}
+use Rattle.bloaty_engine.proofs.ReadLemmas.{OnOk-then}
 use Rattle.bloaty_engine.proofs.ResultLemmas.{ok-is, ok-some}
 use Rattle.bloaty_engine.proofs.StepLemmas.{same-run}
 
 -- Without base files the text of a total is its report.
-abbrev pub PrintsSizes : Options → Totals → Vec ℕ Global → Type 0
-PrintsSizes o t text = (o.bases ≡ []) × PrintsTotal o t text
+abbrev pub PrintsAlone : Options → Totals → Vec ℕ Global → Type 0
+PrintsAlone o t text = (o.bases ≡ []) × PrintsTotal o t text
 
 -- The bytes of files up to a number, and those of others after it.
 unfoldable pub beyond : ℕ → (ℕ → List ℕ) → (ℕ → List ℕ) → ℕ → List ℕ
@@ -100,35 +94,10 @@ growth-for : (bases : List (List ℕ)) (o : Options) (s : Sides) (text : List �
 growth-for [] o s text some is = absurd (omega arith)
 growth-for (base ∷ bases) o s text some is = is
 
--- The tree of a report depends on the depth and the rows alone.
-tree-same : (ro : RowOptions) (t : Totals) (n : ℕ) → t.depth ≡ n → row_tree ro t ≡ row_tree ro (record { depth = n; rows = t.rows; lengths = 0; mapped = 0 })
-tree-same ro t n e = ap (λ d. row_tree ro (record { depth = d; rows = t.rows; lengths = 0; mapped = 0 })) e
-
--- The report of the sizes that a total counts.
-pub size-report : (sources : List Chosen) (o : Options) (filter : Option (List ℕ)) → filter ≡ o.filter → length o.sources ≡ length sources → (t : Totals) (files : List FileView)
-    → HasCounted (filter_test filter) (length sources) files t → IsTotals t.depth t.rows t.lengths t.mapped → (text : List ℕ) → text ≡ printed o (row_tree (row_options o) t) → IsSizeReport o files text
-size-report sources o filter same depth t files has totals text is =
-    let deep : t.depth ≡ length o.sources = has.depth ∙ sym depth in
-    let tree : row_tree (row_options o) t ≡ report_tree o t.rows = tree-same (row_options o) t (length o.sources) deep in
-    let sizes : AreSizes (filter_test o.filter) (depth_of o) files t.rows = record {
-      ordered = totals.ordered;
-      deep = rw deep at totals.deep;
-      some = totals.some;
-      file = rw same at has.file;
-      vm = rw same at has.vm;
-    } in
-    record {
-      rows = t.rows;
-      counted = sizes;
-      tree = report_tree o t.rows;
-      order = size-order o files t.rows sizes;
-      levels = is-tree (row_options o) (depth_of o) t.rows sizes.deep;
-      each = rows-show o files t.rows sizes;
-      once = counts_for-unique (filter_test o.filter);
-      sums = adds-up (row_options o) (depth_of o) t.rows sizes.deep;
-      whole = totals-whole o files t.rows sizes;
-      is = is ∙ ap (printed o) tree;
-    }
+-- A total that counts files by a plan of the options has their sizes.
+pub counted-as : (sources : List Chosen) (o : Options) (filter : Option (List ℕ)) → filter ≡ o.filter → length o.sources ≡ length sources → (t : Totals) (files : List FileView)
+    → HasCounted (filter_test filter) (length sources) files t → HasCounted (filter_test o.filter) (depth_of o) files t
+counted-as sources o filter same depth t files has = subst (λ n. HasCounted (filter_test o.filter) n files t) (sym depth) (rw same at has)
 
 take-front : (names rest : List (List ℕ)) (k : ℕ) → k ≤ length names → take (k - length names) rest ≡ []
 take-front names rest k le =
@@ -185,12 +154,12 @@ module _ (limits : Limits) (sources : List Chosen) (o : Options) (filter : Optio
 
   -- The run ends at the files, or runs out of memory, or has their report of sizes.
   pub sizes-shown : (counted : Result Totals Outcome) (r : Result (Vec ℕ Global) Outcome) → ((k : ℕ) → IsErrOf counted (ReadFailed (k + 1)) → IsUnmade o.synth k) → EndsFiles limits sources (filter_test filter) (batch_of 0 0 (file_names o)) a counted
-      → Shows (PrintsSizes o) counted r → EndsCounting limits sources (beyond (length (file_names o)) a b) o r
+      → Shows (PrintsAlone o) counted r → EndsCounting limits sources (beyond (length (file_names o)) a b) o r
   unfolding count all
   sizes-shown (Err end) r unmade e shows = rw shows (front-ends end (λ k is. unmade k (ap Err is)) e)
   sizes-shown (Ok t) (Err end) unmade e shows = rw shows tt
   sizes-shown (Ok t) (Ok out) unmade e shows =
-      let report : IsSizeReport o e.0 out.items = size-report sources o filter same depth t e.0 e.2 shows.1.0 out.items shows.1.1 in
+      let report : IsSizeReport o e.0 out.items = shows.1.1.report shows.1.0 e.0 (counted-as sources o filter same depth t e.0 e.2) in
       let s : Sides = record { files = e.0; bases = [] } in
       (s, ap (counted_sides limits sources all (file_names o)) shows.0 ∙ sides-none (file_names o) e.0 (omega arith) e.1, sizes-for o.bases o s out.items shows.0 report)
 
@@ -199,26 +168,6 @@ module _ (limits : Limits) (sources : List Chosen) (o : Options) (filter : Optio
     behind-end : (end : Outcome) → counted_from limits sources b (count + 1) t.lengths 0 o.bases ≡ Err end → counted_sides limits sources all (file_names o) o.bases ≡ Err end
     unfolding count all
     behind-end end f = sides-behind e.0 o.bases (Err end) e.1 (rw (← e.2.lengths) f)
-
-    grown : (u : Totals) (text : List ℕ) (bs : List FileView) → HasCounted (filter_test filter) (length sources) bs u → PrintsGrowth o t.rows u.rows text → IsGrowthReport o e.0 bs text
-    grown u text bs has prints =
-        let growths : AreGrowths (filter_test o.filter) (depth_of o) e.0 bs prints.paths = record {
-          is = prints.are;
-          new_file = λ test. prints.between.new_file test ∙ (rw same at e.2.file) test;
-          new_vm = λ test. prints.between.new_vm test ∙ (rw same at e.2.vm) test;
-          base_file = λ test. prints.between.base_file test ∙ (rw same at has.file) test;
-          base_vm = λ test. prints.between.base_vm test ∙ (rw same at has.vm) test;
-        } in
-        record {
-          paths = prints.paths;
-          counted = growths;
-          tree = growth_tree (row_options o) (depth_of o) prints.paths;
-          order = growth-order o e.0 bs prints.paths growths;
-          levels = growth-tree (row_options o) (depth_of o) prints.paths prints.are.deep;
-          once = counts_for-unique (filter_test o.filter);
-          sums = grows (row_options o) (depth_of o) prints.paths prints.are.deep;
-          is = prints.is;
-        }
 
     behind-at : (i : ℕ) → IsFileOf limits sources (batch_of (length (file_names o)) t.lengths o.bases) b i → IsCountedFile limits sources (beyond (length (file_names o)) a b) o i
     unfolding count all
@@ -235,29 +184,29 @@ module _ (limits : Limits) (sources : List Chosen) (o : Options) (filter : Optio
         unmade-behind None files k = tt
         unmade-behind (Some n) files k = omega arith
 
-    pub growth-ends : (r : Result (Vec ℕ Global) Outcome) → EndsGrowth limits sources (filter_test filter) (batch_of (length (file_names o)) t.lengths o.bases) b o t.rows r
+    pub growth-ends : (r : Result (Vec ℕ Global) Outcome) → EndsGrowth limits sources (filter_test filter) (batch_of (length (file_names o)) t.lengths o.bases) b o t r
         → EndsCounting limits sources (beyond (length (file_names o)) a b) o r
     unfolding count all
     growth-ends (Ok out) g =
         let s : Sides = record { files = e.0; bases = g.1.0 } in
-        (s, sides-behind e.0 o.bases (Ok g.1.0) e.1 (rw (← e.2.lengths) g.1.1), growth-for o.bases o s out.items some (grown g.0 out.items g.1.0 g.1.2 g.2))
+        (s, sides-behind e.0 o.bases (Ok g.1.0) e.1 (rw (← e.2.lengths) g.1.1), growth-for o.bases o s out.items some (g.2.report e.0 g.1.0 (counted-as sources o filter same depth t e.0 e.2) (counted-as sources o filter same depth g.0 g.1.0 g.1.2)))
     growth-ends (Err end) g =
         ends-so (IsFileOf limits sources (batch_of (length (file_names o)) t.lengths o.bases) b) (IsCountedFile limits sources (beyond (length (file_names o)) a b) o) (counted_batch limits sources b (batch_of (length (file_names o)) t.lengths o.bases))
         (counted_sides limits sources (beyond (length (file_names o)) a b) (file_names o) o.bases) end (λ i same p. behind-at i p) (λ so. behind-end end so) g
 
 -- The report of sizes, after the step that counted the files.
 pub sizes-reported : {F : Type 0} (f : FilesGhosts F) (limits : Limits) (p : Plans) (o : Options) → IsPlanned o p → (counted : Result Totals Outcome) (r : Result (Vec ℕ Global) Outcome) (s t : F)
-    → ReadsFiles f limits o (EndsFiles limits p.sources (filter_test p.filter) (batch_of 0 0 (file_names o))) counted s t → Shows (PrintsSizes o) counted r
+    → ReadsFiles f limits o (EndsFiles limits p.sources (filter_test p.filter) (batch_of 0 0 (file_names o))) counted s t → Shows (PrintsAlone o) counted r
     → ReadsInputs f limits o o.bases (λ bytes. EndsCounting limits p.sources bytes o) r s t
 sizes-reported f limits p o planned counted r s t files shows =
     let count = length (file_names o) in
     let behind = some-held (f.held s) (count + 1) o.bases in
-    let none : OnOk r (o.bases ≡ []) = shows-ok (PrintsSizes o) counted r (o.bases ≡ []) (λ t text prints. prints.0) shows in
+    let none : OnOk r (o.bases ≡ []) = shows-ok (PrintsAlone o) counted r (o.bases ≡ []) (λ t text prints. prints.0) shows in
     let unread = OnOk-then r _ _ (λ is. ap (λ ns. pairs_from (count + 1) ns (beyond count files.bytes behind.0)) is) none in
     record {
       bytes = beyond count files.bytes behind.0;
       are = (front-files (f.held s) o.synth o.files files.bytes behind.0 files.are, behind-held (f.held s) count o.bases files.bytes behind.0 behind.1);
       ends = sizes-shown limits p.sources o p.filter planned.filter planned.depth files.bytes behind.0 counted r files.unmade files.ends shows;
-      gives = rw (front-pairs o.synth o.files files.bytes behind.0) (gives-next (λ i. ⊤) counted r _ _ _ _ (shows-next (λ i. ⊤) (PrintsSizes o) counted r shows) unread files.gives);
-      reads = reads-next f (reading_for limits o (unmade_names o.synth o.files)) (reading_for limits o (unmade_names o.synth o.files ++ o.bases)) o.bases counted r s t refl (same-run limits o (unmade_names o.synth o.files) (unmade_names o.synth o.files ++ o.bases)) (shows-next _ (PrintsSizes o) counted r shows) none files.reads;
+      gives = rw (front-pairs o.synth o.files files.bytes behind.0) (gives-next (λ i. ⊤) counted r _ _ _ _ (shows-next (λ i. ⊤) (PrintsAlone o) counted r shows) unread files.gives);
+      reads = reads-next f (reading_for limits o (unmade_names o.synth o.files)) (reading_for limits o (unmade_names o.synth o.files ++ o.bases)) o.bases counted r s t refl (same-run limits o (unmade_names o.synth o.files) (unmade_names o.synth o.files ++ o.bases)) (shows-next _ (PrintsAlone o) counted r shows) none files.reads;
     }

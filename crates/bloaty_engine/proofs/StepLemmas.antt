@@ -15,12 +15,14 @@ use Rattle.size_core.specs.declared.limits.Limits.{Limits}
 use Rattle.size_options.specs.declared.run_options.Options.{Options}
 use Rattle.size_options.specs.declared.errors.UsageKind.{UsageKind}
 use Rattle.run_outcome.specs.Names.{file_names, name_at, names_of, other_names}
-use Rattle.bloaty_engine.specs.Devices.{EndsAt, GaveFirst, Reads, ReadsFirst, ended, names_given}
+use Rattle.run_plan.specs.Firsts.{AddsFirst}
+use Rattle.bloaty_engine.specs.Devices.{EndsAt, GaveFirst, Reads, ended, names_given}
 use Rattle.bloaty_engine.specs.Reading.{Reading, config_most, config_names, config_reading, file_reading, least_taken, made_len, numbered, read_upto, reading_for, run_reading, unmade_names}
 use Rattle.bloaty_engine.specs.Steps.{Batch, batch_of, batch_reading}
 use Rattle.bloaty_engine.specs.Verdict.{config_limit, file_limit, next_limit, total_limit}
 use Rattle.bloaty_engine.specs.Stages.{ends_without, is_failed_read}
-use Rattle.bloaty_engine.proofs.ReadLemmas.{OnOk-any, OnOk-then, base-name, get-front, reads-all, reads-as-many, reads-behind, reads-more, reads-none, reads-whole, take-length, take-next}
+use Rattle.run_plan.proofs.FirstLemmas.{adds-all, adds-as-many, adds-behind, adds-more, adds-none, adds-whole, take-next}
+use Rattle.bloaty_engine.proofs.ReadLemmas.{OnOk-any, OnOk-then, base-name, get-front, take-length}
 use Rattle.bloaty_engine.proofs.TakenLemmas.{at-least-any, at-least-behind, at-least-less, left-over, most-over, rose-later, some-limit, some-most}
 
 -- The files of a reading are files of another reading, after `before` names of the other. At least `taken` and at most
@@ -74,32 +76,32 @@ long-number i j e = cc
 
 -- The names that were read, up to a file of a part of a reading.
 part-front : (p q : Reading) (rest : List (List ℕ)) (taken spent : ℕ) → q.names ≡ p.names ++ rest → IsPart p q 0 taken spent
-    → (i : ℕ) (name : List ℕ) → p.name_of i ≡ Some name → (old new : List (List ℕ)) → ReadsFirst (p.upto i) old new p.names → ReadsFirst (q.upto i) old new q.names
+    → (i : ℕ) (name : List ℕ) → p.name_of i ≡ Some name → (old new : List (List ℕ)) → AddsFirst (p.upto i) old new p.names → AddsFirst (q.upto i) old new q.names
 part-front p q rest taken spent names part i name at old new reads =
-    reads-as-many (p.upto i) (q.upto i) old new q.names (part.upto i name at ∙ (omega arith)) (rw names (reads-more (p.upto i) old new p.names rest reads))
+    adds-as-many (p.upto i) (q.upto i) old new q.names (part.upto i name at ∙ (omega arith)) (rw names (adds-more (p.upto i) old new p.names rest reads))
 
 part-behind : (front : List (List ℕ)) (p q : Reading) (taken spent : ℕ) → q.names ≡ front ++ p.names → IsPart p q (length front) taken spent
-    → (i : ℕ) (name : List ℕ) → p.name_of i ≡ Some name → (old mid new : List (List ℕ)) → mid ≡ old ++ front → ReadsFirst (p.upto i) mid new p.names → ReadsFirst (q.upto i) old new q.names
+    → (i : ℕ) (name : List ℕ) → p.name_of i ≡ Some name → (old mid new : List (List ℕ)) → mid ≡ old ++ front → AddsFirst (p.upto i) mid new p.names → AddsFirst (q.upto i) old new q.names
 part-behind front p q taken spent names part i name at old mid new are reads =
-    reads-as-many (length front + p.upto i) (q.upto i) old new q.names (part.upto i name at) (rw names (reads-behind old mid front p.names are (p.upto i) new reads))
+    adds-as-many (length front + p.upto i) (q.upto i) old new q.names (part.upto i name at) (rw names (adds-behind old mid front p.names are (p.upto i) new reads))
 
 -- The same of the names that returned their bytes.
 gave-front : (p q : Reading) (rest : List (List ℕ)) (taken spent : ℕ) → q.names ≡ p.names ++ rest → IsPart p q 0 taken spent
     → (i late : ℕ) (name : List ℕ) → p.name_of i ≡ Some name → (old new : Pairs) → GaveFirst (p.upto i - late) old new p.names → GaveFirst (q.upto i - late) old new q.names
 gave-front p q rest taken spent names part i late name at old new (n, le, gave) =
-    (n, omega (arith, le, part.upto i name at), rw names (reads-more n (names_given old) (names_given new) p.names rest gave))
+    (n, omega (arith, le, part.upto i name at), rw names (adds-more n (names_given old) (names_given new) p.names rest gave))
 
 gave-behind : (front : List (List ℕ)) (p q : Reading) (taken spent : ℕ) → q.names ≡ front ++ p.names → IsPart p q (length front) taken spent
     → (i late : ℕ) (name : List ℕ) → p.name_of i ≡ Some name → (old mid new : Pairs) → names_given mid ≡ names_given old ++ front → GaveFirst (p.upto i - late) mid new p.names → GaveFirst (q.upto i - late) old new q.names
 gave-behind front p q taken spent names part i late name at old mid new are (n, le, gave) =
-    (length front + n, omega (arith, le, part.upto i name at), rw names (reads-behind (names_given old) (names_given mid) front p.names are n (names_given new) gave))
+    (length front + n, omega (arith, le, part.upto i name at), rw names (adds-behind (names_given old) (names_given mid) front p.names are n (names_given new) gave))
 
 -- A step that ends the run at a file, after all files of a reading returned their bytes.
 abbrev pub IsWithin : Reading → ℕ → ℕ → ℕ → Type 0
 IsWithin q count i late = (name : List ℕ) × (q.name_of i ≡ Some name) × (q.upto i ≤ count + late)
 
-gave-all : (names rest : List (List ℕ)) (old new : Pairs) → names_given new ≡ names_given old ++ names → ReadsFirst (length names) (names_given old) (names_given new) (names ++ rest)
-gave-all names rest old new are = reads-more (length names) (names_given old) (names_given new) names rest (reads-all (names_given old) (names_given new) names are)
+gave-all : (names rest : List (List ℕ)) (old new : Pairs) → names_given new ≡ names_given old ++ names → AddsFirst (length names) (names_given old) (names_given new) (names ++ rest)
+gave-all names rest old new are = adds-more (length names) (names_given old) (names_given new) names rest (adds-all (names_given old) (names_given new) names are)
 
 module _ {F : Type 0} (f : FilesGhosts F) where
   -- A step that reads no file.
@@ -108,17 +110,17 @@ module _ {F : Type 0} (f : FilesGhosts F) where
       → ((i late : ℕ) → EndsAt i late r → IsWithin q 0 i late) → Reads f q r s s
   unread q r s none unfailed short at = record {
     held = refl;
-    asked = (0, reads-none (f.asked s) q.names);
+    asked = (0, adds-none (f.asked s) q.names);
     all = OnOk-then r _ _ (λ e. rw e (sym (append-nil (f.asked s)))) none;
     gave = OnOk-then r _ _ (λ e. rw e (sym (append-nil (names_given (f.gave s))))) none;
-    reached = λ i late e. let a = at i late e in (a.0, a.1, (0, omega (arith, a.2), reads-none (names_given (f.gave s)) q.names));
+    reached = λ i late e. let a = at i late e in (a.0, a.1, (0, omega (arith, a.2), adds-none (names_given (f.gave s)) q.names));
     failed = λ i e. absurd (unfailed i e);
     sound = λ e. refl;
     later = omega arith;
     more = omega arith;
     long = λ i e.
         let a = short i e in
-        (a.0, a.1, reads-as-many 0 (q.upto i) (f.asked s) (f.asked s) q.names a.2 (reads-none (f.asked s) q.names), rw a.3 (at-least-any (f.held s) (f.taken s) (f.taken s) (omega arith)));
+        (a.0, a.1, adds-as-many 0 (q.upto i) (f.asked s) (f.asked s) q.names a.2 (adds-none (f.asked s) q.names), rw a.3 (at-least-any (f.held s) (f.taken s) (f.taken s) (omega arith)));
     most = omega arith;
   }
 
@@ -148,7 +150,7 @@ module _ {F : Type 0} (f : FilesGhosts F) where
       → Reads {X = X} f p (Err e) s t → Reads {X = Y} f q (Err e) s t
   stops p q rest e s t names part a = record {
     held = a.held;
-    asked = (a.asked.0, rw names (reads-more a.asked.0 (f.asked s) (f.asked t) p.names rest a.asked.1));
+    asked = (a.asked.0, rw names (adds-more a.asked.0 (f.asked s) (f.asked t) p.names rest a.asked.1));
     all = tt;
     gave = tt;
     reached = λ i late e'. let g = a.reached i late e' in (g.0, part.name_of i g.0 g.1, gave-front p q rest 0 0 names part i late g.0 g.1 _ _ g.2);
@@ -167,9 +169,9 @@ module _ {F : Type 0} (f : FilesGhosts F) where
       → Reads f p1 (Ok x) s t → IsTakenAtLeast (f.held s) taken (f.taken s) (f.taken t) → f.taken t ≤ f.taken s + spent → Reads f p2 r t u → Reads f q r s u
   continues p1 p2 q x r taken spent s t u names part a had within b = record {
     held = b.held ∙ a.held;
-    asked = (length p1.names + b.asked.0, rw names (reads-behind (f.asked s) (f.asked t) p1.names p2.names a.all b.asked.0 (f.asked u) b.asked.1));
-    all = rw names (OnOk-then r _ _ (reads-whole (f.asked s) (f.asked t) p1.names p2.names a.all (f.asked u)) b.all);
-    gave = rw names (OnOk-then r _ _ (reads-whole (names_given (f.gave s)) (names_given (f.gave t)) p1.names p2.names a.gave (names_given (f.gave u))) b.gave);
+    asked = (length p1.names + b.asked.0, rw names (adds-behind (f.asked s) (f.asked t) p1.names p2.names a.all b.asked.0 (f.asked u) b.asked.1));
+    all = rw names (OnOk-then r _ _ (adds-whole (f.asked s) (f.asked t) p1.names p2.names a.all (f.asked u)) b.all);
+    gave = rw names (OnOk-then r _ _ (adds-whole (names_given (f.gave s)) (names_given (f.gave t)) p1.names p2.names a.gave (names_given (f.gave u))) b.gave);
     reached = λ i late e. let g = b.reached i late e in (g.0, part.name_of i g.0 g.1, gave-behind p1.names p2 q taken spent names part i late g.0 g.1 _ _ _ a.gave g.2);
     failed = λ i e.
         let g = b.failed i e in
@@ -203,7 +205,7 @@ module _ {F : Type 0} (f : FilesGhosts F) where
       → ((i late : ℕ) → EndsAt i late r → (late ≡ 0) × IsWithin q (length p.names) i 0) → Reads f p (Ok x) s t → Reads f q r s t
   then-unread p q rest x r s t names most none at a = record {
     held = a.held;
-    asked = (a.asked.0, rw names (reads-more a.asked.0 (f.asked s) (f.asked t) p.names rest a.asked.1));
+    asked = (a.asked.0, rw names (adds-more a.asked.0 (f.asked s) (f.asked t) p.names rest a.asked.1));
     all = rw names (OnOk-then r _ _ (λ e. rw e (a.all ∙ ap (λ ns. f.asked s ++ ns) (sym (append-nil p.names)))) none);
     gave = rw names (OnOk-then r _ _ (λ e. rw e (a.gave ∙ ap (λ ns. names_given (f.gave s) ++ ns) (sym (append-nil p.names)))) none);
     reached = λ i late e.
@@ -255,7 +257,7 @@ module _ {F : Type 0} (f : FilesGhosts F) where
     gave = gave;
     reached = λ i late e.
         let a = at i late e in
-        (name, rw a.0 here, (0, omega (arith, a.0, a.1), rw a.2 (reads-none (names_given (f.gave s)) (name ∷ []))));
+        (name, rw a.0 here, (0, omega (arith, a.0, a.1), rw a.2 (adds-none (names_given (f.gave s)) (name ∷ []))));
     failed = λ i e. let g = failed i e in (name, rw g.0 here, rw g.0 upto, g.1, g.2);
     sound = sound;
     later = later;
@@ -269,11 +271,11 @@ module _ {F : Type 0} (f : FilesGhosts F) where
           let p : number ≡ number + 0 = omega arith in
           ap (numbered number (name ∷ [])) p ∙ numbered-first number 0 (name ∷ [])
 
-      one : ReadsFirst 1 (f.asked s) (f.asked t) (name ∷ [])
+      one : AddsFirst 1 (f.asked s) (f.asked t) (name ∷ [])
       one = record { within = omega arith; are = asked }
 
-      upto : ReadsFirst (number + 1 - number) (f.asked s) (f.asked t) (name ∷ [])
-      upto = reads-as-many 1 (number + 1 - number) (f.asked s) (f.asked t) (name ∷ []) (omega arith) one
+      upto : AddsFirst (number + 1 - number) (f.asked s) (f.asked t) (name ∷ [])
+      upto = adds-as-many 1 (number + 1 - number) (f.asked s) (f.asked t) (name ∷ []) (omega arith) one
 
   -- A run that ended before it was done.
   pub run-ended : {X : Type 0} (q : Reading) (e : Outcome) (s t : F) → ended e ≡ Err e → Reads {X = X} f q (Err e) s t → Reads f q (ended e) s t

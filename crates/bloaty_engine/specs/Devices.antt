@@ -1,6 +1,6 @@
 -- What a step of a run did to the files, the patterns, the output and the error output: each is seen before and after
 -- the step. That a read or a write failed means that its count of failures rose, or has stopped at 2^64 - 1 (`Rose`).
-use Rattle.std.specs.Prelude.{◌≡◌, ◌≢◌, ℕ, ◌+◌, ◌-◌, ◌<◌, ◌≤◌, [], ◌∷◌, ◌++◌, List, length, map, take, true, Some, Result, Ok, Err, OnOk, IsErrOf, IfSome, ⊤}
+use Rattle.std.specs.Prelude.{◌≡◌, ◌≢◌, ℕ, ◌+◌, ◌-◌, ◌<◌, ◌≤◌, ◌++◌, List, map, take, true, Some, Result, Ok, Err, OnOk, IsErrOf, IfSome, ⊤}
 use Rattle.outside.specs.declared.files.Files.{Ghosts as FilesGhosts}
 use Rattle.outside.specs.declared.sink.Sink.{Ghosts as SinkGhosts}
 use Rattle.custom_rewrites.specs.declared.pattern.Patterns.{Ghosts as PatternsGhosts}
@@ -10,14 +10,14 @@ use Rattle.outside.specs.Held.{IsTakenAtLeast, Pairs}
 use Rattle.size_core.specs.declared.limits.Limits.{Limits}
 use Rattle.size_options.specs.declared.run_options.Options.{Options}
 use Rattle.size_options.specs.declared.errors.UsageKind.{UsageKind}
-use Rattle.file_profile.specs.declared.plan.PlanAnswer.{PlanAnswer}
-use Rattle.file_profile.specs.declared.plan.PlanAnswer.TheVariants as plan
-use Rattle.file_profile.specs.Plans.{KeepsLast, answers_without_refusal}
 use Rattle.run_outcome.specs.declared.outcome.Outcome.{Outcome}
 use Rattle.run_outcome.specs.declared.outcome.Outcome.TheVariants.{Done, Config, Bad, TooManyClaims, NoMatch, PlaceOutside, ReadFailed, TooLong, PatternSyntax, PatternTooBig, WriteFailed}
-use Rattle.bloaty_engine.specs.PatternLists.{PatternList, no_patterns, run_patterns}
+use Rattle.run_plan.specs.Firsts.{AddsFirst}
+use Rattle.run_plan.specs.PatternLists.{PatternList, no_patterns, request_patterns}
+use Rattle.run_plan.specs.Planning.{BuildsUpTo, IsLast}
 use Rattle.bloaty_engine.specs.Given.{SeenFiles, asked_given}
 use Rattle.bloaty_engine.specs.Reading.{Reading}
+use Rattle.bloaty_engine.specs.Verdict.{Request}
 use Rattle.bloaty_engine.specs.Stages.{Patterns, ends_without, goes_past, is_failed_read, is_refused_pattern}
 
 -- The outcome of a run as the result of a step: `Ok` if the run is done.
@@ -31,18 +31,13 @@ reported Done = Ok tt
 reported WriteFailed = Ok tt
 reported outcome = Err outcome
 
--- The names that were read before, and then the first `count` of these names, each once and in order.
-pub record ReadsFirst (count : ℕ) (before after names : List (List ℕ)) : Type 0 where
-  pub within : count ≤ length names
-  pub are : after ≡ before ++ take count names
-
 -- The names of the files that returned these bytes.
 abbrev pub names_given : Pairs → List (List ℕ)
 names_given pairs = map (λ (pair : List ℕ × List ℕ). pair.0) pairs
 
 -- At least the first `count` of these names returned their bytes, each once and in order.
 abbrev pub GaveFirst : ℕ → Pairs → Pairs → List (List ℕ) → Type 0
-GaveFirst count before after names = (n : ℕ) × (count ≤ n) × ReadsFirst n (names_given before) (names_given after) names
+GaveFirst count before after names = (n : ℕ) × (count ≤ n) × AddsFirst n (names_given before) (names_given after) names
 
 -- A run ended with this outcome at file i. `unread` is 1 if the read of file i returned no bytes, and 0 if it returned them. The
 -- configuration is file 0. `NoMatch` needs a file and its debug file, and the file of a location is file 1.
@@ -78,33 +73,21 @@ EndsAt i unread (Err end) = IsEndAt i unread end
 -- most: At most `reading.most` bytes were read, whatever the result is.
 pub record Reads {F X : Type 0} (f : FilesGhosts F) (reading : Reading) (result : Result X Outcome) (before after : F) : Type 0 where
   pub held : f.held after ≡ f.held before
-  pub asked : (count : ℕ) × ReadsFirst count (f.asked before) (f.asked after) reading.names
+  pub asked : (count : ℕ) × AddsFirst count (f.asked before) (f.asked after) reading.names
   pub all : OnOk result (f.asked after ≡ f.asked before ++ reading.names)
   pub gave : OnOk result (names_given (f.gave after) ≡ names_given (f.gave before) ++ reading.names)
   pub reached : (i unread : ℕ) → EndsAt i unread result → (name : List ℕ) × (reading.name_of i ≡ Some name)
       × GaveFirst (reading.upto i - unread) (f.gave before) (f.gave after) reading.names
   pub failed : (i : ℕ) → IsErrOf result (ReadFailed i) → (name : List ℕ) × (reading.name_of i ≡ Some name)
-      × ReadsFirst (reading.upto i) (f.asked before) (f.asked after) reading.names
+      × AddsFirst (reading.upto i) (f.asked before) (f.asked after) reading.names
       × Rose (f.faults before) (f.faults after) × IfSome (f.last_failed after) (λ n. n ≡ name)
   pub sound : ends_without is_failed_read result ≡ true → f.faults after ≡ f.faults before
   pub later : f.faults before ≤ f.faults after
   pub more : f.taken before ≤ f.taken after
   pub long : (i : ℕ) → IsErrOf result (TooLong i) → (name : List ℕ) × (reading.name_of i ≡ Some name)
-      × ReadsFirst (reading.upto i) (f.asked before) (f.asked after) reading.names
+      × AddsFirst (reading.upto i) (f.asked before) (f.asked after) reading.names
       × IsTakenAtLeast (f.held before) (reading.least i) (f.taken before) (f.taken after)
   pub most : f.taken after ≤ f.taken before + reading.most
-
--- The patterns that were built before, and then the first `count` of these patterns, each once and in order.
-abbrev pub BuildsFirst : ℕ → List (List ℕ) → List (List ℕ) → List (List ℕ) → Type 0
-BuildsFirst count before after patterns = ReadsFirst count before after patterns
-
--- The patterns that were built before, and then those of a list up to pattern i.
-abbrev pub BuildsUpTo : PatternList → ℕ → List (List ℕ) → List (List ℕ) → Type 0
-BuildsUpTo list i before after = BuildsFirst (list.upto i) before after list.patterns
-
--- The pattern is the last of these patterns.
-abbrev pub IsLast : List ℕ → List (List ℕ) → Type 0
-IsLast pattern patterns = (others : List (List ℕ)) × (patterns ≡ others ++ pattern ∷ [])
 
 -- The effect of a step on the patterns. It builds the patterns of a list, one after the other, and no others.
 --
@@ -116,12 +99,17 @@ IsLast pattern patterns = (others : List (List ℕ)) × (patterns ≡ others ++ 
 -- sound: Otherwise no pattern was refused.
 pub record Builds {P X : Type 0} (p : PatternsGhosts P) (list : PatternList) (result : Result X Outcome)
     (before after : P) : Type 0 where
-  pub built : (count : ℕ) × BuildsFirst count (p.built before) (p.built after) list.patterns
+  pub built : (count : ℕ) × AddsFirst count (p.built before) (p.built after) list.patterns
   pub all : goes_past Patterns result ≡ true → p.built after ≡ p.built before ++ list.patterns
   pub bad : (i : ℕ) → IsErrOf result (PatternSyntax i) → BuildsUpTo list i (p.built before) (p.built after)
   pub refused : (i : ℕ) → IsErrOf result (PatternTooBig i) → BuildsUpTo list i (p.built before) (p.built after)
       × IsLast (p.last_refused after) (p.built after) × (p.refused before < p.refused after)
   pub sound : ends_without is_refused_pattern result ≡ true → p.refused after ≡ p.refused before
+
+-- The patterns of a run's request. If the arguments or the configuration have a fault, no pattern is built.
+abbrev pub run_patterns : Result Request Outcome → PatternList
+run_patterns (Ok r) = request_patterns r.options.filter r.customs
+run_patterns (Err end) = no_patterns
 
 -- The patterns of a run, by what its reads returned. None if its arguments are misused.
 abbrev pub patterns_given : Limits → Result Options UsageKind → Pairs → PatternList
@@ -139,32 +127,6 @@ pub record BuildsAsked {P X : Type 0} (p : PatternsGhosts P) (seen : SeenFiles) 
   pub returned : Pairs
   pub are : seen.after ≡ seen.before ++ returned
   pub builds : Builds p (patterns_given limits given returned) result before after
-
--- A step of planning that isn't done built the patterns of a list up to the one that isn't compiled. `last` is the last pattern
--- that was refused for its size.
-abbrev pub BuildsBefore : PatternList → List ℕ → PlanAnswer → List (List ℕ) → List (List ℕ) → Type 0
-BuildsBefore list last (plan.UnknownSource i) before after = after ≡ before
-BuildsBefore list last (plan.PatternSyntax i) before after = BuildsUpTo list i before after
-BuildsBefore list last (plan.PatternTooBig i) before after = BuildsUpTo list i before after × IsLast last after
-BuildsBefore list last plan.NoMemory before after = (count : ℕ) × BuildsFirst count before after list.patterns
-
--- A step of planning with this result built the patterns of a list.
-abbrev pub BuildsTo : {X : Type 0} → PatternList → List ℕ → Result X PlanAnswer → List (List ℕ) → List (List ℕ) → Type 0
-BuildsTo list last (Ok x) before after = after ≡ before ++ list.patterns
-BuildsTo list last (Err answer) before after = BuildsBefore list last answer before after
-
--- The effect of a step of planning on the patterns.
---
--- built: The patterns that were built are those of the list, up to the one at which the step stopped.
--- kept: The last pattern refused for its size is the same, unless the step ended because one was refused.
--- rises: The count of refused patterns never falls.
--- sound: If the step didn't end because a pattern was refused, none was.
-pub record Plans {P X : Type 0} (p : PatternsGhosts P) (list : PatternList) (result : Result X PlanAnswer)
-    (before after : P) : Type 0 where
-  pub built : BuildsTo list (p.last_refused after) result (p.built before) (p.built after)
-  pub kept : KeepsLast (p.last_refused before) (p.last_refused after) result
-  pub rises : p.refused before ≤ p.refused after
-  pub sound : answers_without_refusal result ≡ true → p.refused after ≡ p.refused before
 
 -- The effect of a run on its output.
 --

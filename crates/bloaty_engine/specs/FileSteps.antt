@@ -1,10 +1,9 @@
 -- The effects of the steps of a run that read and count files.
-use Rattle.std.specs.Prelude.{◌≡◌, ℕ, ◌+◌, ◌-◌, ◌^◌, ◌≤◌, List, [], ◌∷◌, ◌++◌, codes, length, Result, Ok, Vec, IfOk, OnOk, IsErrOf}
+use Rattle.std.specs.Prelude.{◌≡◌, ℕ, ◌+◌, ◌-◌, ◌^◌, ◌≤◌, Bool, Option, List, [], ◌∷◌, ◌++◌, codes, length, Result, Ok, Err, Vec, IfOk, OnOk, IsErrOf}
 use Rattle.std.specs.declared.alloc.Global.{Global}
 use Rattle.size_core.specs.declared.limits.Limits.{Limits}
 use Rattle.outside.specs.declared.files.Files.{Ghosts as FilesGhosts}
 use Rattle.outside.specs.Held.{IsHeld, IsTaken}
-use Rattle.path_rows.specs.declared.row.RollupRow.{RollupRow}
 use Rattle.rollup.specs.Totals.{Totals}
 use Rattle.size_model.specs.declared.view.FileView.{FileView}
 use Rattle.elf_synth.specs.Made.{made}
@@ -21,10 +20,11 @@ use Rattle.bloaty_engine.specs.Devices.{EndsAt, Reads}
 use Rattle.bloaty_engine.specs.Given.{Gives, pairs_from}
 use Rattle.bloaty_engine.specs.Named.{AreFiles, AreHeld}
 use Rattle.bloaty_engine.specs.Reading.{file_reading, made_len, reading_for, unmade_names}
-use Rattle.bloaty_engine.specs.GrowthReport.{EndsGrowth}
+use Rattle.file_reports.specs.GrowthReport.{PrintsGrowth}
 use Rattle.bloaty_engine.specs.Reports.{IsUnmade}
 use Rattle.run_outcome.specs.Names.{file_names}
-use Rattle.bloaty_engine.specs.Steps.{Batch, EndsAs, EndsFiles, Finds, HasCounted, batch_of, batch_reading}
+use Rattle.file_reports.specs.SizeReport.{HasCounted}
+use Rattle.bloaty_engine.specs.Steps.{Batch, EndsAs, EndsFiles, Finds, batch_of, batch_reading}
 use Rattle.bloaty_engine.specs.Verdict.{counted_file, file_limit, total_limit}
 
 -- The effect of a step that reads file `number`, which has this name. `before` and `after` are the files before and after it.
@@ -206,13 +206,21 @@ pub record CountsTotal {F L : Type 0} (f : FilesGhosts F) (limits : Limits) (p :
   pub tally : Tallies f limits (batch_of 0 0 (file_names o)) (made_len o.synth) result new.files new.bytes before after
   pub cost : CostsAtMost (counting_cost limits p.sources o) (f.gave before) (f.gave after) old.steps new.steps
 
--- The effect of a step that counts the base files and makes the report of growth from them. `new_rows` are the rows of the files.
+-- The base files with these bytes were counted, and the text is that of the growth from them to the total `new`; or the run ended at
+-- one of them.
+abbrev pub EndsGrowth : Limits → List Chosen → Option (List ℕ → Bool) → Batch → (ℕ → List ℕ) → Options
+    → Totals → Result (Vec ℕ Global) Outcome → Type 0
+EndsGrowth limits sources filter b files o new (Ok text) =
+    (t : Totals) × EndsFiles limits sources filter b files (Ok t) × PrintsGrowth o new t text.items
+EndsGrowth limits sources filter b files o new (Err end) = EndsFiles limits sources filter b files (Err end)
+
+-- The effect of a step that counts the base files and makes the report of growth from them to `total`, which is that of the files.
 -- `old` and `new` are the tally before and after it, `before` and `after` the files.
 --
 -- batch: It read the base files, and its result is what their bytes decide.
 -- cost: It took at most the steps for the base files that it read.
-pub record ReportsGrowth {F L : Type 0} (f : FilesGhosts F) (limits : Limits) (p : Plans) (o : Options) (new_rows : List RollupRow)
+pub record ReportsGrowth {F L : Type 0} (f : FilesGhosts F) (limits : Limits) (p : Plans) (o : Options) (total : Totals)
     (result : Result (Vec ℕ Global) Outcome) (before after : F) (old new : Tally L) : Type 0 where
   pub batch : ReadsBatch f limits (batch_of old.files old.bytes o.bases)
-      (λ bytes. EndsGrowth limits p.sources (filter_test p.filter) (batch_of old.files old.bytes o.bases) bytes o new_rows) result before after
+      (λ bytes. EndsGrowth limits p.sources (filter_test p.filter) (batch_of old.files old.bytes o.bases) bytes o total) result before after
   pub cost : CostsAtMost (files_cost limits p.sources) (f.gave before) (f.gave after) old.steps new.steps

@@ -15,7 +15,8 @@ use Rattle.size_options.specs.declared.run_options.Options.{Options}
 use Rattle.run_outcome.specs.declared.outcome.Outcome.{Outcome}
 use Rattle.bloaty_engine.specs.Costs.{CostsAtMost, pair_cost, view_cost}
 use Rattle.bloaty_engine.specs.FileSteps.{ReadsBatch}
-use Rattle.bloaty_engine.specs.Steps.{EndsBy, HasCounted, Nowhere, batch_of}
+use Rattle.file_reports.specs.SizeReport.{HasCounted}
+use Rattle.bloaty_engine.specs.Steps.{EndsBy, Nowhere, batch_of}
 use Rattle.bloaty_engine.specs.Verdict.{IsPairRead, counted_pair, file_limit, if_paired, one_file, opened_first, total_limit}
 
 -- The first file was read and opened, or the run ended at it or at its read.

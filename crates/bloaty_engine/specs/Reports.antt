@@ -11,11 +11,11 @@ use Rattle.bloaty_engine.specs.declared.files.Tally.{Tally}
 use Rattle.bloaty_engine.specs.Costs.{CostsAtMost, counting_cost, found_cost}
 use Rattle.bloaty_engine.specs.Devices.{Reads}
 use Rattle.bloaty_engine.specs.Given.{Gives, input_pairs}
-use Rattle.bloaty_engine.specs.GrowthReport.{IsGrowthReport}
+use Rattle.file_reports.specs.GrowthReport.{IsGrowthReport}
 use Rattle.bloaty_engine.specs.Named.{AreInputs}
 use Rattle.bloaty_engine.specs.Reading.{reading_for, unmade_names}
 use Rattle.run_outcome.specs.Names.{all_names, file_names, other_names, side_names}
-use Rattle.bloaty_engine.specs.Report.{IsSizeReport}
+use Rattle.file_reports.specs.SizeReport.{IsSizeReport}
 use Rattle.file_profile.specs.Plans.{Plans}
 use Rattle.file_profile.specs.Sources.{Chosen}
 use Rattle.bloaty_engine.specs.Steps.{EndsBy}

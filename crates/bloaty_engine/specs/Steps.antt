@@ -1,19 +1,16 @@
 -- The results of the steps of a run.
 use Rattle.std.specs.Prelude.{◌≡◌, ℕ, ◌+◌, ◌-◌, ◌<◌, ◌≤◌, ⊤, Bool, List, length, take, Option, Some, Result, Ok, Err, Vec, IsOk}
-use Rattle.std.specs.List.{sum_by}
 use Rattle.std.specs.declared.alloc.Global.{Global}
 use Rattle.size_core.specs.declared.limits.Limits.{Limits}
 use Rattle.size_model.specs.declared.view.FileView.{FileView}
-use Rattle.size_model.specs.Loads.{mapped_count}
 use Rattle.config_text.specs.declared.config.CustomSource.{CustomSource}
-use Rattle.path_rows.specs.Sums.{file_where, vm_where}
 use Rattle.rollup.specs.Totals.{Totals}
 use Rattle.run_outcome.specs.declared.outcome.Outcome.{Outcome}
 use Rattle.run_outcome.specs.declared.outcome.Outcome.TheVariants.{ReadFailed, TooLong, UnknownSource, PatternSyntax, PatternTooBig, NoMemory}
-use Rattle.file_profile.specs.Counts.{file_size_where, vm_size_where}
 use Rattle.custom_rewrites.specs.Pattern.{IsNoPattern}
 use Rattle.file_profile.specs.Patterns.{StopsAt}
 use Rattle.file_profile.specs.Sources.{Chosen, chosen_sources}
+use Rattle.file_reports.specs.SizeReport.{HasCounted}
 use Rattle.bloaty_engine.specs.Reading.{Reading, reading_from}
 use Rattle.bloaty_engine.specs.Verdict.{counted_from, customs_in, next_limit, total_limit}
 
@@ -45,14 +42,6 @@ EndsConfig limits name text (Err end) =
 abbrev pub EndsAs : {X : Type 0} → Result (Unit {0}) Outcome → Result X Outcome → Type 0
 EndsAs (Ok u) decided = IsOk decided
 EndsAs (Err end) decided = EndsBy Nowhere decided end
-
--- A total counts these files.
-pub record HasCounted (filter : Option (List ℕ → Bool)) (count : ℕ) (files : List FileView) (t : Totals) : Type 0 where
-  pub depth : t.depth ≡ count
-  pub lengths : t.lengths ≡ sum_by (λ (f : FileView). f.len) files
-  pub mapped : t.mapped ≡ sum_by (λ (f : FileView). mapped_count f.loads) files
-  pub file : (test : List (List ℕ) → Bool) → file_where test t.rows ≡ sum_by (file_size_where filter test) files
-  pub vm : (test : List (List ℕ) → Bool) → vm_where test t.rows ≡ sum_by (vm_size_where filter test) files
 
 -- Files that are counted together: their names, the number of the first of them, and the sum of the lengths of the
 -- files before it.

@@ -10,9 +10,9 @@ ghost use Rattle.bloaty_engine.specs.Verdict.{end_of_pair, first_name, if_sound}
 
 use crate::files::{first_name, read_file};
 use crate::request::Run;
-use crate::sizes::report_of;
 use data_sources::open_binary;
 use file_profile::{PairAnswer, Plan, profile_pair};
+use file_reports::report_of_sizes;
 use outside::Files;
 use rollup::Rollup;
 use run_outcome::Outcome;
@@ -124,5 +124,5 @@ pub fn pair_report<L: Ledger, F: Files>(
         files.old files.new steps.old steps.new }
 {
     let total = count_pair(run, plan, debug, files, steps)?;
-    Ok(report_of(run.alloc, &run.options, &total)?)
+    Ok(report_of_sizes(run.alloc, &run.options, &total)?)
 }

@@ -1,7 +1,6 @@
 //! The explanation of one location of the only file.
 
-ghost use Rattle.std.specs.Prelude.{◌≡◌, IfOk};
-ghost use Rattle.report_text.specs.Places.{place_report_text};
+ghost use Rattle.std.specs.Prelude.{◌≡◌};
 ghost use Rattle.size_options.specs.Answers.{IsOneInput, KeepsLimits};
 ghost use Rattle.bloaty_engine.specs.FileSteps.{ReadsFiles};
 ghost use Rattle.bloaty_engine.specs.PlaceSteps.{CanExplain, EndsExplained, explained_within};
@@ -12,12 +11,11 @@ ghost use Rattle.bloaty_engine.specs.Verdict.{end_of_place, next_limit};
 use crate::files::{first_name, made_file, read_file};
 use crate::request::Run;
 use file_profile::{PlaceAnswer, Plan, explain_place};
+use file_reports::report_of_location;
 use outside::Files;
 use place_explain::PlaceSource;
-use report_text::place_text;
 use run_outcome::Outcome;
-use size_core::{BadFile, NoMemory, Place};
-use std::alloc::Global;
+use size_core::{BadFile, Place};
 
 // The outcome of a run in which a location isn't explained.
 fn end_of_place(answer: PlaceAnswer) -> Outcome
@@ -86,20 +84,6 @@ fn explained(
     }
 }
 
-// The text of the explanations of a location.
-fn text_of(
-    alloc: Global,
-    place: &Place,
-    sources: &[PlaceSource],
-    wide: bool,
-) -> Result<Vec<u8>, NoMemory>
-    ensures { IfOk result (λ v. v.items ≡ place_report_text place.now sources.now wide) }
-{
-    let mut out = Vec::new(alloc);
-    place_text(alloc, place, sources, wide, &mut out)?;
-    Ok(out)
-}
-
 /// Reads or makes the only file, and returns the text that explains a location of it.
 pub fn place_report<F: Files>(
     run: &Run,
@@ -113,5 +97,5 @@ pub fn place_report<F: Files>(
 {
     let file = only_file(run, files)?;
     let sources = explained(run, plan, place, &file)?;
-    Ok(text_of(run.alloc, place, &sources, run.options.wide)?)
+    Ok(report_of_location(run.alloc, place, &sources, run.options.wide)?)
 }

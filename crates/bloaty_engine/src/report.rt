@@ -1,10 +1,9 @@
 //! The report of a run, up to its text.
 
-ghost use Rattle.std.specs.Prelude.{◌≡◌, ◌+◌, None, length, IfSome};
+ghost use Rattle.std.specs.Prelude.{◌≡◌, None};
 ghost use Rattle.size_options.specs.Answers.{KeepsLimits};
 ghost use Rattle.bloaty_engine.specs.Costs.{CostsAtMost, run_cost};
 ghost use Rattle.bloaty_engine.specs.FileSteps.{CanTotal, CountsTotal};
-ghost use Rattle.run_outcome.specs.Names.{file_names};
 ghost use Rattle.bloaty_engine.specs.Reports.{BeginsReport, Reports, ReportsFiles};
 ghost use Rattle.bloaty_engine.specs.RunSteps.{MakesText};
 
@@ -13,21 +12,13 @@ use crate::growth::growth_report;
 use crate::pair::pair_report;
 use crate::place::place_report;
 use crate::request::{Run, customs_of, plan_of};
-use crate::sizes::report_of;
 use custom_rewrites::Patterns;
 use file_profile::Plan;
+use file_reports::report_of_sizes;
 use outside::Files;
 use rollup::Rollup;
 use run_outcome::Outcome;
-use size_options::Options;
 use std::sync::ledger::Ledger;
-
-// The number of all files, base files included, if it fits a `usize`.
-fn count_all(options: &Options) -> Option<usize>
-    ensures { IfSome result (λ n. n ≡ length (file_names options.now) + length options.now.bases) }
-{
-    file_count(options).checked_add(options.bases.len())
-}
 
 // Counts the files of the options, or the synthetic file.
 fn total_of<L: Ledger, F: Files>(
@@ -58,12 +49,13 @@ fn report_of_files<L: Ledger, F: Files>(
     ensures { ReportsFiles F.Files run.now.limits plan.now run.now.options result
         files.old files.new tally.old tally.new }
 {
-    if count_all(&run.options).is_none() {
+    let bases = run.options.bases.len();
+    if file_count(&run.options).checked_add(bases).is_none() {
         return Err(Outcome::NoMemory);
     }
     let total = total_of(run, plan, files, tally)?;
-    if run.options.bases.len() == 0 {
-        return Ok(report_of(run.alloc, &run.options, &total)?);
+    if bases == 0 {
+        return Ok(report_of_sizes(run.alloc, &run.options, &total)?);
     }
     growth_report(run, plan, &total, files, tally)
 }

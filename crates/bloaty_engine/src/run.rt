@@ -13,10 +13,10 @@
 //!
 //! To understand the clauses, begin with `IsRun` (specs/Answers.antt). It joins `verdict` (specs/Verdict.antt), which
 //! is the outcome as a function of the arguments and the bytes of the files, and `IsReport` (specs/Reports.antt),
-//! which says what a report is; for sizes this is `IsSizeReport` (specs/Report.antt). The clauses about the devices
-//! are in specs/Devices.antt.
+//! which says what a report is. For sizes this is `IsSizeReport` (specs/SizeReport.antt of the crate `file_reports`).
+//! The clauses about the devices are in specs/Devices.antt.
 
-ghost use Rattle.std.specs.Prelude.{◌≡◌, ◌++◌, codes, false};
+ghost use Rattle.std.specs.Prelude.{◌≡◌, false};
 ghost use Rattle.size_options.specs.Answers.{KeepsLimits, are_taken};
 ghost use Rattle.size_options.specs.Asked.{asked as options_of};
 ghost use Rattle.size_options.specs.Words.{seen_words};
@@ -25,7 +25,7 @@ ghost use Rattle.bloaty_engine.specs.Devices.{BuildsAsked, CountsWrites, PrintsL
 ghost use Rattle.bloaty_engine.specs.Given.{seen_files};
 ghost use Rattle.bloaty_engine.specs.Reading.{run_reading};
 ghost use Rattle.bloaty_engine.specs.RunSteps.{EndsRun, IsBlankOf, WritesReport};
-ghost use Rattle.run_outcome.specs.Line.{line_of, usage_text};
+ghost use Rattle.run_outcome.specs.Line.{line_of};
 
 use crate::files::Tally;
 use crate::report::report;
@@ -67,16 +67,6 @@ fn answer<L: Ledger, F: Files, P: Patterns, O: Sink>(
         Err(end) => end,
         Ok(text) => write(out, &text),
     }
-}
-
-// Prints the line for misused arguments.
-fn misused<E: Sink>(err: &mut E, kind: UsageKind) -> Outcome
-    ensures is { result ≡ Outcome.Usage kind }
-    ensures err { let line = codes "bloaty: usage: " ++ usage_text kind ++ codes "\n" in
-        PrintsLine E.Sink line result err.old err.new }
-{
-    let _ = tell_usage(err, kind);
-    Outcome::Usage(kind)
 }
 
 /// Makes the report that the arguments (`words`) ask for and writes it to `out`. If that fails, it prints one line
@@ -135,7 +125,10 @@ pub fn bloaty<F: Files, P: Patterns, O: Sink, E: Sink>(
             let _ = tell(err, &run.options, &outcome);
             outcome
         }
-        Err(OptionAnswer::Usage(kind)) => misused(err, kind),
+        Err(OptionAnswer::Usage(kind)) => {
+            let _ = tell_usage(err, kind);
+            Outcome::Usage(kind)
+        }
         Err(OptionAnswer::NoMemory) => {
             let _ = tell_no_memory(err);
             Outcome::NoMemory

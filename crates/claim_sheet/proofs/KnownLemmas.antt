@@ -1,9 +1,9 @@
 -- Claims keep their positions while more are added, and can be added again.
-use Rattle.std.proofs.Common.{◌≡◌, ℕ, Bool, true, false, suc, ◌+◌, ◌-◌, ◌<◌, ◌≤◌, List, [], ◌∷◌, ◌++◌, length, get_or, take, drop, map, Option, Some, None, Result, Ok, Err, refl, sym, ap, ◌∙◌, append_assoc, length-append, length-drop, arith}
+use Rattle.std.proofs.Common.{◌≡◌, ℕ, Bool, true, false, suc, ◌+◌, ◌-◌, ◌<◌, ◌≤◌, List, [], ◌∷◌, ◌++◌, length, get_or, take, drop, map, Option, Some, None, Result, Ok, Err, refl, sym, ap, ◌∙◌, length-append, length-drop, arith}
 use Rattle.std.specs.Prelude.{nat_lt, if◌then◌else◌}
 use Rattle.std.proofs.lemmas.Grind.{common_steps}
 use Rattle.std.proofs.Math.Seq.{drop-append_seam}
-use Rattle.std.proofs.lemmas.List.{append-nil, drop-append-le, drop_more, get_or_append_left, get_or_at, get_or-map, length-map, map-append, take-append-le, take_all}
+use Rattle.std.proofs.lemmas.List.{drop-append-le, drop_more, get_or_append_left, get_or_at, get_or-map, length-map, map-append, take-append-le, take_all}
 use Rattle.size_core.specs.declared.fault.BadFile.{BadFile}
 use Rattle.std.specs.Prelude.{slice_get}
 use Rattle.std.proofs.lemmas.Option.{slice_get-get_or}
@@ -16,53 +16,23 @@ use Rattle.claim_sheet.specs.Known.{AreAdded, HasLabel, IsKnownBy, claims_betwee
 use Rattle.claim_sheet.specs.Reaches.{claim_of, claim_on, is_empty}
 use Rattle.claim_sheet.specs.Sheets.{Sheet, adding, adding_one, adding_read, is_taken, keeping}
 use Rattle.claim_sheet.proofs.MadeLemmas.{Pushes, label_there, pushes}
-use Rattle.claim_sheet.proofs.SheetLemmas.{adding_ends, adding_more, adding_none, stays-over, taken}
+use Rattle.claim_sheet.proofs.SheetLemmas.{Grown, adding_ends, adding_grown, adding_more, adding_none, grown_by, grown_none, one_grown, taken}
 
 abbrev L : Type 0
 L = LabelledClaim
 
--- the claims after more were added
-pub record Grows (old new : List L) : Type 0 where
-  pub more : List L
-  pub is : new ≡ old ++ more
-
-grows_none : (made : List L) → Grows made made
-grows_none made = record { more = []; is = sym (append-nil made) }
-
-grows_more : (a b c : List L) → Grows a b → Grows b c → Grows a c
-grows_more a b c first next = record { more = first.more ++ next.more; is = next.is ∙ rw first.is (append_assoc a first.more next.more) }
-
-keeping_grows : (b : Bool) (s : Sheet) (x : L) → Grows s.made (if b then record s { made = s.made ++ x ∷ [] } else record s { over = true }).made
-keeping_grows true s x = record { more = x ∷ []; is = refl }
-keeping_grows false s x = grows_none s.made
-
-one_grows : (b : Bool) (s : Sheet) (x : L) → Grows s.made (if b then keeping s x else s).made
-one_grows true s x = keeping_grows (nat_lt (length s.made) s.limit) s x
-one_grows false s x = grows_none s.made
-
-pub adding_grows : (s : Sheet) (xs : List L) → Grows s.made (adding s xs).made
-unfolding adding
-adding_grows s [] = grows_none s.made
-adding_grows s (x ∷ xs) = grows_more s.made (adding_one s x).made (adding (adding_one s x) xs).made (one_grows (is_taken s.addresses_only x.side) s x) (adding_grows (adding_one s x) xs)
-
-pub grows_by : (s t : Sheet) (xs : List L) → t ≡ adding s xs → Grows s.made t.made
-grows_by s t xs e = rw e (adding_grows s xs)
-
-label_grows : (old new : List L) (label : List ℕ) (i : ℕ) → Grows old new → HasLabel old label i → HasLabel new label i
-label_grows old new label i grows has = rw grows.is record {
-  within = let before = has.within in omega (arith, length-append old grows.more);
-  is = ap (λ (xs : List (List ℕ)). get_or xs i []) (map-append (λ (c : L). c.label) old grows.more)
-      ∙ get_or_append_left (map (λ (c : L). c.label) old) (map (λ (c : L). c.label) grows.more) [] i (let before = has.within in omega (arith, length-map old (λ (c : L). c.label)))
+-- a label that is known before claims are added is known after that
+label_grows : (s t : Sheet) (label : List ℕ) (i : ℕ) → Grown s t → HasLabel s.made label i → HasLabel t.made label i
+label_grows s t label i grows has = rw grows.is record {
+  within = let before = has.within in omega (arith, length-append s.made grows.more);
+  is = ap (λ (xs : List (List ℕ)). get_or xs i []) (map-append (λ (c : L). c.label) s.made grows.more)
+      ∙ get_or_append_left (map (λ (c : L). c.label) s.made) (map (λ (c : L). c.label) grows.more) [] i (let before = has.within in omega (arith, length-map s.made (λ (c : L). c.label)))
       ∙ has.is;
 }
 
-pub known_grows : (old new : List L) (label : List ℕ) (claim : Option ℕ) → Grows old new → IsKnownBy old label claim → IsKnownBy new label claim
-known_grows old new label None grows known = tt
-known_grows old new label (Some i) grows known = label_grows old new label i grows known
-
--- a claim that is known before claims are added is known after that
 pub known_after : (s t : Sheet) (xs : List L) (label : List ℕ) (claim : Option ℕ) → t ≡ adding s xs → IsKnownBy s.made label claim → IsKnownBy t.made label claim
-known_after s t xs label claim e known = known_grows s.made t.made label claim (grows_by s t xs e) known
+known_after s t xs label None e known = tt
+known_after s t xs label (Some i) e known = label_grows s t label i (grown_by s s t xs (grown_none s) e) known
 
 -- the same where the claims were read
 pub known_read : (s t : Sheet) (r : Result (List L) BadFile) (label : List ℕ) (claim : Option ℕ) → adding_read s r ≡ Ok t → IsKnownBy s.made label claim → IsKnownBy t.made label claim
@@ -127,19 +97,6 @@ adding_over s (x ∷ xs) over full =
     ap (λ (t : Sheet). adding t xs) (over_one (is_taken s.addresses_only x.side) s x over full) ∙ adding_over s xs over full
 
 -- claims that the sheet doesn't take may be left out
-keeping_only : (b : Bool) (s : Sheet) (x : L) → (if b then record s { made = s.made ++ x ∷ [] } else record s { over = true }).addresses_only ≡ s.addresses_only
-keeping_only true s x = refl
-keeping_only false s x = refl
-
-one_only : (b : Bool) (s : Sheet) (x : L) → (if b then keeping s x else s).addresses_only ≡ s.addresses_only
-one_only true s x = keeping_only (nat_lt (length s.made) s.limit) s x
-one_only false s x = refl
-
-adding_only : (s : Sheet) (xs : List L) → (adding s xs).addresses_only ≡ s.addresses_only
-unfolding adding
-adding_only s [] = refl
-adding_only s (x ∷ xs) = adding_only (adding_one s x) xs ∙ one_only (is_taken s.addresses_only x.side) s x
-
 taken_step : (only : Bool) (s : Sheet) (x : L) (xs : List L) → s.addresses_only ≡ only → (adding (adding_one s x) (taken only xs) ≡ adding (adding_one s x) xs) → (adding s (taken only xs) ≡ adding s xs)
     → (b : Bool) → is_taken only x.side ≡ b → adding s (if b then x ∷ taken only xs else taken only xs) ≡ adding (adding_one s x) xs
 unfolding adding
@@ -152,11 +109,11 @@ taken_again : (only : Bool) (s : Sheet) (xs : List L) → s.addresses_only ≡ o
 unfolding adding
 taken_again only s [] same = refl
 taken_again only s (x ∷ xs) same =
-    taken_step only s x xs same (taken_again only (adding_one s x) xs (one_only (is_taken s.addresses_only x.side) s x ∙ same)) (taken_again only s xs same) (is_taken only x.side) refl
+    taken_step only s x xs same (taken_again only (adding_one s x) xs ((one_grown (is_taken s.addresses_only x.side) s x).only ∙ same)) (taken_again only s xs same) (is_taken only x.side) refl
 
 -- claims that were added from the state s on are between its number of claims and the present one
 not_over : (s : Sheet) (xs : List L) (b : Bool) → s.over ≡ b → (adding s xs).over ≡ false → s.over ≡ false
-not_over s xs true over few = let still : (adding s xs).over ≡ true = stays-over s xs over in cc
+not_over s xs true over few = let still : (adding s xs).over ≡ true = (adding_grown s xs).over over in cc
 not_over s xs false over few = over
 
 between_all : (old ys : List L) → claims_between (old ++ ys) (length old) (length (old ++ ys)) ≡ ys
@@ -164,17 +121,17 @@ between_all old ys =
     ap (λ (zs : List L). take (length (old ++ ys) - length old) zs) (drop-append_seam old ys)
     ∙ take_all (length (old ++ ys) - length old) ys (omega (arith, length-append old ys))
 
-grows_length : (old new : List L) → Grows old new → length old ≤ length new
-grows_length old new grows = omega (arith, ap length grows.is, length-append old grows.more)
+grows_length : (s t : Sheet) → Grown s t → length s.made ≤ length t.made
+grows_length s t grows = omega (arith, ap length grows.is, length-append s.made grows.more)
 
 pub added_now : (s t : Sheet) (xs : List L) → t ≡ adding s xs → AreAdded t (length s.made) (length t.made) xs
 added_now s t xs e = record {
-  order = grows_length s.made t.made (grows_by s t xs e);
+  order = grows_length s t (grown_by s s t xs (grown_none s) e);
   within = omega arith;
   are = λ few.
       let now : (adding s xs).over ≡ false = ap (λ (u : Sheet). u.over) (sym e) ∙ few in
       let made : t.made ≡ s.made ++ taken s.addresses_only xs = ap (λ (u : Sheet). u.made) e ∙ (adding_ends s xs (not_over s xs s.over refl now)).kept now in
-      let only : t.addresses_only ≡ s.addresses_only = ap (λ (u : Sheet). u.addresses_only) e ∙ adding_only s xs in
+      let only : t.addresses_only ≡ s.addresses_only = ap (λ (u : Sheet). u.addresses_only) e ∙ (adding_grown s xs).only in
       ap (λ (ys : List L). claims_between ys (length s.made) (length ys)) made
       ∙ between_all s.made (taken s.addresses_only xs)
       ∙ ap (λ (o : Bool). taken o xs) (sym only);
@@ -187,15 +144,15 @@ between_grows old more first end order within =
 
 pub added_after : (s t : Sheet) (xs : List L) (first end : ℕ) (claims : List L) → t ≡ adding s xs → AreAdded s first end claims → AreAdded t first end claims
 added_after s t xs first end claims e added =
-    let grows = grows_by s t xs e in record {
+    let grows = grown_by s s t xs (grown_none s) e in record {
       order = added.order;
-      within = let more = grows_length s.made t.made grows in let before = added.within in omega arith;
+      within = let more = grows_length s t grows in let before = added.within in omega arith;
       are = λ few.
           let now : (adding s xs).over ≡ false = ap (λ (u : Sheet). u.over) (sym e) ∙ few in
           ap (λ (ys : List L). claims_between ys first end) grows.is
           ∙ between_grows s.made grows.more first end added.order added.within
           ∙ added.are (not_over s xs s.over refl now)
-          ∙ ap (λ (o : Bool). taken o claims) (sym (ap (λ (u : Sheet). u.addresses_only) e ∙ adding_only s xs));
+          ∙ ap (λ (o : Bool). taken o claims) (sym (ap (λ (u : Sheet). u.addresses_only) e ∙ (adding_grown s xs).only));
     }
 
 -- adding them again
@@ -204,20 +161,17 @@ added_again s t first end claims few e added =
     e ∙ ap (adding s) (added.are few) ∙ taken_again s.addresses_only s claims refl
 
 -- the loop over the claims that are added again
-pub repeat_goes : (made : List L) (s t : Sheet) (c : L) (i end : ℕ) → Grows made s.made → i < end → end ≤ length made → ((d : L) → get_or s.made i d ≡ c) → t ≡ adding s (c ∷ [])
-    → adding t (claims_between made (i + 1) end) ≡ adding s (claims_between made i end)
-repeat_goes made s t c i end grows lt within at e =
+pub repeat_goes : (z s t : Sheet) (c : L) (i end : ℕ) → Grown z s → i < end → end ≤ length z.made → ((d : L) → get_or s.made i d ≡ c) → t ≡ adding s (c ∷ [])
+    → adding t (claims_between z.made (i + 1) end) ≡ adding s (claims_between z.made i end)
+repeat_goes z s t c i end grows lt within at e =
     let count : end - i ≡ suc (end - (i + 1)) = omega arith in
-    let here : get_or made i c ≡ c = sym (get_or_append_left made grows.more c i (omega arith)) ∙ ap (λ (xs : List L). get_or xs i c) (sym grows.is) ∙ at c in
-    let whole : claims_between made i end ≡ c ∷ claims_between made (i + 1) end =
-    ap (λ (n : ℕ). take n (drop i made)) count
-    ∙ ap (λ (xs : List L). take (suc (end - (i + 1))) xs) (drop_more made i c (omega arith) ∙ ap (λ (x : L). x ∷ drop (i + 1) made) here) in
-    rw e (adding_more s (c ∷ []) (claims_between made (i + 1) end) ∙ ap (adding s) (sym whole))
+    let here : get_or z.made i c ≡ c = sym (get_or_append_left z.made grows.more c i (omega arith)) ∙ ap (λ (xs : List L). get_or xs i c) (sym grows.is) ∙ at c in
+    let whole : claims_between z.made i end ≡ c ∷ claims_between z.made (i + 1) end =
+    ap (λ (n : ℕ). take n (drop i z.made)) count
+    ∙ ap (λ (xs : List L). take (suc (end - (i + 1))) xs) (drop_more z.made i c (omega arith) ∙ ap (λ (x : L). x ∷ drop (i + 1) z.made) here) in
+    rw e (adding_more s (c ∷ []) (claims_between z.made (i + 1) end) ∙ ap (adding s) (sym whole))
 
-pub repeat_ends : (made : List L) (s : Sheet) (i end : ℕ) → end ≤ i → adding s (claims_between made i end) ≡ s
-repeat_ends made s i end le =
+pub repeat_ends : (z s : Sheet) (i end : ℕ) → end ≤ i → adding s (claims_between z.made i end) ≡ s
+repeat_ends z s i end le =
     let count : end - i ≡ 0 = omega arith in
-    ap (λ (n : ℕ). adding s (take n (drop i made))) count ∙ adding_none s
-
-pub grows_on : (made : List L) (s t : Sheet) (xs : List L) → Grows made s.made → t ≡ adding s xs → Grows made t.made
-grows_on made s t xs grows e = grows_more made s.made t.made grows (grows_by s t xs e)
+    ap (λ (n : ℕ). adding s (take n (drop i z.made))) count ∙ adding_none s

@@ -8,7 +8,7 @@ use Rattle.size_core.proofs.Gathered.{gather_next, gather_end}
 use Rattle.size_model.specs.declared.view.LabelledClaim.{LabelledClaim}
 use Rattle.claim_sheet.specs.Read.{joined, read_each, read_list}
 use Rattle.claim_sheet.specs.Sheets.{Sheet, adding, adding_read, fresh, fresh_on_addresses, read_on_addresses}
-use Rattle.claim_sheet.proofs.SheetLemmas.{adding_none, adding_more, adding_ends, adding_limit, all_taken, taken}
+use Rattle.claim_sheet.proofs.SheetLemmas.{adding_none, adding_more, adding_ends, adding_grown, all_taken, taken}
 
 module _ (f : ℕ → List LabelledClaim) where
   pub gather_goes : (s t : Sheet) (n i : ℕ) → i < n → t ≡ adding s (f i) → adding t (gather f (i + 1) (n - (i + 1))) ≡ adding s (gather f i (n - i))
@@ -88,7 +88,7 @@ ended : (e s t : Sheet) (xs : List LabelledClaim) → s ≡ e → adding_read s 
 ended e s t xs begun made = same-sheet t (adding e xs) (adding_read s (Ok xs)) made (ap (λ (u : Sheet). adding_read u (Ok xs)) begun)
 
 ended-limit : (e s t : Sheet) (r : Reading) → s ≡ e → adding_read s r ≡ Ok t → t.limit ≡ e.limit
-ended-limit e s t (Ok xs) begun made = ap (λ (u : Sheet). u.limit) (ended e s t xs begun made) ∙ adding_limit e xs
+ended-limit e s t (Ok xs) begun made = ap (λ (u : Sheet). u.limit) (ended e s t xs begun made) ∙ (adding_grown e xs).limit
 ended-limit e s t (Err b) begun made = cc made
 
 ended-kept : (e s t : Sheet) (xs : List LabelledClaim) → e.over ≡ false → e.made ≡ [] → s ≡ e → adding_read s (Ok xs) ≡ Ok t → t.over ≡ false → t.made ≡ taken e.addresses_only xs

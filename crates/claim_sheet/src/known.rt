@@ -23,6 +23,7 @@ pub struct KnownLabel<'a> {
 impl ClaimSheet {
     /// Adds a claim, and returns its position on the sheet, counted from 0. The position is None if no claim was
     /// kept.
+    #[tactic(auto, using(crate::proofs::KnownLemmas::noted))]
     pub fn add_noted(&mut self, reach: Reach, label: &[u8]) -> Result<Option<usize>, NoMemory>
         ensures adds { Adds result self.old self.new (claim_on reach label.now) }
         ensures known { IfOk result (λ claim. IsKnownBy self.new.made label.now claim) }
@@ -39,6 +40,7 @@ impl ClaimSheet {
     }
 
     /// Adds a claim under a label that may be known. If it isn't, and the claim was kept, it is known from then on.
+    #[tactic(auto, using(crate::proofs::KnownLemmas::known_after))]
     pub fn add_known(&mut self, reach: Reach, label: &mut KnownLabel<'_>) -> Result<(), NoMemory>
         requires { IsKnown self.old.made label.old }
         ensures adds { Adds result self.old self.new (claim_on reach label.old.text.now) }
@@ -48,12 +50,11 @@ impl ClaimSheet {
         ensures same { OnErr result (self.new ≡ self.old) }
         ensures text { label.new.text.now ≡ label.old.text.now }
     {
-        match label.claim {
-            Some(claim) => self.add_like(reach, claim),
-            None => {
-                label.claim = self.add_noted(reach, label.text)?;
-                Ok(())
-            }
+        if let Some(claim) = label.claim {
+            self.add_like(reach, claim)?;
+            return Ok(());
         }
+        label.claim = self.add_noted(reach, label.text)?;
+        Ok(())
     }
 }

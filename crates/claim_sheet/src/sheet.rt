@@ -95,6 +95,7 @@ impl ClaimSheet {
 
     /// Adds a claim. A claim that covers nothing, or on a side that the sheet doesn't take, is dropped. A claim above the
     /// limit is dropped, and the sheet records that there were more. If memory runs out, the sheet is unchanged.
+    #[tactic(auto, using(crate::proofs::SheetLemmas::adding_none, crate::proofs::SheetLemmas::adding_left))]
     pub fn add(&mut self, reach: Reach, wrap: Wrap, label: &[u8]) -> Result<(), NoMemory>
         ensures adds { Adds result self.old self.new (claim_on reach (wrapped wrap label.now)) }
         ensures same { OnErr result (self.new ≡ self.old) }
@@ -153,6 +154,7 @@ impl ClaimSheet {
     }
 
     // Adds a claim under the label of the claim at a position, even if it covers nothing.
+    #[tactic(auto, using(crate::proofs::SheetLemmas::adding_left))]
     fn keep_like(&mut self, reach: Reach, position: usize) -> Result<(), NoMemory>
         requires { position < length self.old.made }
         ensures adds { Adds result self.old self.new
@@ -178,6 +180,7 @@ impl ClaimSheet {
 
     /// Adds a claim under the label of the claim at a position. The label isn't looked up. A claim that covers nothing
     /// is dropped.
+    #[tactic(auto, using(crate::proofs::SheetLemmas::adding_none))]
     pub fn add_like(&mut self, reach: Reach, position: usize) -> Result<(), NoMemory>
         requires { position < length self.old.made }
         ensures adds { Adds result self.old self.new
@@ -191,6 +194,7 @@ impl ClaimSheet {
     }
 
     // Adds the claims from one position up to another again.
+    #[tactic(auto, using(crate::proofs::KnownLemmas::repeat_goes, crate::proofs::KnownLemmas::repeat_ends, crate::proofs::SheetLemmas::grown_by))]
     fn repeat(&mut self, first: usize, end: usize) -> Result<(), NoMemory>
         requires order { first ≤ end }
         requires within { end ≤ length self.old.made }

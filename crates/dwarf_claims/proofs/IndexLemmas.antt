@@ -1,19 +1,22 @@
 -- An index of a table of abbreviations, attribute by attribute and declaration by declaration.
-use Rattle.std.proofs.Common.{◌≡◌, ℕ, ◌==◌, Bool, true, false, List, [], ◌∷◌, ◌++◌, Option, Some, None, refl, sym, ap, subst, ◌∙◌, append_assoc, eqb-true, nat_eq}
-use Rattle.std.specs.Prelude.{◌||◌, if◌then◌else◌}
-use Rattle.std.specs.BTreeMap.{BTreeMap, IsEmpty, Updates, get, is_at}
+use Rattle.std.proofs.Common.{◌≡◌, ℕ, ◌==◌, Bool, true, false, List, [], ◌∷◌, ◌++◌, Option, Some, None, refl, sym, ap, subst, ◌∙◌, append_assoc, arith, eqb-true, get_or, nat_eq}
+use Rattle.std.specs.Prelude.{if◌then◌else◌}
+use Rattle.std.specs.BTreeMap.{BTreeMap, Updates, get, is_at}
 use Rattle.std.specs.Cmp.{unsigned_tied}
 use Rattle.std.specs.Global.{Vec}
 use Rattle.std.specs.List.{list_any}
 use Rattle.std.specs.Option.{is_some, option_map}
 use Rattle.std.specs.Ordering.{nat_cmp}
+use Rattle.std.proofs.lemmas.Bool.{or_left, or_right}
+use Rattle.std.proofs.lemmas.Bool.Decides.{nat_tests}
 use Rattle.std.proofs.lemmas.List.{append-nil}
-use Rattle.std.proofs.lemmas.List.Folds.{list_any-append}
+use Rattle.std.proofs.lemmas.List.Folds.{Any-from_list_any, list_any-append}
+use Rattle.std.proofs.lemmas.List.Elements.{All-push}
 use Rattle.dwarf_abbrev.specs.declared.spec.Spec.{Spec}
 use Rattle.dwarf_abbrev.specs.Declarations.{Declaration, declared}
 use Rattle.dwarf_abbrev.specs.Values.{TakesNoBytes}
-use Rattle.dwarf_units.specs.Filling.{AreRootsOf, GiveSameRoots, IsIndexOf, IsUnread, filled_from, specs_at}
-use Rattle.dwarf_units.proofs.SameRoots.{has, without_again, without_unread}
+use Rattle.dwarf_units.specs.Filling.{AreRootsOf, GiveSameRoots, IsIndexOf, filled_from, specs_at}
+use Rattle.dwarf_units.proofs.SameRoots.{has, without_again}
 use Rattle.dwarf_claims.specs.Indexes.{AreAmong, GiveTheSame, HasEntry, IsFilled, IsFound}
 
 -- an attribute that is kept
@@ -22,41 +25,23 @@ kept s old new is = λ rest shape w r within.
     ap (λ (xs : List Spec). filled_from shape xs w r) (ap (λ (xs : List Spec). xs ++ rest) is ∙ append_assoc old (s ∷ []) rest)
 
 -- an attribute that is left out
-pub skipped_unread : (s : Spec) (old : List Spec) → TakesNoBytes s → IsUnread s.attribute → GiveTheSame old s old
-skipped_unread s old bare unread = λ rest. without_unread s old rest bare unread
-
 pub skipped_again : (s : Spec) (old : List Spec) (numbers : List ℕ) → TakesNoBytes s → AreAmong numbers old → list_any (λ m. nat_eq m s.attribute) numbers ≡ true → GiveTheSame old s old
-skipped_again s old numbers bare among again = λ rest. without_again s old rest bare (among s.attribute again)
+skipped_again s old numbers bare among again = λ rest.
+    let first = Any-from_list_any (λ m. nat_eq m s.attribute) numbers again in
+    without_again s old rest bare (subst (λ (n : ℕ). has n old ≡ true) (first.3 ∙ eqb-true first.1 s.attribute first.4) (among first.0 first.1 first.2))
 
 -- the numbers of the attributes that are kept
-or_left : (a b : Bool) → a ≡ true → (a || b) ≡ true
-or_left true b e = refl
-or_left false b e = cc
-
-or_right : (a b : Bool) → b ≡ true → (a || b) ≡ true
-or_right true b e = refl
-or_right false b e = e
-
-pub among_none : (specs : List Spec) → AreAmong [] specs
-among_none specs = λ n e. cc
-
 pub among_more : (s : Spec) (numbers : List ℕ) (old new : List Spec) → new ≡ old ++ s ∷ [] → AreAmong numbers old → AreAmong numbers new
-among_more s numbers old new is among = λ n e.
-    ap (has n) is ∙ list_any-append (λ k. k.attribute == n) old (s ∷ []) ∙ or_left (has n old) (has n (s ∷ [])) (among n e)
+among_more s numbers old new is among = λ k d lt. let n = get_or numbers k d in
+    ap (has n) is ∙ list_any-append (λ k. k.attribute == n) old (s ∷ []) ∙ or_left (has n old) (has n (s ∷ [])) (among k d lt)
 
 pub among_both : (s : Spec) (numbers more : List ℕ) (old new : List Spec) → new ≡ old ++ s ∷ [] → more ≡ numbers ++ s.attribute ∷ [] → AreAmong numbers old → AreAmong more new
-among_both s numbers more old new is are among = λ n e. by_test n (list_any (λ m. nat_eq m n) numbers) refl (sym (list_any-append (λ m. nat_eq m n) numbers (s.attribute ∷ [])) ∙ sym (ap (list_any (λ m. nat_eq m n)) are) ∙ e)
-  where
-    by_test : (n : ℕ) (b : Bool) → list_any (λ m. nat_eq m n) numbers ≡ b → (list_any (λ m. nat_eq m n) numbers || list_any (λ m. nat_eq m n) (s.attribute ∷ [])) ≡ true → has n new ≡ true
-    by_test n true here e = among_more s numbers old new is among n here
-    by_test n false here e =
-        let last : list_any (λ m. nat_eq m n) (s.attribute ∷ []) ≡ true = rw here at e in
-        ap (has n) is ∙ list_any-append (λ k. k.attribute == n) old (s ∷ []) ∙ or_right (has n old) (has n (s ∷ [])) last
+among_both s numbers more old new is are among =
+    let same : (s.attribute == s.attribute) ≡ true = grind (arith, nat_tests) in
+    let last = or_right (has s.attribute old) (has s.attribute (s ∷ [])) (or_left (s.attribute == s.attribute) false same) in
+    rw are (All-push (λ (n : ℕ). has n new ≡ true) numbers s.attribute (among_more s numbers old new is among) (ap (has s.attribute) is ∙ list_any-append (λ k. k.attribute == s.attribute) old (s ∷ []) ∙ last))
 
 -- all attributes of a declaration
-pub same_none : (all : List Spec) → GiveSameRoots ([] ++ all) all
-same_none all = λ shape w r within. refl
-
 pub same_goes : (s : Spec) (old new xs ys all : List Spec) → GiveTheSame old s new → ys ≡ s ∷ xs → GiveSameRoots (old ++ ys) all → GiveSameRoots (new ++ xs) all
 same_goes s old new xs ys all added is same = λ shape w r within.
     added xs shape w r within ∙ sym (ap (λ (zs : List Spec). filled_from shape (old ++ zs) w r) is) ∙ same shape w r within
@@ -66,9 +51,6 @@ same_ends specs xs all none same = λ shape w r within.
     ap (λ (zs : List Spec). filled_from shape zs w r) (sym (append-nil specs) ∙ sym (ap (λ (zs : List Spec). specs ++ zs) none)) ∙ same shape w r within
 
 -- all declarations of a table
-pub filled_none : (all : List Declaration) (index : BTreeMap ℕ (Vec Spec)) → IsEmpty index → IsFilled all all (specs_at index)
-filled_none all index empty = λ code. rw empty refl
-
 pub filled_goes : (d : Declaration) (old new : ℕ → Option (List Spec)) (all xs ys : List Declaration) → HasEntry d old new → ys ≡ d ∷ xs → IsFilled all ys old → IsFilled all xs new
 filled_goes d old new all xs ys entry is filled = entry all xs (subst (λ (zs : List Declaration). IsFilled all zs old) is filled)
 

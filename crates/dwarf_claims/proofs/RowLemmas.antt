@@ -2,20 +2,20 @@
 use Rattle.std.proofs.Common.{◌≡◌, ℕ, Bool, true, false, not, List, [], ◌∷◌, ◌++◌, Option, None, Some, Result, Ok, Err, refl, sym, ap, ◌∙◌, append_assoc}
 use Rattle.std.proofs.lemmas.List.{append-nil}
 use Rattle.std.specs.List.{flat_map}
-use Rattle.std.specs.Prelude.{IsOkAnd, if◌then◌else◌}
+use Rattle.std.specs.Prelude.{if◌then◌else◌}
 use Rattle.size_core.specs.declared.fault.BadFile.{BadFile}
 use Rattle.size_core.specs.Checks.{◌>>=◌}
 use Rattle.size_model.specs.declared.view.LabelledClaim.{LabelledClaim}
 use Rattle.claim_sheet.specs.Read.{joined}
-use Rattle.claim_sheet.specs.Sheets.{Sheet, adding, adding_read}
-use Rattle.claim_sheet.proofs.LoopLemmas.{read_joined}
+use Rattle.claim_sheet.specs.Sheets.{Sheet, adding_read}
+use Rattle.claim_sheet.proofs.LoopLemmas.{joined_front, read_joined}
 use Rattle.claim_sheet.proofs.SheetLemmas.{adding_none}
 use Rattle.dwarf_lines.specs.declared.registers.LineRow.{LineRow}
 use Rattle.dwarf_line_header.specs.Header.{LineHeader}
 use Rattle.dwarf_ranges.specs.Claims.{claims_nothing}
 use Rattle.dwarf_claims.specs.declared.row.Before.{Before}
 use Rattle.dwarf_claims.specs.LineClaims.{in_front, pair_claim, pair_claims, rows_claims, sequence_claims, sequences_of, whole_rows}
-use Rattle.dwarf_claims.specs.RowSteps.{claim_before, claims_from, previous_of_next}
+use Rattle.dwarf_claims.specs.RowSteps.{claim_before, claims_from, next_before, previous_of_next, row_claims}
 
 module _ (h : LineHeader) (size : ℕ) where
   abbrev all : List (List LineRow) → List LabelledClaim
@@ -34,9 +34,13 @@ module _ (h : LineHeader) (size : ℕ) where
   abbrev last_row : LineRow → Bool → Option Before
   last_row row claims = Some (record { row = row; claims = claims })
 
-  choice : (b c : Bool) (xs ys zs : List LabelledClaim) → (if c then xs ++ ys else []) ++ zs ≡ (if c then xs else []) ++ ((if c then ys else []) ++ zs)
-  choice b true xs ys zs = append_assoc xs ys zs
-  choice b false xs ys zs = refl
+  start : (b : Bool) (xs zs : List LabelledClaim) → (if not b then xs else []) ++ zs ≡ (if b then [] else xs) ++ zs
+  start true xs zs = refl
+  start false xs zs = refl
+
+  none : (b : Bool) (zs : List LabelledClaim) → zs ≡ (if b then [] else []) ++ zs
+  none true zs = refl
+  none false zs = refl
 
   pairs_end : (c : Bool) (row next : LineRow) (zs : List LabelledClaim) → (if c then pair_claim h row next else []) ++ zs ≡ (if c then pair_claims h row (next ∷ []) else []) ++ zs
   unfolding pair_claims
@@ -46,32 +50,19 @@ module _ (h : LineHeader) (size : ℕ) where
   -- two rows, and then the sequences of the rows after them
   step_front : (c : Bool) (row next : LineRow) (sequences : List (List LineRow)) → (if c then pair_claim h row next else []) ++ continued next c sequences ≡ continued row c (in_front next sequences)
   unfolding pair_claims
-  step_front true row next [] = sym (append-nil (pair_claim h row next ++ []))
-  step_front false row next [] = refl
+  step_front c row next [] = pairs_end c row next []
   step_front true row next (rows ∷ sequences) = sym (append_assoc (pair_claim h row next) (pair_claims h next rows) (all sequences))
   step_front false row next (rows ∷ sequences) = refl
 
   first_front : (row : LineRow) (sequences : List (List LineRow)) → continued row (not (claims_nothing size row.address 1)) sequences ≡ all (in_front row sequences)
   unfolding sequence_claims pair_claims
-  first_front row [] = by_start (claims_nothing size row.address 1)
-    where
-      by_start : (b : Bool) → [] ≡ (if b then [] else pair_claims h row []) ++ []
-      by_start true = refl
-      by_start false = refl
-  first_front row (rows ∷ sequences) = by_start (claims_nothing size row.address 1)
-    where
-      by_start : (b : Bool) → (if not b then pair_claims h row rows else []) ++ all sequences ≡ (if b then [] else pair_claims h row rows) ++ all sequences
-      by_start true = refl
-      by_start false = refl
+  first_front row [] = none (claims_nothing size row.address 1) []
+  first_front row (rows ∷ sequences) = start (claims_nothing size row.address 1) (pair_claims h row rows) (all sequences)
 
   -- a sequence of one row claims nothing
   one_row : (row : LineRow) (sequences : List (List LineRow)) → all sequences ≡ all ((row ∷ []) ∷ sequences)
   unfolding sequence_claims pair_claims
-  one_row row sequences = by_start (claims_nothing size row.address 1)
-    where
-      by_start : (b : Bool) → all sequences ≡ (if b then [] else pair_claims h row []) ++ all sequences
-      by_start true = refl
-      by_start false = refl
+  one_row row sequences = none (claims_nothing size row.address 1) (all sequences)
 
   pub record Same (rows : List LineRow) : Type 0 where
     pub begun : steps None rows ≡ all (sequences_of rows)
@@ -91,7 +82,7 @@ module _ (h : LineHeader) (size : ℕ) where
       inside false rest row claims = ap (λ (zs : List LabelledClaim). (if claims then pair_claim h row next else []) ++ zs) (rest.inside next claims) ∙ step_front claims row next (sequences_of rows)
 
   with_faults : (before : Option Before) (rows : List (Result LineRow BadFile)) → claims_from h size before rows ≡ (whole_rows rows >>= λ more. Ok (steps before more))
-  unfolding claims_from whole_rows joined
+  unfolding claims_from row_claims next_before whole_rows joined
   with_faults before [] = refl
   with_faults before (Ok row ∷ rows) = rw (with_faults (previous_of_next size before row) rows) (by_rest (whole_rows rows))
     where
@@ -109,21 +100,15 @@ module _ (h : LineHeader) (size : ℕ) where
       by_rows (Err e) = refl
 
   -- the loop over the rows
-  pub goes_on : (s t : Sheet) (before : Option Before) (row : LineRow) (rows : List (Result LineRow BadFile)) → t ≡ adding s (claim_before h before row)
-      → adding_read t (claims_from h size (previous_of_next size before row) rows) ≡ adding_read s (claims_from h size before (Ok row ∷ rows))
+  pub passes : (s t : Sheet) (before : Option Before) (row : Result LineRow BadFile) (rows items : List (Result LineRow BadFile)) → items ≡ row ∷ rows → adding_read s (row_claims h before row) ≡ Ok t
+      → adding_read t (claims_from h size (next_before size before row) rows) ≡ adding_read s (claims_from h size before items)
   unfolding claims_from
-  goes_on s t before row rows e = sym (read_joined s t (Ok (claim_before h before row)) (claims_from h size (previous_of_next size before row) rows) (ap (λ (u : Sheet). Ok u) (sym e)))
-
-  -- the same, if the row was read
-  pub passes : (s t : Sheet) (before next : Option Before) (row : Result LineRow BadFile) (rows items : List (Result LineRow BadFile)) → items ≡ row ∷ rows
-      → IsOkAnd row (λ r. (t ≡ adding s (claim_before h before r)) × (next ≡ previous_of_next size before r)) → adding_read t (claims_from h size next rows) ≡ adding_read s (claims_from h size before items)
-  passes s t before next (Ok row) rows items is made = rw (is, made.1) (goes_on s t before row rows made.0)
-  passes s t before next (Err e) rows items is made = absurd made
+  passes s t before row rows items is made = rw is (sym (read_joined s t (row_claims h before row) (claims_from h size (next_before size before row) rows) made))
 
   pub ends : (s : Sheet) (before : Option Before) (items : List (Result LineRow BadFile)) → items ≡ [] → adding_read s (claims_from h size before items) ≡ Ok s
   unfolding claims_from
-  ends s before items none = rw none (ap (λ (u : Sheet). Ok u) (adding_none s))
+  ends s before items done = rw done (ap (λ (u : Sheet). Ok u) (adding_none s))
 
-  pub stops : (s : Sheet) (before : Option Before) (row : Result LineRow BadFile) (rows items : List (Result LineRow BadFile)) (e : BadFile) → items ≡ row ∷ rows → row ≡ Err e → adding_read s (claims_from h size before items) ≡ Err e
+  pub stops : (before : Option Before) (row : Result LineRow BadFile) (rows items : List (Result LineRow BadFile)) (e : BadFile) → items ≡ row ∷ rows → row_claims h before row ≡ Err e → claims_from h size before items ≡ Err e
   unfolding claims_from
-  stops s before row rows items e is fault = rw (is, fault) refl
+  stops before row rows items e is fault = rw is (joined_front (row_claims h before row) (claims_from h size (next_before size before row) rows) e fault)

@@ -3,7 +3,9 @@ pub mod Indexes
 pub mod KnownLabels
 pub mod KnownRanges
 pub mod LineClaims
+pub mod Reads
 pub mod RowSteps
 pub mod SetClaims
 pub mod Tables
+pub mod UnderLabel
 pub mod UnitClaims

@@ -20,9 +20,13 @@ use Rattle.dwarf_units.specs.Roots.{RootRecord, root_of}
 use Rattle.dwarf_units.specs.Units.{units_of}
 use Rattle.dwarf_claims.specs.UnitClaims.{Reading}
 
--- The label of a row: the path of its file, a colon and its line (DWARF 5, section 6.2.2).
+-- The label of a file and a line: the path of the file, a colon and the line.
+abbrev pub label_by : LineHeader → ℕ → ℕ → List ℕ
+label_by h file line = path_of h file ++ codes ":" ++ decimal line
+
+-- The label of a row: that of its file and line (DWARF 5, section 6.2.2).
 unfoldable pub row_label : LineHeader → LineRow → List ℕ
-row_label h row = path_of h row.file ++ codes ":" ++ decimal row.line
+row_label h row = label_by h row.file row.line
 
 -- Two consecutive rows claim the addresses from the first row up to the second, under the label of the first. They
 -- claim nothing if the address doesn't rise (DWARF 5, section 6.2.2).

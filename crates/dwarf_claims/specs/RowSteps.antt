@@ -1,6 +1,7 @@
 -- The claims of rows, one row at a time: what the walk over the rows of a program does at each.
-use Rattle.std.specs.Prelude.{◌≡◌, ℕ, not, All, Bool, List, [], ◌∷◌, ◌++◌, codes, decimal, take, Option, None, Some, Result, Ok, Err, if◌then◌else◌}
+use Rattle.std.specs.Prelude.{◌≡◌, ℕ, not, All, Bool, List, [], ◌∷◌, take, Option, None, Some, Result, Ok, Err, if◌then◌else◌}
 use Rattle.size_core.specs.declared.fault.BadFile.{BadFile}
+use Rattle.size_core.specs.Checks.{◌>>=◌}
 use Rattle.size_model.specs.declared.view.LabelledClaim.{LabelledClaim}
 use Rattle.claim_sheet.specs.Known.{IsKnownBy}
 use Rattle.claim_sheet.specs.Read.{joined}
@@ -13,7 +14,7 @@ use Rattle.dwarf_claims.specs.declared.known_rows.KnownRow.{KnownRow}
 use Rattle.dwarf_claims.specs.declared.row_label.RowLabel.{RowLabel}
 use Rattle.dwarf_claims.specs.declared.row_labels.RowLabels.{RowLabels}
 use Rattle.dwarf_claims.specs.UnitClaims.{Reading}
-use Rattle.dwarf_claims.specs.LineClaims.{pair_claim}
+use Rattle.dwarf_claims.specs.LineClaims.{label_by, pair_claim}
 
 -- The claim of the previous row, which ends at this row. There is none at the first row of a sequence, or if the
 -- sequence makes no claims.
@@ -31,15 +32,19 @@ makes_claims size (Some before) row = before.claims
 abbrev pub previous_of_next : ℕ → Option Before → LineRow → Option Before
 previous_of_next size before row = if row.end then None else Some (record { row = row; claims = makes_claims size before row })
 
+-- The claim of the previous row, which ends at this row, or the fault that is in the list instead of a row.
+unfoldable pub row_claims : LineHeader → Option Before → Result LineRow BadFile → Reading
+row_claims h before row = row >>= λ r. Ok (claim_before h before r)
+
+-- The previous row of the next item, after this item of the list. After a fault there is none.
+unfoldable pub next_before : ℕ → Option Before → Result LineRow BadFile → Option Before
+next_before size before (Ok row) = previous_of_next size before row
+next_before size before (Err e) = None
+
 -- The claims of these rows after a previous row, or the fault among them.
 unfoldable pub claims_from : LineHeader → ℕ → Option Before → List (Result LineRow BadFile) → Reading
 claims_from h size before [] = Ok []
-claims_from h size before (Ok row ∷ rows) = joined (Ok (claim_before h before row)) (claims_from h size (previous_of_next size before row) rows)
-claims_from h size before (Err e ∷ rows) = Err e
-
--- The label of a file and a line: the path of the file, a colon and the line.
-abbrev pub label_by : LineHeader → ℕ → ℕ → List ℕ
-label_by h file line = path_of h file ++ codes ":" ++ decimal line
+claims_from h size before (row ∷ rows) = joined (row_claims h before row) (claims_from h size (next_before size before row) rows)
 
 -- The label begins with the path of its file.
 abbrev pub HasPath : LineHeader → RowLabel → Type 0
@@ -50,9 +55,10 @@ abbrev pub IsKnownRow : List LabelledClaim → LineHeader → KnownRow → Type 
 IsKnownRow made h known = IsKnownBy made (label_by h known.file known.line) known.claim
 
 -- The same of all known rows.
-abbrev pub AreKnownRows : List LabelledClaim → LineHeader → List KnownRow → Type 0
+unfoldable pub AreKnownRows : List LabelledClaim → LineHeader → List KnownRow → Type 0
 AreKnownRows made h rows = All (IsKnownRow made h) rows
 
 -- The last label begins with the path of its file, and the claims of the known rows have their labels.
-abbrev pub AreRowLabels : List LabelledClaim → LineHeader → RowLabels → Type 0
-AreRowLabels made h labels = HasPath h labels.last × AreKnownRows made h labels.known.rows.items
+pub record AreRowLabels (made : List LabelledClaim) (h : LineHeader) (labels : RowLabels) : Type 0 where
+  pub path : HasPath h labels.last
+  pub known : AreKnownRows made h labels.known.rows.items

@@ -24,7 +24,7 @@ abbrev pub unit_label : Sections → DwarfUnit → List ℕ
 unit_label s unit = told_label (root_of s unit >>= λ root. label_of s root)
 
 -- The offset in `.debug_info` and the label of a unit in the list of units. A fault in the list has none.
-abbrev pub labelled : Sections → Result DwarfUnit BadFile → List (ℕ × List ℕ)
+unfoldable pub labelled : Sections → Result DwarfUnit BadFile → List (ℕ × List ℕ)
 labelled s (Ok unit) = (unit.offset, unit_label s unit) ∷ []
 labelled s (Err e) = []
 
@@ -39,7 +39,7 @@ label_at (unit ∷ units) offset = if unit.0 == offset then Some unit.1 else lab
 
 -- The claim of a tuple (first address, length). An empty tuple claims nothing, nor does one at 0 or at one of the two
 -- greatest addresses (DWARF 5, section 6.1.2).
-abbrev pub tuple_claim : List ℕ → ℕ → ℕ × ℕ → List LabelledClaim
+unfoldable pub tuple_claim : List ℕ → ℕ → ℕ × ℕ → List LabelledClaim
 tuple_claim label size tuple = if claims_nothing size tuple.0 tuple.1 then [] else range_claim label tuple
 
 -- The claims of an address set under the label of its unit: its tuples, and its bytes in the file. Without such a unit

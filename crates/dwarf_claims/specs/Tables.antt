@@ -21,7 +21,13 @@ pub record IsReadTable (s : Sections) (t : LastTable) : Type 0 where
   pub table : (place : ℕ) → table_at s.abbrev t.offset place ≡ Ok t.table
   pub known : IsKnownOf t.table.declarations t.known
 
--- The same, if a table is kept.
+-- The same table at the same offset, with what is known of its declarations now.
+pub record IsStillTable (old new : LastTable) : Type 0 where
+  pub known : IsKnownOf new.table.declarations new.known
+  pub table : new.table ≡ old.table
+  pub offset : new.offset ≡ old.offset
+
+-- The kept table, if there is one, is the one at its offset.
 abbrev pub IsTableOf : Sections → Option LastTable → Type 0
 IsTableOf s None = Unit {0}
 IsTableOf s (Some t) = IsReadTable s t
@@ -62,10 +68,15 @@ abbrev pub shown_units : List KnownUnit → List (ℕ × List ℕ)
 shown_units units = map shown_unit units
 
 -- If the label of one of these units has a claim, the claim has this label.
-abbrev pub AreKnownUnits : List LabelledClaim → List KnownUnit → Type 0
+unfoldable pub AreKnownUnits : List LabelledClaim → List KnownUnit → Type 0
 AreKnownUnits made units = All (λ u. IsKnown made u.label) units
 
 -- The offsets of these units rise, and none is below n.
 abbrev pub Ascends : ℕ → List (ℕ × List ℕ) → Type 0
 Ascends n [] = Unit {0}
 Ascends n (unit ∷ units) = (n ≤ unit.0) × Ascends (unit.0 + 1) units
+
+-- The units that were read, in order of their offsets, and known on a sheet with these claims.
+pub record AreReadUnits (made : List LabelledClaim) (units : List KnownUnit) : Type 0 where
+  pub ascend : Ascends 0 (shown_units units)
+  pub known : AreKnownUnits made units

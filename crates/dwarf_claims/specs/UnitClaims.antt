@@ -30,7 +30,7 @@ unfoldable pub label_of : Sections → RootRecord → Result (List ℕ) BadFile
 label_of s root = name_of s root >>= λ name. Ok (or_unnamed name)
 
 -- A claim on a range of addresses: first address and length.
-abbrev pub range_claim : List ℕ → ℕ × ℕ → List LabelledClaim
+unfoldable pub range_claim : List ℕ → ℕ × ℕ → List LabelledClaim
 range_claim label r = claim_on (in_memory (span 0 r.0 r.1)) label
 
 -- A claim on bytes of the file: file offset and length.

@@ -23,7 +23,7 @@ pub struct Needed {
 
 // Adds the next attribute of a declaration, unless it changes nothing. It changes nothing if it takes no bytes, and
 // either no root keeps its value or the same attribute came before it.
-#[tactic(auto, using(crate::proofs::IndexLemmas::kept, crate::proofs::IndexLemmas::skipped_unread, crate::proofs::IndexLemmas::skipped_again, crate::proofs::IndexLemmas::among_more, crate::proofs::IndexLemmas::among_both))]
+#[tactic(auto, using(crate::proofs::IndexLemmas::kept, dwarf_units::proofs::SameRoots::without_unread, crate::proofs::IndexLemmas::skipped_again, crate::proofs::IndexLemmas::among_more, crate::proofs::IndexLemmas::among_both))]
 fn add_spec(needed: &mut Needed, spec: Spec) -> Result<(), NoMemory>
     requires { AreAmong needed.old.bare.items needed.old.specs.items }
     ensures roots { OnOk result
@@ -46,7 +46,7 @@ fn add_spec(needed: &mut Needed, spec: Spec) -> Result<(), NoMemory>
 }
 
 /// Returns the attributes of a declaration that its roots depend on.
-#[tactic(auto, using(crate::proofs::IndexLemmas::same_none, crate::proofs::IndexLemmas::same_goes, crate::proofs::IndexLemmas::same_ends, crate::proofs::IndexLemmas::among_none))]
+#[tactic(auto, using(crate::proofs::IndexLemmas::same_goes, crate::proofs::IndexLemmas::same_ends))]
 pub fn needed_specs(alloc: Global, declared: Entry<'_>) -> Result<Vec<Spec>, NoMemory>
     ensures { IfOk result (λ v. GiveSameRoots v.items declared.entry.specs) }
 {
@@ -79,7 +79,7 @@ fn add_entry(
 }
 
 /// Returns the index of a table: for the code of each declaration, the attributes that its roots depend on.
-#[tactic(auto, using(crate::proofs::IndexLemmas::filled_none, crate::proofs::IndexLemmas::filled_goes, crate::proofs::IndexLemmas::filled_ends))]
+#[tactic(auto, using(crate::proofs::IndexLemmas::filled_goes, crate::proofs::IndexLemmas::filled_ends))]
 pub fn index_of(alloc: Global, table: &Abbrevs<'_>) -> Result<BTreeMap<u64, Vec<Spec>>, NoMemory>
     ensures { IfOk result (λ index. IsIndexOf table.now.declarations index) }
 {

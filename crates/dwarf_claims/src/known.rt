@@ -17,6 +17,7 @@ pub struct KnownUnit<'a> {
 }
 
 /// Returns the label of the unit that begins at an offset of `.debug_info`. `None` if none of these units does.
+#[tactic(auto, unfolding(crate::specs::Tables::AreKnownUnits))]
 pub fn label_at<'a>(units: &[KnownUnit<'a>], offset: u64) -> Option<KnownLabel<'a>>
     requires { Ascends 0 (shown_units units.now) }
     ensures label { option_map (λ l. l.text.now) result ≡ label_at (shown_units units.now) offset }

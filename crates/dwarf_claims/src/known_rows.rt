@@ -45,6 +45,7 @@ fn slot_of(row: &LineRow) -> usize {
 
 impl KnownRows {
     /// Returns an empty table.
+    #[tactic(auto, unfolding(crate::specs::RowSteps::AreKnownRows))]
     pub fn new(alloc: Global) -> Result<KnownRows, NoMemory>
         ensures { IfOk result (λ known. (made : List LabelledClaim) (h : LineHeader)
             → AreKnownRows made h known.rows.items) }
@@ -54,20 +55,15 @@ impl KnownRows {
     }
 
     /// Returns the position of a claim that has the label of a row, if one is known.
+    #[tactic(auto, using(crate::proofs::KnownRowLemmas::known_is))]
     pub fn claim_of(&self, row: &LineRow) -> Option<usize>
         ensures { (made : List LabelledClaim) (h : LineHeader)
             → AreKnownRows made h self.now.rows.items
             → IsKnownBy made (row_label h row.now) result }
     {
-        let slot = slot_of(row);
-        if slot >= self.rows.len() {
-            return None;
-        }
-        let known = &self.rows[slot];
-        if known.file == row.file && known.line == row.line {
-            known.claim
-        } else {
-            None
+        match self.rows.get(slot_of(row)) {
+            Some(known) if known.file == row.file && known.line == row.line => known.claim,
+            _ => None,
         }
     }
 

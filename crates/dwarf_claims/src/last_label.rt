@@ -1,7 +1,7 @@
 //! The label of the unit that was read last. Units in a row may have one name, which may be long.
 
-ghost use Rattle.std.specs.Prelude.{◌≡◌, true, List, Ok, Err, IfOk, IsErrOf};
-ghost use Rattle.size_core.specs.declared.fault.BadFile.{BadFile as BadFileSpec};
+ghost use Rattle.std.specs.Prelude.{◌≡◌, true, List};
+ghost use Rattle.size_core.specs.Checks.{Gives};
 ghost use Rattle.size_model.specs.declared.view.LabelledClaim.{LabelledClaim};
 ghost use Rattle.claim_sheet.specs.Known.{IsKnown};
 ghost use Rattle.dwarf_units.specs.Roots.{shown_root};
@@ -31,31 +31,24 @@ fn is_last(last: Option<StringAt>, name: Option<StringAt>) -> bool
 }
 
 impl<'a> LastLabel<'a> {
-    /// Returns the label of a unit, and keeps it. A name that the unit before had isn't read again. The fault is that
-    /// of the name.
+    /// Sets `self` to the label of a unit. A name that the unit before had isn't read again. The fault is that of the
+    /// name.
     #[tactic(auto, using(crate::proofs::LabelLemmas::label_again, crate::proofs::LabelLemmas::label_new))]
-    pub fn read(
-        &mut self,
-        root: &Root<'a>,
-        sections: &Sections<'a>,
-    ) -> Result<KnownLabel<'a>, BadFile>
+    pub fn read(&mut self, root: &Root<'a>, sections: &Sections<'a>) -> Result<(), BadFile>
         requires { IsLabelOf sections.now self.old }
-        ensures made { IfOk result
-            (λ l. label_of sections.now (shown_root root.now) ≡ Ok l.text.now) }
-        ensures bad { (bad : BadFileSpec) → IsErrOf result bad
-            → label_of sections.now (shown_root root.now) ≡ Err bad }
+        ensures label { Gives (λ _. self.new.label.text.now) result
+            (label_of sections.now (shown_root root.now)) }
         ensures last { IsLabelOf sections.now self.new }
-        ensures same { IfOk result (λ l. l ≡ self.new.label) }
         ensures known { (made : List LabelledClaim) → IsKnown made self.old.label
-            → IfOk result (λ l. IsKnown made l) }
+            → IsKnown made self.new.label }
     {
         let name = root.name_at(sections);
         if is_last(self.name, name) {
-            return Ok(self.label);
+            return Ok(());
         }
         let text = label_of(root, sections)?;
         let label = KnownLabel { text, claim: None };
         *self = LastLabel { name, label };
-        Ok(label)
+        Ok(())
     }
 }

@@ -1,10 +1,10 @@
 //! The ranges that were read last. Units in a row may name one range list.
 
-ghost use Rattle.std.specs.Prelude.{◌≡◌, true, Ok, Err, IfOk, OnOk, IsErrOf};
-ghost use Rattle.size_core.specs.declared.fault.BadFile.{BadFile as BadFileSpec};
+ghost use Rattle.std.specs.Prelude.{◌≡◌, true};
 ghost use Rattle.dwarf_ranges.specs.Ranges.{ranges_of};
 ghost use Rattle.dwarf_units.specs.Roots.{shown_root};
 ghost use Rattle.dwarf_claims.specs.KnownRanges.{AreRangesOf, AreSameKeys, HaveSameRanges, IsHollowBy};
+ghost use Rattle.dwarf_claims.specs.Reads.{Reads};
 
 use claim_sheet::Stop;
 use dwarf_ranges::{RangeAnswer, RangeKey, range_key, unit_ranges};
@@ -63,9 +63,7 @@ fn ranges_of(
     sections: &Sections<'_>,
     root: &Root<'_>,
 ) -> Result<Vec<(u64, u64)>, Stop>
-    ensures made { IfOk result (λ v. ranges_of sections.now (shown_root root.now) ≡ Ok v.items) }
-    ensures bad { (bad : BadFileSpec) → IsErrOf result (Stop.Bad bad)
-        → ranges_of sections.now (shown_root root.now) ≡ Err bad }
+    ensures { Reads (λ v. v.items) result (ranges_of sections.now (shown_root root.now)) }
 {
     let mut ranges = Vec::new(alloc);
     match unit_ranges(alloc, root, sections, &mut ranges) {
@@ -86,10 +84,8 @@ pub fn read_ranges(
     last: &mut LastRanges,
 ) -> Result<(), Stop>
     requires { AreRangesOf sections.now last.old }
-    ensures made { OnOk result
-        (ranges_of sections.now (shown_root root.now) ≡ Ok last.new.ranges.items) }
-    ensures bad { (bad : BadFileSpec) → IsErrOf result (Stop.Bad bad)
-        → ranges_of sections.now (shown_root root.now) ≡ Err bad }
+    ensures ranges { Reads (λ _. last.new.ranges.items) result
+        (ranges_of sections.now (shown_root root.now)) }
     ensures last { AreRangesOf sections.now last.new }
 {
     let key = range_key(root, sections);

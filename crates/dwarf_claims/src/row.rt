@@ -1,12 +1,10 @@
 //! The claims of the rows of a line program.
 
-ghost use Rattle.std.specs.Prelude.{◌≡◌, Err, IfOk, OnOk, IsErrOf, IsOkAnd};
-ghost use Rattle.size_core.specs.declared.fault.BadFile.{BadFile as BadFileSpec};
+ghost use Rattle.std.specs.Prelude.{◌≡◌, IfOk, OnOk};
 ghost use Rattle.claim_sheet.specs.Adds.{Adds, AddsRead};
-ghost use Rattle.claim_sheet.specs.Sheets.{adding};
 ghost use Rattle.dwarf_lines.specs.Rows.{line_rows};
 ghost use Rattle.dwarf_claims.specs.LineClaims.{pair_claim, rows_claims};
-ghost use Rattle.dwarf_claims.specs.RowSteps.{AreRowLabels, claim_before, makes_claims, previous_of_next};
+ghost use Rattle.dwarf_claims.specs.RowSteps.{AreRowLabels, claim_before, makes_claims, next_before, previous_of_next, row_claims};
 
 use crate::row_labels::RowLabels;
 use claim_sheet::{ClaimSheet, Reach, Stop, span};
@@ -88,6 +86,7 @@ fn add_before(
 }
 
 // Adds the claim of the previous row, which ends at this row, and returns the previous row of the next row.
+#[tactic(auto, unfolding(crate::specs::RowSteps::row_claims, crate::specs::RowSteps::next_before))]
 fn add_row(
     unit: UnitProgram<'_, '_>,
     before: Option<Before>,
@@ -96,12 +95,10 @@ fn add_row(
     sheet: &mut ClaimSheet,
 ) -> Result<Option<Before>, Stop>
     requires { AreRowLabels sheet.old.made unit.program.now labels.old }
-    ensures made { IfOk result (λ next. IsOkAnd row (λ r.
-        (sheet.new ≡ adding sheet.old (claim_before unit.entry.program.now before r))
-        × (next ≡ previous_of_next unit.entry.size before r))) }
-    ensures bad { (bad : BadFileSpec) → IsErrOf result (Stop.Bad bad) → row ≡ Err bad }
+    ensures adds { AddsRead result sheet.old sheet.new
+        (row_claims unit.entry.program.now before row) }
+    ensures next { IfOk result (λ next. next ≡ next_before unit.entry.size before row) }
     ensures labels { OnOk result (AreRowLabels sheet.new.made unit.entry.program.now labels.new) }
-    ensures kept { sheet.new.pool ≡ sheet.old.pool }
 {
     let row = row?;
     add_before(unit.program, before, &row, labels, sheet)?;
@@ -110,7 +107,7 @@ fn add_row(
 
 /// Adds the claims of the rows of a line program, for a unit with addresses of `size` bytes. Bad is the fault of the
 /// rows.
-#[tactic(auto, using(crate::proofs::RowLemmas::ends, crate::proofs::RowLemmas::streamed))]
+#[tactic(auto, using(crate::proofs::RowLemmas::ends, crate::proofs::RowLemmas::passes, crate::proofs::RowLemmas::streamed))]
 pub fn add_rows(
     alloc: Global,
     program: &LineProgram<'_>,

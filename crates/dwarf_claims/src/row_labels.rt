@@ -33,26 +33,8 @@ impl RowLabels {
         Ok(RowLabels { last, known })
     }
 
-    // Adds a claim under the label of a row, and stores its position.
-    fn add_new(
-        &mut self,
-        program: &LineProgram<'_>,
-        row: &LineRow,
-        reach: Reach,
-        sheet: &mut ClaimSheet,
-    ) -> Result<(), NoMemory>
-        requires { AreRowLabels sheet.old.made program.now self.old }
-        ensures adds { Adds result sheet.old sheet.new
-            (claim_on reach (row_label program.now row.now)) }
-        ensures labels { OnOk result (AreRowLabels sheet.new.made program.now self.new) }
-    {
-        self.last.set(program, row)?;
-        let claim = sheet.add_noted(reach, &self.last.text)?;
-        self.known.keep(row, claim);
-        Ok(())
-    }
-
-    /// Adds a claim under the label of a row. A label that is known isn't written again.
+    /// Adds a claim under the label of a row, and stores its position. A label that is known isn't written again.
+    #[tactic(auto, using(crate::proofs::KnownRowLemmas::rows_after))]
     pub fn add(
         &mut self,
         program: &LineProgram<'_>,
@@ -65,9 +47,13 @@ impl RowLabels {
             (claim_on reach (row_label program.now row.now)) }
         ensures labels { OnOk result (AreRowLabels sheet.new.made program.now self.new) }
     {
-        match self.known.claim_of(row) {
-            Some(claim) => sheet.add_like(reach, claim),
-            None => self.add_new(program, row, reach, sheet),
+        if let Some(claim) = self.known.claim_of(row) {
+            sheet.add_like(reach, claim)?;
+            return Ok(());
         }
+        self.last.set(program, row)?;
+        let claim = sheet.add_noted(reach, &self.last.text)?;
+        self.known.keep(row, claim);
+        Ok(())
     }
 }

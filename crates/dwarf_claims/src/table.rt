@@ -2,16 +2,16 @@
 //! tables are kept. Of a table that a second unit uses, the code of that unit is kept, too. If another unit has another
 //! code, the table gets an index.
 
-ghost use Rattle.std.specs.Prelude.{◌≡◌, Ok, Err, IfOk, IsErrOf};
-ghost use Rattle.size_core.specs.declared.fault.BadFile.{BadFile as BadFileSpec};
+ghost use Rattle.std.specs.Prelude.{◌≡◌};
 ghost use Rattle.size_core.specs.Checks.{Gives};
 ghost use Rattle.dwarf_units.specs.declared.sections.Sections.{Sections as SectionsSpec};
 ghost use Rattle.dwarf_units.specs.Filling.{code_of};
 ghost use Rattle.dwarf_units.specs.Roots.{root_in, root_of, shown_root};
 ghost use Rattle.dwarf_claims.specs.Codes.{IsKnownOf};
-ghost use Rattle.dwarf_claims.specs.Tables.{AreTablesOf, IsReadTable, IsTableOf};
+ghost use Rattle.dwarf_claims.specs.Reads.{Reads};
+ghost use Rattle.dwarf_claims.specs.Tables.{AreTablesOf, IsStillTable, IsTableOf};
 
-use crate::known_codes::{KnownCode, KnownCodes, is_code};
+use crate::known_codes::{KnownCodes, is_code};
 use claim_sheet::Stop;
 use dwarf_abbrev::Abbrevs;
 use dwarf_units::{DwarfUnit, Root, Sections};
@@ -27,74 +27,50 @@ pub struct LastTable<'a> {
     pub known: KnownCodes,
 }
 
-// Makes the declaration of a code known for one more unit, if there is a code and its declaration isn't known.
-fn know(alloc: Global, code: Option<u64>, last: &mut LastTable<'_>) -> Result<(), NoMemory>
-    requires { IsKnownOf last.old.table.declarations last.old.known }
-    ensures known { IsKnownOf last.new.table.declarations last.new.known }
-    ensures table { last.new.table ≡ last.old.table }
-    ensures offset { last.new.offset ≡ last.old.offset }
-{
-    let Some(code) = code else {
-        return Ok(());
-    };
-    if last.known.has(code) {
-        return Ok(());
+impl<'a> LastTable<'a> {
+    // Makes the declaration of a code known for one more unit, if there is a code and its declaration isn't known.
+    fn know(&mut self, alloc: Global, code: Option<u64>) -> Result<(), NoMemory>
+        requires { IsKnownOf self.old.table.declarations self.old.known }
+        ensures { IsStillTable self.old self.new }
+    {
+        let Some(code) = code else {
+            return Ok(());
+        };
+        if self.known.has(code) {
+            return Ok(());
+        }
+        let known = self.known.with(alloc, &self.table, code)?;
+        self.known = known;
+        Ok(())
     }
-    let known = last.known.with(alloc, &last.table, code)?;
-    last.known = known;
-    Ok(())
-}
 
-// Returns the root of a unit of a table, if one code of the table is known.
-fn root_by_one<'a>(
-    unit: &DwarfUnit<'a>,
-    code: Option<u64>,
-    table: &Abbrevs<'a>,
-    known: &KnownCode,
-) -> Result<Root<'a>, BadFile>
-    requires code { code ≡ code_of unit.now }
-    requires known { IsKnownOf table.now.declarations (KnownCodes.One known.now) }
-    ensures { Gives shown_root result (root_in table.now unit.now) }
-{
-    if is_code(code, known.code) {
-        return unit.root_with(table, &known.specs);
+    // Returns the root of a unit of the table, whose root has this code.
+    fn root_by_known(&self, unit: &DwarfUnit<'a>, code: Option<u64>) -> Result<Root<'a>, BadFile>
+        requires code { code ≡ code_of unit.now }
+        requires known { IsKnownOf self.now.table.declarations self.now.known }
+        ensures { Gives shown_root result (root_in self.now.table unit.now) }
+    {
+        match &self.known {
+            KnownCodes::One(one) if is_code(code, one.code) => unit.root_with(
+                &self.table,
+                &one.specs,
+            ),
+            KnownCodes::Index(index) => unit.root_by(&self.table, index),
+            _ => unit.root_in(&self.table),
+        }
     }
-    unit.root_in(table)
-}
 
-// Returns the root of a unit of a table, whose root has this code.
-fn root_by_known<'a>(
-    unit: &DwarfUnit<'a>,
-    code: Option<u64>,
-    last: &LastTable<'a>,
-) -> Result<Root<'a>, BadFile>
-    requires code { code ≡ code_of unit.now }
-    requires known { IsKnownOf last.now.table.declarations last.now.known }
-    ensures { Gives shown_root result (root_in last.now.table unit.now) }
-{
-    match &last.known {
-        KnownCodes::Nothing => unit.root_in(&last.table),
-        KnownCodes::One(known) => root_by_one(unit, code, &last.table, known),
-        KnownCodes::Index(index) => unit.root_by(&last.table, index),
+    // Returns the root of one more unit of the table.
+    fn root_again(&mut self, alloc: Global, unit: &DwarfUnit<'a>) -> Result<Root<'a>, Stop>
+        requires { IsKnownOf self.old.table.declarations self.old.known }
+        ensures root { Reads shown_root result (root_in self.old.table unit.now) }
+        ensures table { IsStillTable self.old self.new }
+    {
+        let code = unit.code();
+        self.know(alloc, code)?;
+        let root = self.root_by_known(unit, code)?;
+        Ok(root)
     }
-}
-
-// Returns the root of one more unit of a table.
-fn root_again<'a>(
-    alloc: Global,
-    unit: &DwarfUnit<'a>,
-    last: &mut LastTable<'a>,
-) -> Result<Root<'a>, Stop>
-    requires { IsKnownOf last.old.table.declarations last.old.known }
-    ensures made { IfOk result (λ r. root_in last.old.table unit.now ≡ Ok (shown_root r)) }
-    ensures bad { (bad : BadFileSpec) → IsErrOf result (Stop.Bad bad)
-        → root_in last.old.table unit.now ≡ Err bad }
-    ensures table { (s : SectionsSpec) → IsReadTable s last.old → IsReadTable s last.new }
-{
-    let code = unit.code();
-    know(alloc, code, last)?;
-    let root = root_by_known(unit, code, last)?;
-    Ok(root)
 }
 
 /// The last two tables that were used. Two are kept because units of two tables may alternate.
@@ -120,7 +96,7 @@ impl<'a> LastTables<'a> {
 }
 
 // Returns the root of a unit. If `last` isn't its table, its table is read and replaces `last`.
-#[tactic(auto, using(crate::proofs::TableLemmas::same_table, crate::proofs::TableLemmas::root_by_table))]
+#[tactic(auto, using(crate::proofs::TableLemmas::same_table, crate::proofs::TableLemmas::still_read))]
 fn root_by_last<'a>(
     alloc: Global,
     sections: &Sections<'a>,
@@ -128,15 +104,13 @@ fn root_by_last<'a>(
     last: &mut Option<LastTable<'a>>,
 ) -> Result<Root<'a>, Stop>
     requires { IsTableOf sections.now last.old }
-    ensures made { IfOk result (λ r. root_of sections.now unit.now ≡ Ok (shown_root r)) }
-    ensures bad { (bad : BadFileSpec) → IsErrOf result (Stop.Bad bad)
-        → root_of sections.now unit.now ≡ Err bad }
+    ensures root { Reads shown_root result (root_of sections.now unit.now) }
     ensures table { IsTableOf sections.now last.new }
 {
     if let Some(known) = last
         && known.offset == unit.abbrev_offset
     {
-        return root_again(alloc, unit, known);
+        return known.root_again(alloc, unit);
     }
     let table = Abbrevs::at(&sections.abbrev, unit.abbrev_offset, unit.place)?;
     let root = unit.root_in(&table);
@@ -157,9 +131,7 @@ pub fn root_of<'a>(
     last: &mut LastTables<'a>,
 ) -> Result<Root<'a>, Stop>
     requires { AreTablesOf sections.now last.old }
-    ensures made { IfOk result (λ r. root_of sections.now unit.now ≡ Ok (shown_root r)) }
-    ensures bad { (bad : BadFileSpec) → IsErrOf result (Stop.Bad bad)
-        → root_of sections.now unit.now ≡ Err bad }
+    ensures root { Reads shown_root result (root_of sections.now unit.now) }
     ensures tables { AreTablesOf sections.now last.new }
 {
     last.turn_to(unit.abbrev_offset);

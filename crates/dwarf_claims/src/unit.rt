@@ -2,14 +2,13 @@
 
 ghost use Rattle.std.specs.Prelude.{◌≡◌, IfOk, OnOk};
 ghost use Rattle.std.specs.List.{flat_map};
-ghost use Rattle.std.specs.Option.{option_map};
-ghost use Rattle.claim_sheet.specs.Adds.{Adds, AddsRead};
+ghost use Rattle.claim_sheet.specs.Adds.{AddsRead};
 ghost use Rattle.claim_sheet.specs.Known.{IsKnown};
-ghost use Rattle.claim_sheet.specs.Reaches.{claim_on_some, in_file};
 ghost use Rattle.dwarf_units.specs.Roots.{shown_root};
 ghost use Rattle.dwarf_claims.specs.SetClaims.{unit_label};
 ghost use Rattle.dwarf_claims.specs.Tables.{IsUnitOf};
-ghost use Rattle.dwarf_claims.specs.UnitClaims.{bytes_claim, range_claim, told_claims, unit_claims};
+ghost use Rattle.dwarf_claims.specs.UnderLabel.{AddsUnder};
+ghost use Rattle.dwarf_claims.specs.UnitClaims.{range_claim, told_claims, unit_claims};
 
 use crate::last_label::LastLabel;
 use crate::last_ranges::{LastRanges, read_ranges};
@@ -28,23 +27,25 @@ pub struct LastUnit<'a> {
     pub label: LastLabel<'a>,
 }
 
-// The code of a unit: its ranges of addresses, and the bytes of its line program.
+// What a unit claims: its ranges of addresses, its bytes, its table of abbreviations and its line program.
 #[derive(Clone, Copy)]
-struct UnitCode<'r> {
+struct UnitParts<'r, 'a> {
+    unit: &'r DwarfUnit<'a>,
+    root: &'r Root<'a>,
     ranges: &'r [(u64, u64)],
     program: Option<Span>,
 }
 
 // Adds the claim of a range of addresses.
+#[tactic(auto, unfolding(crate::specs::UnitClaims::range_claim))]
 fn add_range(
     range: (u64, u64),
     label: &mut KnownLabel<'_>,
     sheet: &mut ClaimSheet,
 ) -> Result<(), NoMemory>
     requires { IsKnown sheet.old.made label.old }
-    ensures adds { Adds result sheet.old sheet.new (range_claim label.old.text.now range) }
-    ensures known { OnOk result (IsKnown sheet.new.made label.new) }
-    ensures text { label.new.text.now ≡ label.old.text.now }
+    ensures { AddsUnder label.old label.new result sheet.old sheet.new
+        (range_claim label.old.text.now range) }
 {
     sheet.add_known(Reach::in_memory(span(0, range.0, range.1)), label)
 }
@@ -57,10 +58,8 @@ fn add_ranges(
     sheet: &mut ClaimSheet,
 ) -> Result<(), NoMemory>
     requires { IsKnown sheet.old.made label.old }
-    ensures adds { Adds result sheet.old sheet.new
+    ensures { AddsUnder label.old label.new result sheet.old sheet.new
         (flat_map (range_claim label.old.text.now) ranges.now) }
-    ensures known { OnOk result (IsKnown sheet.new.made label.new) }
-    ensures text { label.new.text.now ≡ label.old.text.now }
 {
     for range in ranges {
         add_range(*range, label, sheet)?;
@@ -68,60 +67,25 @@ fn add_ranges(
     Ok(())
 }
 
-// Adds the claim of `len` bytes of the file.
-fn add_bytes(
-    start: u64,
-    len: u64,
-    label: &mut KnownLabel<'_>,
-    sheet: &mut ClaimSheet,
-) -> Result<(), NoMemory>
-    requires { IsKnown sheet.old.made label.old }
-    ensures adds { Adds result sheet.old sheet.new (bytes_claim label.old.text.now start len) }
-    ensures known { OnOk result (IsKnown sheet.new.made label.new) }
-    ensures text { label.new.text.now ≡ label.old.text.now }
-{
-    sheet.add_known(Reach::in_file(span(0, start, len)), label)
-}
-
-// Adds the claim of the bytes of a line program, if there is one.
-#[tactic(auto, using(claim_sheet::proofs::SheetLemmas::adding_none))]
-fn add_program(
-    program: Option<Span>,
-    label: &mut KnownLabel<'_>,
-    sheet: &mut ClaimSheet,
-) -> Result<(), NoMemory>
-    requires { IsKnown sheet.old.made label.old }
-    ensures adds { Adds result sheet.old sheet.new
-        (claim_on_some (option_map in_file program) label.old.text.now) }
-    ensures known { OnOk result (IsKnown sheet.new.made label.new) }
-    ensures text { label.new.text.now ≡ label.old.text.now }
-{
-    match program {
-        Some(bytes) => sheet.add_known(Reach::in_file(bytes), label),
-        None => Ok(()),
+impl UnitParts<'_, '_> {
+    // Adds the claims of the unit.
+    #[tactic(auto, using(claim_sheet::proofs::SheetLemmas::adding_more, claim_sheet::proofs::SheetLemmas::adding_none, crate::proofs::Lists::append_none), unfolding(crate::specs::UnitClaims::told_claims))]
+    fn add(self, label: &mut KnownLabel<'_>, sheet: &mut ClaimSheet) -> Result<(), NoMemory>
+        requires { IsKnown sheet.old.made label.old }
+        ensures { AddsUnder label.old label.new result sheet.old sheet.new
+            (told_claims self.entry.unit.now (shown_root self.entry.root.now)
+            label.old.text.now self.entry.ranges.now self.entry.program) }
+    {
+        let unit = Reach::in_file(span(0, self.unit.place, self.unit.len));
+        let table = Reach::in_file(span(0, self.root.table_place, self.root.table_len));
+        add_ranges(self.ranges, label, sheet)?;
+        sheet.add_known(unit, label)?;
+        sheet.add_known(table, label)?;
+        match self.program {
+            Some(bytes) => sheet.add_known(Reach::in_file(bytes), label),
+            None => Ok(()),
+        }
     }
-}
-
-// Adds the claims of a unit that was read: its ranges, its bytes, its table of abbreviations and its line program.
-#[tactic(auto, using(claim_sheet::proofs::SheetLemmas::adding_more), unfolding(crate::specs::UnitClaims::told_claims))]
-fn add_parts(
-    unit: &DwarfUnit<'_>,
-    root: &Root<'_>,
-    code: UnitCode<'_>,
-    label: &mut KnownLabel<'_>,
-    sheet: &mut ClaimSheet,
-) -> Result<(), NoMemory>
-    requires { IsKnown sheet.old.made label.old }
-    ensures adds { Adds result sheet.old sheet.new
-        (told_claims unit.now (shown_root root.now) label.old.text.now
-        code.entry.ranges.now code.entry.program) }
-    ensures known { OnOk result (IsKnown sheet.new.made label.new) }
-    ensures text { label.new.text.now ≡ label.old.text.now }
-{
-    add_ranges(code.ranges, label, sheet)?;
-    add_bytes(unit.place, unit.len, label, sheet)?;
-    add_bytes(root.table_place, root.table_len, label, sheet)?;
-    add_program(code.program, label, sheet)
 }
 
 /// Adds the claims of a unit, and returns its label. Bad is the first fault of the unit.
@@ -140,14 +104,17 @@ pub fn add_unit<'a>(
     ensures last { OnOk result (IsUnitOf sections.now sheet.new last.new) }
 {
     let root = root_of(alloc, sections, unit, &mut last.tables)?;
-    let mut label = last.label.read(&root, sections)?;
+    last.label.read(&root, sections)?;
     read_ranges(alloc, sections, &root, &mut last.ranges)?;
     let program = program_bytes(sections, unit_program(&root))?;
-    let code = UnitCode {
+    let parts = UnitParts {
+        unit,
+        root: &root,
         ranges: last.ranges.ranges.as_slice(),
         program,
     };
-    add_parts(unit, &root, code, &mut label, sheet)?;
+    let mut label = last.label.label;
+    parts.add(&mut label, sheet)?;
     last.label = LastLabel {
         name: last.label.name,
         label,

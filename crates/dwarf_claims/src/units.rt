@@ -27,22 +27,15 @@ struct ReadUnits<'a> {
     last: LastUnit<'a>,
 }
 
-// Keeps the label of a unit for the address sets.
-fn keep<'a>(
-    units: &mut Vec<KnownUnit<'a>>,
-    offset: u64,
-    label: KnownLabel<'a>,
-) -> Result<(), NoMemory>
-    ensures labels { OnOk result (shown_units units.new.items
-        ≡ shown_units units.old.items ++ (offset, label.entry.text.now) ∷ []) }
-    ensures known { (made : List LabelledClaim) → AreKnownUnits made units.old.items
-        → IsKnown made label.entry → OnOk result (AreKnownUnits made units.new.items) }
+fn keep<'a>(units: &mut Vec<KnownUnit<'a>>, unit: KnownUnit<'a>) -> Result<(), NoMemory>
+    ensures { OnOk result (units.new.items ≡ units.old.items ++ unit.entry ∷ []) }
 {
-    units.push(KnownUnit { offset, label })?;
+    units.push(unit)?;
     Ok(())
 }
 
 // Adds the claims of a unit and keeps its label. Bad is the first fault of the unit, or the fault that ends the units.
+#[tactic(auto, using(crate::proofs::KnownLemmas::units_more), unfolding(crate::specs::SetClaims::labelled))]
 fn add_item<'a>(
     alloc: Global,
     sections: &Sections<'a>,
@@ -60,12 +53,13 @@ fn add_item<'a>(
 {
     let unit = unit?;
     let label = add_unit(alloc, sections, &unit, &mut units.last, sheet)?;
-    keep(&mut units.known, unit.offset, label)?;
+    let offset = unit.offset;
+    keep(&mut units.known, KnownUnit { offset, label })?;
     Ok(())
 }
 
 // Adds the claims of all units, in order, and returns their offsets and labels.
-#[tactic(auto, using(claim_sheet::proofs::LoopLemmas::read_list_goes, claim_sheet::proofs::LoopLemmas::read_list_ends), unfolding(crate::specs::UnitClaims::units_claims))]
+#[tactic(auto, using(crate::proofs::KnownLemmas::units_none, claim_sheet::proofs::LoopLemmas::read_list_goes, claim_sheet::proofs::LoopLemmas::read_list_ends, crate::proofs::Lists::kept_goes), unfolding(crate::specs::UnitClaims::units_claims))]
 fn add_each<'a>(
     alloc: Global,
     sections: &Sections<'a>,
@@ -119,5 +113,6 @@ pub fn add_units(alloc: Global, sections: &Sections<'_>, sheet: &mut ClaimSheet)
     ensures { AddsRead result sheet.old sheet.new (compile_units_claims sections.now) }
 {
     let units = add_each(alloc, sections, sheet)?;
-    add_sets(sections, &units, sheet)
+    add_sets(sections, &units, sheet)?;
+    Ok(())
 }

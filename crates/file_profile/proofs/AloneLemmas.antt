@@ -27,9 +27,9 @@ ok-after word (Ok y) e = refl
 ok-after word (Err a) e = cc
 
 refused-alone : (why : OpenedAnswer) (said : Result FileView OpenedAnswer) → OpenedAnswers (Err why) said → Answers (Err (of_file_alone why)) (refused_as of_file_alone said)
-refused-alone (of_opened.Bad k bad) said e = ap (refused_as of_file_alone) e
-refused-alone of_opened.TooManyClaims said e = ap (refused_as of_file_alone) e
-refused-alone of_opened.MappedTooLarge said e = ap (refused_as of_file_alone) e
+refused-alone (of_opened.Bad k bad) said e = ap (refused_as of_file_alone) (e (λ none. cc))
+refused-alone of_opened.TooManyClaims said e = ap (refused_as of_file_alone) (e (λ none. cc))
+refused-alone of_opened.MappedTooLarge said e = ap (refused_as of_file_alone) (e (λ none. cc))
 refused-alone of_opened.NoMemory said e = tt
 
 module _ (mapped limit : ℕ) (name file : List ℕ) (sources : List Chosen) where

@@ -1,70 +1,61 @@
 -- Claims within a limit, and calls that make them.
-use Rattle.std.proofs.Common.{◌≡◌, ◌+◌, ◌-◌, ◌<◌, ◌≤◌, ℕ, Bool, true, false, cond, nat_lt, List, [], ◌∷◌, ◌++◌, length, Option, Some, None, Result, Ok, Err, refl, sym, ap, ◌∙◌, subst, length-append, arith}
-use Rattle.std.specs.Prelude.{IfSome, IsOkAnd, Vec, ◌≢◌}
+use Rattle.std.proofs.Common.{◌≡◌, ◌+◌, ◌-◌, ◌<◌, ◌≤◌, ℕ, Bool, true, false, cond, nat_lt, List, [], ◌∷◌, ◌++◌, length, Result, Ok, Err, refl, sym, ap, ◌∙◌, length-append, arith}
+use Rattle.std.specs.Prelude.{IsErrAnd, IsOkAnd, Vec, ◌≢◌}
 use Rattle.std.specs.declared.alloc.Global.{Global}
 use Rattle.std.proofs.lemmas.Bool.Decides.{nat_tests}
 use Rattle.std.proofs.lemmas.List.{length-map, map-append}
 use Rattle.std.proofs.lemmas.List.Elements.{All-append}
 use Rattle.size_core.specs.declared.claim.Claim.{Claim}
 use Rattle.size_core.specs.declared.fault.BadFile.{BadFile}
-use Rattle.size_core.specs.declared.source.Source.{Source}
 use Rattle.size_core.specs.Labels.{has_label, with_label}
 use Rattle.size_model.specs.declared.view.LabelledClaim.{LabelledClaim}
 use Rattle.size_model.specs.Numbered.{labelled}
-use Rattle.config_text.specs.declared.config.Rewrite.{Rewrite}
 use Rattle.claim_sheet.specs.Made.{AreNumbered, KeepsLabels, texts}
 use Rattle.claim_sheet.proofs.MadeLemmas.{kept-length, kept-more, kept-none, kept-texts}
 use Rattle.data_sources.specs.declared.answer.ClaimAnswer.{ClaimAnswer}
 use Rattle.data_sources.specs.declared.answer.ClaimAnswer.TheVariants as answers
 use Rattle.file_profile.specs.declared.answer.SourceAnswer.{SourceAnswer}
 use Rattle.file_profile.specs.declared.answer.SourceAnswer.TheVariants.{TooManyClaims, NoMemory}
-use Rattle.file_profile.specs.Claims.{claims_after, followed_by, of_file, or_too_many, within}
+use Rattle.file_profile.specs.Claims.{claims_after, followed_by, of_file, within}
 use Rattle.file_profile.specs.Numbering.{AreClaims}
 use Rattle.file_profile.specs.Answers.{of_claims}
-use Rattle.file_profile.specs.Results.{IsExpected, Makes, Refuses, Yields}
-use Rattle.file_profile.specs.Sources.{Chosen}
+use Rattle.file_profile.specs.Results.{IsExpected, Yields}
 
--- Claims within the limit, and claims that exceed it.
-pub not-over : (limit n : ℕ) → n ≤ limit → nat_lt limit n ≡ false
-not-over limit n le = grind (arith, nat_tests)
+-- A value whose number is within a limit, and an error if the number exceeds it.
+pub fits : {X E : Type 0} (limit n : ℕ) (e : E) (x : X) → n ≤ limit → cond (nat_lt limit n) (Err e) (Ok x) ≡ Ok x
+fits limit n e x le = grind (arith, nat_tests)
 
-pub over : (limit n : ℕ) → limit < n → nat_lt limit n ≡ true
-over limit n lt = grind (arith, nat_tests)
+pub exceeds : {X E : Type 0} (limit n : ℕ) (e : E) (x : X) → limit < n → cond (nat_lt limit n) (Err e) (Ok x) ≡ Err e
+exceeds limit n e x lt = grind (arith, nat_tests)
+
+pub choice-ok : {X E : Type 0} (b : Bool) (e : E) (x y : X) → ◌≡◌ {A = Result X E} (cond b (Err e) (Ok x)) (Ok y) → (b ≡ false) × (x ≡ y)
+choice-ok true e x y is = let wrong : ⊥ = cc in absurd wrong
+choice-ok false e x y is = (refl, cc)
 
 at-most : (limit n : ℕ) → nat_lt limit n ≡ false → n ≤ limit
 at-most limit n e = grind (arith, nat_tests)
 
-pub within-few : (limit : ℕ) (r : Result (List LabelledClaim) SourceAnswer) (made : List LabelledClaim) → r ≡ Ok made → length made ≤ limit → within limit r ≡ Ok made
-within-few limit r made are few = ap (within limit) are ∙ ap (λ b. cond b (Err TooManyClaims) (Ok made)) (not-over limit (length made) few)
-
-within-many : (limit : ℕ) (r : Result (List LabelledClaim) SourceAnswer) → IsOkAnd r (λ made. limit < length made) → within limit r ≡ Err TooManyClaims
-within-many limit (Ok made) many = ap (λ b. cond b (Err TooManyClaims) (Ok made)) (over limit (length made) many)
-within-many limit (Err answer) many = absurd many
-
-choice-ok : (b : Bool) (claims made : List LabelledClaim) → ◌≡◌ {A = Result (List LabelledClaim) SourceAnswer} (cond b (Err TooManyClaims) (Ok claims)) (Ok made) → (b ≡ false) × (claims ≡ made)
-choice-ok true claims made e = let wrong : ⊥ = cc in absurd wrong
-choice-ok false claims made e = (refl, cc)
-
 pub within-ok : (limit : ℕ) (r : Result (List LabelledClaim) SourceAnswer) (made : List LabelledClaim) → within limit r ≡ Ok made → (r ≡ Ok made) × (length made ≤ limit)
 within-ok limit (Ok claims) made e =
-    let is = choice-ok (nat_lt limit (length claims)) claims made e in
-    (ap Ok is.1, subst (λ (xs : List LabelledClaim). length xs ≤ limit) is.1 (at-most limit (length claims) is.0))
+    let is = choice-ok (nat_lt limit (length claims)) TooManyClaims claims made e in
+    (ap Ok is.1, rw (← is.1) (at-most limit (length claims) is.0))
 within-ok limit (Err answer) made e = let wrong : ⊥ = cc in absurd wrong
 
--- A call that runs out of memory, and one that ends as another call did.
-pub out-of-memory : {Y : Type 0} (expected : Result Y SourceAnswer) → Refuses expected NoMemory
-out-of-memory expected some = absurd (some refl)
+-- A call that returns a value, and one that returns an error.
+pub yields-made : {X Y : Type 0} {S : Y → X → Type 0} {expected : Result Y SourceAnswer} {x : X} → IsExpected S expected x → Yields S expected (Ok x)
+yields-made made = record { made = made; refused = λ answer some e. cc }
 
-pub makes-refused : {X Y : Type 0} (S : List (List ℕ) → List LabelledClaim → X → Type 0) (T : List (List ℕ) → List LabelledClaim → Y → Type 0) (answer : SourceAnswer)
-    (old new : List (List ℕ)) (expected : Result (List LabelledClaim) SourceAnswer) → Makes S (Err answer) old new expected → Makes T (Err answer) old new expected
-makes-refused S T answer old new expected makes = record { made = makes.made; kept = makes.kept }
-
-pub makes-same : {X : Type 0} (S : List (List ℕ) → List LabelledClaim → X → Type 0) (result : Result X SourceAnswer) (first old new : List (List ℕ))
-    (expected same : Result (List LabelledClaim) SourceAnswer) → KeepsLabels first old → expected ≡ same → Makes S result old new expected → Makes S result first new same
-makes-same S result first old new expected same kept is makes = record {
-  made = subst (λ e. Yields (S new) e result) is makes.made;
-  kept = kept-more first old new kept makes.kept;
+pub yields-refused : {X Y : Type 0} {S : Y → X → Type 0} (expected : Result Y SourceAnswer) (answer : SourceAnswer) → (answer ≢ NoMemory → expected ≡ Err answer) → Yields S expected (Err answer)
+yields-refused expected answer refuses = record {
+  made = tt;
+  refused = λ a some e. let same : answer ≡ a = cc in rw (← same) (refuses (λ none. some (sym same ∙ none)));
 }
+
+-- A call that ends with the error of another call.
+pub refused-as : {X Y A B : Type 0} {S : A → X → Type 0} {T : B → Y → Type 0} {expected : Result A SourceAnswer} {other : Result B SourceAnswer} {answer : SourceAnswer} (r : Result Y SourceAnswer)
+    → ((a : SourceAnswer) → expected ≡ Err a → other ≡ Err a) → IsErrAnd r (λ e. e ≡ answer) → Yields S expected (Err answer) → Yields T other r
+refused-as (Ok y) next is yields = absurd is
+refused-as (Err e) next is yields = record { made = tt; refused = λ a some at. next a (yields.refused a some (cc)) }
 
 -- A label is added to a pool.
 kept-choice : (b : Bool) (pool : List (List ℕ)) (label : List ℕ) → KeepsLabels pool (cond b pool (pool ++ label ∷ []))
@@ -74,23 +65,29 @@ kept-choice false pool label = record { more = label ∷ []; is = refl }
 pub kept-label : (pool new : List (List ℕ)) (label : List ℕ) → new ≡ with_label pool label → KeepsLabels pool new
 kept-label pool new label is = rw is (kept-choice (has_label pool label) pool label)
 
+pub kept-same : (pool new : List (List ℕ)) → new ≡ pool → KeepsLabels pool new
+kept-same pool new is = rw is (kept-none pool)
+
+-- How calls keep the labels of a pool, one after the other.
+pub ruleset keeping = (kept-label, kept-same, kept-more)
+
 -- The claims on one file, which has number i.
 pub file-made : (i limit : ℕ) (r : Result (List LabelledClaim) BadFile) (pool : List (List ℕ)) (v : Vec Claim Global) → r ≡ Ok (texts pool v.items) → AreNumbered pool v.items → length v.items ≤ limit
     → IsExpected (AreClaims pool) (within limit (of_file i r)) v
 file-made i limit r pool v are numbered few = record {
   made = texts pool v.items;
-  are = within-few limit (of_file i r) (texts pool v.items) (ap (of_file i) are) (omega (arith, few, length-map v.items (labelled pool)));
+  are = ap (λ s. within limit (of_file i s)) are ∙ fits limit (length (texts pool v.items)) TooManyClaims (texts pool v.items) (omega (arith, few, length-map v.items (labelled pool)));
   shown = record { are = refl; numbered = numbered };
 }
 
-many-of-file : (i limit : ℕ) (r : Result (List LabelledClaim) BadFile) → IsOkAnd r (λ made. limit < length made) → IsOkAnd (of_file i r) (λ made. limit < length made)
-many-of-file i limit (Ok made) many = many
+many-of-file : (i limit : ℕ) (r : Result (List LabelledClaim) BadFile) → IsOkAnd r (λ made. limit < length made) → within limit (of_file i r) ≡ Err TooManyClaims
+many-of-file i limit (Ok made) many = exceeds limit (length made) TooManyClaims made many
 many-of-file i limit (Err bad) many = absurd many
 
 pub file-refused : (i limit : ℕ) (r : Result (List LabelledClaim) BadFile) (answer : ClaimAnswer) → (answer ≡ answers.TooManyClaims → IsOkAnd r (λ made. limit < length made))
-    → ((bad : BadFile) → answer ≡ answers.Bad bad → r ≡ Err bad) → Refuses (within limit (of_file i r)) (of_claims i answer)
+    → ((bad : BadFile) → answer ≡ answers.Bad bad → r ≡ Err bad) → of_claims i answer ≢ NoMemory → within limit (of_file i r) ≡ Err (of_claims i answer)
 file-refused i limit r (answers.Bad bad) many bads some = ap (λ s. within limit (of_file i s)) (bads bad refl)
-file-refused i limit r answers.TooManyClaims many bads some = within-many limit (of_file i r) (many-of-file i limit r (many refl))
+file-refused i limit r answers.TooManyClaims many bads some = many-of-file i limit r (many refl)
 file-refused i limit r answers.NoMemory many bads some = absurd (some refl)
 
 -- Claims after others, within the rest of the limit.
@@ -114,9 +111,6 @@ module _ (limit n : ℕ) (old : List (List ℕ)) (first : Vec Claim Global) (r :
       let size : length (texts old first.items) ≡ length first.items = length-map first.items (labelled old) in
       within-after limit (texts old first.items) r (omega arith) ∙ ap (λ m. claims_after (texts old first.items) (within (limit - m) r)) (size ∙ sym is)
 
-  pub after-refused : (answer : SourceAnswer) → Refuses (within (limit - n) r) answer → Refuses (within limit (claims_after (texts old first.items) r)) answer
-  after-refused answer refuses some = after-is ∙ ap (claims_after (texts old first.items)) (refuses some)
-
   pub after-made : (new : List (List ℕ)) (own all : Vec Claim Global) → KeepsLabels old new → AreNumbered old first.items → all.items ≡ first.items ++ own.items
       → IsExpected (AreClaims new) (within (limit - n) r) own → IsExpected (AreClaims new) (within limit (claims_after (texts old first.items) r)) all
   after-made new own all kept numbered joined made = record {
@@ -128,26 +122,28 @@ module _ (limit n : ℕ) (old : List (List ℕ)) (first : Vec Claim Global) (r :
     };
   }
 
--- The claims of a debug file, and then those of the file.
-over-after : (limit : ℕ) (first : List LabelledClaim) (r : Result (List LabelledClaim) SourceAnswer) → limit < length first → within limit (claims_after first r) ≡ or_too_many r
+-- The claims of a debug file exceed the limit. A fault of the file itself comes first.
+abbrev pub or_too_many : Result (List LabelledClaim) SourceAnswer → Result (List LabelledClaim) SourceAnswer
+or_too_many (Ok claims) = Err TooManyClaims
+or_too_many (Err answer) = Err answer
+
+too-many : (b : Bool) (claims : List LabelledClaim) → Err TooManyClaims ≡ or_too_many (cond b (Err TooManyClaims) (Ok claims))
+too-many true claims = refl
+too-many false claims = refl
+
+over-after : (limit : ℕ) (first : List LabelledClaim) (own : Result (List LabelledClaim) SourceAnswer) → limit < length first → within limit (claims_after first own) ≡ or_too_many (within 0 own)
 over-after limit first (Ok others) lt =
-    ap (λ b. cond b (Err TooManyClaims) (Ok (first ++ others))) (over limit (length (first ++ others)) (omega (arith, length-append first others)))
+    exceeds limit (length (first ++ others)) TooManyClaims (first ++ others) (omega (arith, length-append first others))
+    ∙ too-many (nat_lt 0 (length others)) others
 over-after limit first (Err answer) lt = refl
 
-pub debug-many : (limit : ℕ) (r : Result (List LabelledClaim) BadFile) (own : Result (List LabelledClaim) SourceAnswer) (answer : SourceAnswer) → IsOkAnd r (λ made. limit < length made)
-    → Refuses (or_too_many own) answer → Refuses (within limit (followed_by (of_file 2 r) own)) answer
-debug-many limit (Ok first) own answer many refuses some = over-after limit first own many ∙ refuses some
-debug-many limit (Err bad) own answer many refuses some = absurd many
+pub debug-many : (limit : ℕ) (r : Result (List LabelledClaim) BadFile) (own : Result (List LabelledClaim) SourceAnswer) → IsOkAnd r (λ made. limit < length made)
+    → within limit (followed_by (of_file 2 r) own) ≡ or_too_many (within 0 own)
+debug-many limit (Ok first) own many = over-after limit first own many
+debug-many limit (Err bad) own many = absurd many
 
 pub debug-bad : (limit : ℕ) (r : Result (List LabelledClaim) BadFile) (own : Result (List LabelledClaim) SourceAnswer) (answer : ClaimAnswer) → answer ≢ answers.TooManyClaims
-    → ((bad : BadFile) → answer ≡ answers.Bad bad → r ≡ Err bad) → Refuses (within limit (followed_by (of_file 2 r) own)) (of_claims 2 answer)
+    → ((bad : BadFile) → answer ≡ answers.Bad bad → r ≡ Err bad) → of_claims 2 answer ≢ NoMemory → within limit (followed_by (of_file 2 r) own) ≡ Err (of_claims 2 answer)
 debug-bad limit r own (answers.Bad bad) few bads some = ap (λ s. within limit (followed_by (of_file 2 s) own)) (bads bad refl)
 debug-bad limit r own answers.TooManyClaims few bads some = absurd (few refl)
 debug-bad limit r own answers.NoMemory few bads some = absurd (some refl)
-
--- A data source of a plan has this built-in source and these rewrites.
-pub by-choice : (Q : Chosen → Type 0) (o : Option Chosen) (base : Source) (rewrites : List Rewrite) → IfSome o (λ chosen. chosen.base ≡ base) → IfSome o (λ chosen. chosen.rewrites ≡ rewrites)
-    → Q (record { base = base; rewrites = rewrites }) → IfSome o Q
-by-choice Q (Some chosen) base rewrites by with q =
-    let same : record { base = base; rewrites = rewrites } ≡ chosen = rw (← by, ← with) refl in subst Q same q
-by-choice Q None base rewrites by with q = tt

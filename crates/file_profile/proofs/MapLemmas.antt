@@ -5,6 +5,7 @@ use Rattle.std.specs.declared.alloc.Global.{Global}
 use Rattle.std.specs.List.{sum_by}
 use Rattle.std.proofs.lemmas.List.{length-append, length-map}
 use Rattle.std.proofs.lemmas.List.Elements.{All-push}
+use Rattle.std.proofs.lemmas.Slice.Zip.{all_zipped_more}
 use Rattle.std.proofs.lemmas.List.Sums.{sum_by-append, sum_by-cons}
 use Rattle.size_model.specs.declared.view.LabelledClaim.{LabelledClaim}
 use Rattle.size_model.specs.declared.view.SourceView.{SourceView}
@@ -14,16 +15,16 @@ use Rattle.claim_sheet.proofs.MadeLemmas.{kept-length}
 use Rattle.custom_rewrites.specs.Rewriting.{rewritten}
 use Rattle.dual_map.specs.Layout.{IsOver, LabelsBelow, Layout, Maps}
 use Rattle.rollup.specs.Adding.{piece_count}
-use Rattle.file_profile.specs.declared.answer.SourceAnswer.{SourceAnswer}
 use Rattle.file_profile.specs.declared.maps.Mapped.{Mapped}
 use Rattle.file_profile.specs.Claims.{OpenedFile, claims_within}
 use Rattle.file_profile.specs.Counts.{piece_bound, step_bound}
-use Rattle.file_profile.specs.Results.{IsExpected, Refuses}
+use Rattle.file_profile.specs.Results.{IsExpected}
 use Rattle.file_profile.specs.Sources.{Chosen}
-use Rattle.file_profile.specs.MapLabels.{AreMapped, IsMapped, file_at}
+use Rattle.file_profile.specs.MapLabels.{AreMapped, IsMapped, Spells, file_at}
 use Rattle.file_profile.specs.Views.{source_view, views_of}
-use Rattle.file_profile.proofs.SpellLemmas.{AllSpell-kept, AllSpell-more}
-use Rattle.file_profile.proofs.WalkLemmas.{IsRest, rest-more, rest-none, rest-refused, results-none}
+use Rattle.file_profile.proofs.NumberLemmas.{zip-weaker}
+use Rattle.file_profile.proofs.SpellLemmas.{Spells-kept}
+use Rattle.file_profile.proofs.WalkLemmas.{IsRest, rest-more, rest-none, results-none}
 
 -- `Err` is injective.
 pub err-same : {T E : Type 0} (x y : E) → ◌≡◌ {A = Result T E} (Err x) (Err y) → x ≡ y
@@ -80,7 +81,7 @@ module _ (i left limit : ℕ) (layout : Layout) (f : OpenedFile) (sources : List
           over = rw joined (All-push (IsOver layout) maps.items m.maps before.over.over is.over);
           below = rw joined (All-push (LabelsBelow (length new)) maps.items m.maps (λ k d lt. LabelsBelow-more (length old) (length new) _ le (before.over.below k d lt)) is.below);
         };
-        spell = rw joined (AllSpell-more layout new maps.items views m.maps (source_view chosen made) (AllSpell-kept layout old new maps.items views kept before.spell) is.spells);
+        spell = rw joined (all_zipped_more (Spells layout new) maps.items views m.maps (source_view chosen made) (zip-weaker _ _ maps.items views (λ p s. Spells-kept layout old new p s kept) before.spell) is.spells);
         pieces = rw joined (omega (arith, count-more maps.items m.maps, bound-more layout views chosen made, before.pieces, is.pieces));
         each = rw joined (omega (arith, before.each, length-append maps.items (m.maps ∷ [])));
       }
@@ -93,18 +94,11 @@ module _ (i left limit : ℕ) (layout : Layout) (f : OpenedFile) (sources : List
     mapped = mapped-next old new maps all m before.views is.made kept joined before.mapped is.shown;
   }
 
-  -- A data source with a fault, and one with too many claims.
-  pub mapped-refused : (pool : List (List ℕ)) (maps : Vec Maps Global) (answer : SourceAnswer) → AreMappedTo i left limit layout f sources pool maps → Refuses (claims_within left f chosen.base) answer
-      → Refuses (views_of limit f sources) answer
-  mapped-refused pool maps answer before refuses = rest-refused (λ (c : Chosen). c.base) source_view f limit left i sources before.views chosen answer before.rest at refuses
-
 -- All data sources are mapped.
-pub mapped-all : (i left limit : ℕ) (layout : Layout) (f : OpenedFile) (sources : List Chosen) (pool : List (List ℕ)) (maps : Vec Maps Global) → length sources ≤ i → i ≤ length sources
+pub mapped-all : (i left limit : ℕ) (layout : Layout) (f : OpenedFile) (sources : List Chosen) (pool : List (List ℕ)) (maps : Vec Maps Global) → i ≡ length sources
     → AreMappedTo i left limit layout f sources pool maps → IsExpected (AreMapped layout (length sources)) (views_of limit f sources) (record { maps = maps; pool = pool })
-mapped-all i left limit layout f sources pool maps end le to =
-    let same : i ≡ length sources = omega arith in
-    record {
-      made = to.views;
-      are = rest-none (λ (c : Chosen). c.base) source_view f limit left i sources to.views to.rest end;
-      shown = rw (← same) to.mapped;
-    }
+mapped-all i left limit layout f sources pool maps end to = record {
+  made = to.views;
+  are = rest-none (λ (c : Chosen). c.base) source_view f limit left i sources to.views to.rest (omega arith);
+  shown = rw (← end) to.mapped;
+}

@@ -1,15 +1,21 @@
 -- Labels that keep their numbers, and claims whose labels get new ones.
-use Rattle.std.proofs.Common.{◌≡◌, ℕ, ◌+◌, ◌<◌, ◌≤◌, suc, zero, List, [], ◌∷◌, ◌++◌, length, map, take, drop, get_or, Some, refl, sym, ap, ◌∙◌, subst, arith}
+use Rattle.std.proofs.Common.{◌≡◌, ℕ, ◌+◌, ◌<◌, suc, zero, List, [], ◌∷◌, ◌++◌, length, map, take, drop, get_or, Some, refl, sym, ap, ◌∙◌, arith}
 use Rattle.std.specs.Prelude.{slice_get, slice_set}
-use Rattle.std.proofs.lemmas.List.{get_or_append_left, length-append, length-map, take_all}
+use Rattle.std.specs.List.{AllZip}
+use Rattle.std.proofs.lemmas.List.{get_or_append_left, length-append, map-id, take_more}
+use Rattle.std.proofs.lemmas.List.Elements.{All-map}
 use Rattle.std.proofs.lemmas.Option.{get_or_from_slice_get, none-some, same_Some, slice_get_within, slice_get-get_or}
-use Rattle.size_model.proofs.Firsts.{map_more}
+use Rattle.std.proofs.lemmas.Slice.Zip.{AllZip-long, all_zipped_more}
 use Rattle.size_core.specs.declared.claim.Claim.{Claim}
+use Rattle.size_core.specs.declared.source.Source.{Source}
 use Rattle.size_model.specs.declared.view.LabelledClaim.{LabelledClaim}
-use Rattle.size_model.specs.Numbered.{text_of, labelled, numbered_view}
+use Rattle.size_model.specs.Numbered.{text_of, numbered_view}
 use Rattle.size_model.specs.Sizes.{relabelled, with_rewriting}
+use Rattle.data_sources.specs.Views.{unmapped}
 use Rattle.claim_sheet.specs.Made.{AreNumbered, KeepsLabels, texts}
-use Rattle.file_profile.specs.Numbering.{AreTexts, IsRenumbering, renumbered}
+use Rattle.file_profile.specs.Numbering.{IsRenumbering, renumbered}
+use Rattle.file_profile.specs.Sources.{built_in}
+use Rattle.file_profile.specs.Views.{source_view}
 
 -- A number keeps its text.
 pub kept-get : (old new : List (List ℕ)) (n : ℕ) (text : List ℕ) → KeepsLabels old new → slice_get old n ≡ Some text → slice_get new n ≡ Some text
@@ -19,98 +25,51 @@ kept-get old new n text kept at =
     let within : n < length (old ++ kept.more) = omega (arith, lt, length-append old kept.more) in
     rw kept.is (slice_get-get_or (old ++ kept.more) n [] within ∙ ap Some same)
 
-pub kept-text : (old new : List (List ℕ)) (n : ℕ) (text : List ℕ) → KeepsLabels old new → slice_get old n ≡ Some text → text_of new n ≡ text
-kept-text old new n text kept at = get_or_from_slice_get new n text [] (kept-get old new n text kept at)
-
-pub kept-within : (old new : List (List ℕ)) (n : ℕ) (text : List ℕ) → KeepsLabels old new → slice_get old n ≡ Some text → n < length new
-kept-within old new n text kept at = slice_get_within new n text (kept-get old new n text kept at)
-
--- The text of a number in a list of numbers.
-pub texts-at : (f : List ℕ → List ℕ) (pool : List (List ℕ)) (numbers : List ℕ) (labels : List (List ℕ)) (k : ℕ) (label : List ℕ) → AreTexts pool numbers (map f labels) → slice_get labels k ≡ Some label
-    → slice_get pool (get_or numbers k 0) ≡ Some (f label)
-texts-at f pool [] [] k label all at = absurd (none-some label at)
-texts-at f pool (n ∷ ns) (l ∷ ls) zero label all at = all.0 ∙ ap (λ t. Some (f t)) (same_Some l label at)
-texts-at f pool (n ∷ ns) (l ∷ ls) (suc k) label all at = texts-at f pool ns ls k label all.1 at
-texts-at f pool [] (l ∷ ls) k label all at = absurd all
-texts-at f pool (n ∷ ns) [] k label all at = absurd all
-
-texts-length : (pool : List (List ℕ)) (ns : List ℕ) (ls : List (List ℕ)) → AreTexts pool ns ls → length ns ≡ length ls
-texts-length pool [] [] all = refl
-texts-length pool (n ∷ ns) (l ∷ ls) all = omega (arith, texts-length pool ns ls all.1)
-texts-length pool [] (l ∷ ls) all = absurd all
-texts-length pool (n ∷ ns) [] all = absurd all
-
-texts-kept : (old new : List (List ℕ)) (ns : List ℕ) (ls : List (List ℕ)) → KeepsLabels old new → AreTexts old ns ls → AreTexts new ns ls
-texts-kept old new [] [] kept all = tt
-texts-kept old new (n ∷ ns) (l ∷ ls) kept all = (kept-get old new n l kept all.0, texts-kept old new ns ls kept all.1)
-texts-kept old new [] (l ∷ ls) kept all = absurd all
-texts-kept old new (n ∷ ns) [] kept all = absurd all
-
-texts-more : (pool : List (List ℕ)) (ns : List ℕ) (ls : List (List ℕ)) (n : ℕ) (l : List ℕ) → AreTexts pool ns ls → slice_get pool n ≡ Some l → AreTexts pool (ns ++ n ∷ []) (ls ++ l ∷ [])
-texts-more pool [] [] n l all at = (at, tt)
-texts-more pool (m ∷ ns) (k ∷ ls) n l all at = (all.0, texts-more pool ns ls n l all.1 at)
-texts-more pool [] (k ∷ ls) n l all at = absurd all
-texts-more pool (m ∷ ns) [] n l all at = absurd all
+-- A relation of the items of two lists follows from another.
+pub zip-weaker : {A B : Type 0} (R S : A → B → Type 0) (xs : List A) (ys : List B) → ((a : A) (b : B) → R a b → S a b) → AllZip R xs ys → AllZip S xs ys
+zip-weaker R S [] [] next all = tt
+zip-weaker R S (x ∷ xs) (y ∷ ys) next all = (next x y all.0, zip-weaker R S xs ys next all.1)
+zip-weaker R S _ _ next all = absurd all
 
 -- One more label has its new number.
 pub renumbered-more : (f : List ℕ → List ℕ) (old new labels : List (List ℕ)) (numbers : List ℕ) (k n : ℕ) (label : List ℕ) → KeepsLabels old new → slice_get labels k ≡ Some label
-    → slice_get new n ≡ Some (f label) → AreTexts old numbers (map f (take k labels)) → AreTexts new (numbers ++ n ∷ []) (map f (take (k + 1) labels))
+    → slice_get new n ≡ Some (f label) → IsRenumbering f (take k labels) old numbers → IsRenumbering f (take (k + 1) labels) new (numbers ++ n ∷ [])
 renumbered-more f old new labels numbers k n label kept at number all =
-    subst (AreTexts new (numbers ++ n ∷ [])) (map_more f labels k label at) (texts-more new numbers (map f (take k labels)) n (f label) (texts-kept old new numbers (map f (take k labels)) kept all) number)
-
-pub renumbered-whole : (f : List ℕ → List ℕ) (pool labels : List (List ℕ)) (numbers : List ℕ) (k : ℕ) → length labels ≤ k → AreTexts pool numbers (map f (take k labels)) → IsRenumbering f labels pool numbers
-renumbered-whole f pool labels numbers k le all =
-    let whole : AreTexts pool numbers (map f labels) = subst (λ ls. AreTexts pool numbers (map f ls)) (take_all k labels le) all in
-    record { count = texts-length pool numbers (map f labels) whole ∙ length-map labels f; texts = whole }
+    let lt : k < length labels = slice_get_within labels k label at in
+    let texts = all_zipped_more (λ m text. slice_get new m ≡ Some (f text)) numbers (take k labels) n label (zip-weaker _ _ numbers (take k labels) (λ m text e. kept-get old new m (f text) kept e) all.texts) number in
+    rw (take_more labels k label lt, get_or_from_slice_get labels k label label at) (record { count = sym (AllZip-long _ _ _ texts); texts = texts })
 
 -- The text of a new number is the rewritten label.
-renumbered-text : (rewritten : List ℕ → List ℕ) (labels pool : List (List ℕ)) (numbers : List ℕ) (k : ℕ) → IsRenumbering rewritten labels pool numbers → k < length labels
-    → text_of pool (get_or numbers k 0) ≡ rewritten (text_of labels k)
-renumbered-text rewritten labels pool numbers k is lt =
-    get_or_from_slice_get pool (get_or numbers k 0) _ [] (texts-at rewritten pool numbers labels k (text_of labels k) is.texts (slice_get-get_or labels k [] lt))
+renumbered-at : (f : List ℕ → List ℕ) (labels pool : List (List ℕ)) (numbers : List ℕ) (k : ℕ) → AllZip (λ n label. slice_get pool n ≡ Some (f label)) numbers labels → k < length labels
+    → slice_get pool (get_or numbers k 0) ≡ Some (f (text_of labels k))
+renumbered-at f (l ∷ ls) pool (n ∷ ns) zero is lt = is.0
+renumbered-at f (l ∷ ls) pool (n ∷ ns) (suc k) is lt = renumbered-at f ls pool ns k is.1 (omega arith)
+renumbered-at f (l ∷ ls) pool [] k is lt = absurd is
+renumbered-at f [] pool numbers k is lt = absurd (omega arith)
 
-renumbered-labelled : (rewritten : List ℕ → List ℕ) (labels pool : List (List ℕ)) (numbers : List ℕ) (c : Claim) → IsRenumbering rewritten labels pool numbers → c.label < length labels
-    → labelled pool (renumbered numbers c) ≡ relabelled rewritten (labelled labels c)
-renumbered-labelled rewritten labels pool numbers c is lt =
-    ap (λ (label : List ℕ). record { side = c.side; vm = c.vm; file = c.file; label = label }) (renumbered-text rewritten labels pool numbers c.label is lt)
+module _ (f : List ℕ → List ℕ) (labels pool : List (List ℕ)) (numbers : List ℕ) (is : IsRenumbering f labels pool numbers) where
+  renumbered-text : (k : ℕ) → k < length labels → text_of pool (get_or numbers k 0) ≡ f (text_of labels k)
+  renumbered-text k lt = get_or_from_slice_get pool (get_or numbers k 0) _ [] (renumbered-at f labels pool numbers k is.texts lt)
 
-renumbered-texts : (rewritten : List ℕ → List ℕ) (labels pool : List (List ℕ)) (numbers : List ℕ) (claims : List Claim) → IsRenumbering rewritten labels pool numbers → AreNumbered labels claims
-    → texts pool (map (renumbered numbers) claims) ≡ map (relabelled rewritten) (texts labels claims)
-renumbered-texts rewritten labels pool numbers [] is all = refl
-renumbered-texts rewritten labels pool numbers (c ∷ claims) is all =
-    rw (renumbered-labelled rewritten labels pool numbers c is (all 0 c (omega arith)), renumbered-texts rewritten labels pool numbers claims is (λ k d lt. all (suc k) d (omega arith))) refl
+  pub renumbered-within : (k : ℕ) → k < length labels → get_or numbers k 0 < length pool
+  renumbered-within k lt = slice_get_within pool (get_or numbers k 0) _ (renumbered-at f labels pool numbers k is.texts lt)
 
--- The data source with the new numbers is the data source with rewritten labels.
-pub renumbered-view : (rewritten : List ℕ → List ℕ) (labels pool : List (List ℕ)) (numbers : List ℕ) (claims : List Claim) (unmapped : ℕ)
-    → IsRenumbering rewritten labels pool numbers → AreNumbered labels claims → unmapped < length labels
-    → numbered_view pool (map (renumbered numbers) claims) (get_or numbers unmapped 0) ≡ with_rewriting rewritten (numbered_view labels claims unmapped)
-renumbered-view rewritten labels pool numbers claims unmapped is all lt =
-    rw (renumbered-texts rewritten labels pool numbers claims is all, renumbered-text rewritten labels pool numbers unmapped is lt) refl
+  renumbered-texts : (claims : List Claim) → AreNumbered labels claims → texts pool (map (renumbered numbers) claims) ≡ map (relabelled f) (texts labels claims)
+  renumbered-texts [] all = refl
+  renumbered-texts (c ∷ claims) all = rw (renumbered-text c.label (all 0 c (omega arith)), renumbered-texts claims (λ k d lt. all (suc k) d (omega arith))) refl
 
-pub renumbered-within : (rewritten : List ℕ → List ℕ) (labels pool : List (List ℕ)) (numbers : List ℕ) (k : ℕ) → IsRenumbering rewritten labels pool numbers → k < length labels → get_or numbers k 0 < length pool
-renumbered-within rewritten labels pool numbers k is lt =
-    slice_get_within pool (get_or numbers k 0) _ (texts-at rewritten pool numbers labels k (text_of labels k) is.texts (slice_get-get_or labels k [] lt))
+  -- The data source with the new numbers is the data source with rewritten labels.
+  pub renumbered-view : (claims : List Claim) (unmapped : ℕ) → AreNumbered labels claims → unmapped < length labels
+      → numbered_view pool (map (renumbered numbers) claims) (get_or numbers unmapped 0) ≡ with_rewriting f (numbered_view labels claims unmapped)
+  renumbered-view claims unmapped all lt = rw (renumbered-texts claims all, renumbered-text unmapped lt) refl
 
--- The new numbers are numbers of the pool.
-pub renumbered-all : (rewritten : List ℕ → List ℕ) (labels pool : List (List ℕ)) (numbers : List ℕ) (claims : List Claim) → IsRenumbering rewritten labels pool numbers → AreNumbered labels claims
-    → AreNumbered pool (map (renumbered numbers) claims)
-renumbered-all rewritten labels pool numbers [] is all k d lt = absurd (omega arith)
-renumbered-all rewritten labels pool numbers (c ∷ claims) is all zero d lt = renumbered-within rewritten labels pool numbers c.label is (all 0 c (omega arith))
-renumbered-all rewritten labels pool numbers (c ∷ claims) is all (suc k) d lt =
-    renumbered-all rewritten labels pool numbers claims is (λ j e less. all (suc j) e (omega arith)) k d (omega arith)
-
--- Rewriting by the identity changes no claim.
-relabelled-none : (claims : List LabelledClaim) → map (relabelled (λ label. label)) claims ≡ claims
-relabelled-none [] = refl
-relabelled-none (c ∷ claims) = ap (λ cs. c ∷ cs) (relabelled-none claims)
-
-pub plain-view : (pool : List (List ℕ)) (claims : List Claim) (unmapped : ℕ) (text : List ℕ) → text_of pool unmapped ≡ text
-    → numbered_view pool claims unmapped ≡ with_rewriting (λ label. label) (record { claims = texts pool claims; unmapped = text })
-plain-view pool claims unmapped text at = rw (relabelled-none (texts pool claims), at) refl
+  -- The new numbers are numbers of the pool.
+  pub renumbered-all : (claims : List Claim) → AreNumbered labels claims → AreNumbered pool (map (renumbered numbers) claims)
+  renumbered-all claims all = All-map (λ (c : Claim). c.label < length pool) (renumbered numbers) claims (λ k d lt. renumbered-within _ (all k d lt))
 
 -- A data source without rewrites keeps its claims.
-pub plain-made : (made : List LabelledClaim) (unmapped : List ℕ) → with_rewriting (λ label. label) (record { claims = made; unmapped = unmapped }) ≡ record { claims = made; unmapped = unmapped }
-plain-made made unmapped = rw (relabelled-none made) refl
+pub plain-view : (base : Source) (made : List LabelledClaim) → source_view (built_in base) made ≡ record { claims = made; unmapped = unmapped }
+plain-view base made = ap (λ (cs : List LabelledClaim). record { claims = cs; unmapped = unmapped }) (map-id made)
 
 -- An item inside a list doesn't depend on the default value.
 pub same-get : {X : Type 0} (xs : List X) (i : ℕ) (x d : X) → i < length xs → x ≡ get_or xs i x → get_or xs i d ≡ x

@@ -1,6 +1,6 @@
 -- The result for an opened file, step by step.
-use Rattle.std.proofs.Common.{◌≡◌, ℕ, ◌+◌, ◌-◌, ◌^◌, ◌<◌, ◌≤◌, Bool, true, false, cond, nat_lt, List, Result, Ok, Err, refl, sym, ap, ◌∙◌}
-use Rattle.std.specs.Prelude.{IsOk}
+use Rattle.std.proofs.Common.{◌≡◌, ℕ, ◌+◌, ◌-◌, ◌^◌, ◌<◌, ◌≤◌, nat_lt, List, Result, Ok, Err, refl, sym, ap, ◌∙◌}
+use Rattle.std.specs.Prelude.{IsOk, ◌≢◌}
 use Rattle.size_model.specs.declared.view.FileView.{FileView}
 use Rattle.size_model.specs.declared.view.SourceView.{SourceView}
 use Rattle.size_model.specs.Loads.{mapped_count}
@@ -15,18 +15,13 @@ use Rattle.rollup.specs.declared.answer.RollupAnswer.TheVariants as of_adding
 use Rattle.file_profile.specs.Added.{FitsIn}
 use Rattle.file_profile.specs.Claims.{OpenedFile}
 use Rattle.file_profile.specs.Answers.{of_data_source, of_rollup}
-use Rattle.file_profile.specs.Results.{Refuses}
 use Rattle.file_profile.specs.Sources.{Chosen}
 use Rattle.file_profile.specs.Views.{OpenedAnswers, as_view, opened_view, opened_viewed, view_within, views_of}
-use Rattle.file_profile.proofs.ClaimLemmas.{not-over, over}
+use Rattle.file_profile.proofs.ClaimLemmas.{choice-ok, exceeds, fits}
 
 ok-is : {X E : Type 0} (r : Result X E) (x : X) → r ≡ Ok x → IsOk r
 ok-is (Ok y) x e = refl
 ok-is (Err y) x e = cc
-
-view-choice : (b : Bool) (v f : FileView) → cond b (Err MappedTooLarge) (Ok v) ≡ Ok f → f ≡ v
-view-choice true v f e = cc
-view-choice false v f e = cc
 
 ok-same : {X E : Type 0} (x y : X) → ◌≡◌ {A = Result X E} (Ok x) (Ok y) → x ≡ y
 ok-same x y e = cc
@@ -37,13 +32,8 @@ module _ (mapped limit : ℕ) (f : OpenedFile) (sources : List Chosen) where
   viewed-as = refl
 
   -- A data source that has a fault or too many claims.
-  refused-as : (answer : SourceAnswer) → views_of limit f sources ≡ Err answer → opened_viewed mapped limit f sources ≡ Err (of_data_source answer)
-  refused-as answer e = viewed-as ∙ ap (λ v. view_within mapped (as_view f.binary v)) e
-
-  pub answers-refused : (answer : SourceAnswer) → Refuses (views_of limit f sources) answer → OpenedAnswers {X = FileView} (Err (of_data_source answer)) (opened_viewed mapped limit f sources)
-  answers-refused (of_source.Bad k bad) refuses = refused-as (of_source.Bad k bad) (refuses (λ e. cc))
-  answers-refused of_source.TooManyClaims refuses = refused-as of_source.TooManyClaims (refuses (λ e. cc))
-  answers-refused of_source.NoMemory refuses = tt
+  pub answers-refused : (answer : SourceAnswer) → (answer ≢ of_source.NoMemory → views_of limit f sources ≡ Err answer) → OpenedAnswers {X = FileView} (Err (of_data_source answer)) (opened_viewed mapped limit f sources)
+  answers-refused answer e some = viewed-as ∙ ap (λ v. view_within mapped (as_view f.binary v)) (e (λ none. some (ap of_data_source none)))
 
 -- If no data source has a fault or too many claims, the mapped size decides.
 module _ (mapped limit : ℕ) (f : OpenedFile) (sources : List Chosen) (views : List SourceView) (e : views_of limit f sources ≡ Ok views) where
@@ -51,23 +41,23 @@ module _ (mapped limit : ℕ) (f : OpenedFile) (sources : List Chosen) (views : 
   within = viewed-as mapped limit f sources ∙ ap (λ v. view_within mapped (as_view f.binary v)) e
 
   viewed-fits : mapped + mapped_count (loads_of f.binary) ≤ 2 ^ 63 - 1 → opened_viewed mapped limit f sources ≡ Ok (view_of f.binary views)
-  viewed-fits le = within ∙ ap (λ b. cond b (Err MappedTooLarge) (Ok (view_of f.binary views))) (not-over (2 ^ 63 - 1) (mapped + mapped_count (loads_of f.binary)) le)
+  viewed-fits le = within ∙ fits (2 ^ 63 - 1) (mapped + mapped_count (loads_of f.binary)) MappedTooLarge (view_of f.binary views) le
 
   viewed-large : 2 ^ 63 - 1 < mapped + mapped_count (loads_of f.binary) → opened_viewed mapped limit f sources ≡ Err MappedTooLarge
-  viewed-large lt = within ∙ ap (λ b. cond b (Err MappedTooLarge) (Ok (view_of f.binary views))) (over (2 ^ 63 - 1) (mapped + mapped_count (loads_of f.binary)) lt)
+  viewed-large lt = within ∙ exceeds (2 ^ 63 - 1) (mapped + mapped_count (loads_of f.binary)) MappedTooLarge (view_of f.binary views) lt
 
   -- The answer of adding the file to the rollup.
   pub answers-added : FitsIn (mapped + mapped_count (loads_of f.binary)) (Ok tt) → OpenedAnswers {X = FileView} (Ok tt) (opened_viewed mapped limit f sources)
   answers-added fits = ok-is (opened_viewed mapped limit f sources) (view_of f.binary views) (viewed-fits fits)
 
   pub answers-full : (answer : RollupAnswer) → FitsIn (mapped + mapped_count (loads_of f.binary)) (Err answer) → OpenedAnswers {X = FileView} (Err (of_rollup answer)) (opened_viewed mapped limit f sources)
-  answers-full of_adding.TooManyBytes fits = absurd fits
-  answers-full of_adding.MappedTooLarge fits = viewed-large fits
-  answers-full of_adding.NoMemory fits = tt
+  answers-full of_adding.TooManyBytes fits some = absurd fits
+  answers-full of_adding.MappedTooLarge fits some = viewed-large fits
+  answers-full of_adding.NoMemory fits some = absurd (some refl)
 
   -- The counted file is the file with the claims of its data sources.
   pub viewed-is : (v : FileView) → opened_viewed mapped limit f sources ≡ Ok v → v ≡ view_of f.binary views
-  viewed-is v at = view-choice (nat_lt (2 ^ 63 - 1) (mapped + mapped_count (loads_of f.binary))) (view_of f.binary views) v (sym within ∙ at)
+  viewed-is v at = sym (choice-ok (nat_lt (2 ^ 63 - 1) (mapped + mapped_count (loads_of f.binary))) MappedTooLarge (view_of f.binary views) v (sym within ∙ at)).1
 
   pub view-is : (v : FileView) → opened_view limit f sources ≡ Ok v → v ≡ view_of f.binary views
   view-is v at = ok-same v (view_of f.binary views) (sym at ∙ ap (as_view f.binary) e)

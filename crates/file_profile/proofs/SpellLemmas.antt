@@ -1,5 +1,5 @@
 -- The labels that the maps of numbered claims give each byte.
-use Rattle.std.proofs.Common.{◌≡◌, ◌<◌, ℕ, suc, Bool, true, false, cond, nat_lt, List, [], ◌∷◌, ◌++◌, map, length, Some, None, refl, ap, ◌∙◌, subst, arith}
+use Rattle.std.proofs.Common.{◌≡◌, ◌<◌, ℕ, suc, Bool, true, false, cond, nat_lt, List, [], ◌∷◌, map, length, Some, None, refl, ap, ◌∙◌, subst, arith}
 use Rattle.std.specs.Prelude.{All}
 use Rattle.std.proofs.lemmas.Bool.Decides.{nat_tests}
 use Rattle.std.proofs.lemmas.Option.{slice_get-get_or}
@@ -16,7 +16,7 @@ use Rattle.size_model.specs.Numbered.{labelled, numbered_view, text_of}
 use Rattle.size_model.specs.Sizes.{label_of_address, label_of_offset}
 use Rattle.claim_sheet.specs.Made.{AreNumbered, KeepsLabels}
 use Rattle.dual_map.specs.Layout.{Layout, Maps}
-use Rattle.file_profile.specs.MapLabels.{AllSpell, HasText, Spells, file_at}
+use Rattle.file_profile.specs.MapLabels.{HasText, Spells, file_at}
 use Rattle.file_profile.proofs.NumberLemmas.{kept-get}
 
 first-text : (covers : Side → Span → Span → Bool) (pool : List (List ℕ)) (unmapped : ℕ) (claims : List Claim)
@@ -69,22 +69,8 @@ Spells-cut layout pool claims unmapped m s same numbered lt file vm = subst (λ 
         )
 
 -- Labels added to the pool don't change the texts of maps.
-Spells-kept : (layout : Layout) (old new : List (List ℕ)) (m : Maps) (s : SourceView) → KeepsLabels old new → Spells layout old m s → Spells layout new m s
+pub Spells-kept : (layout : Layout) (old new : List (List ℕ)) (m : Maps) (s : SourceView) → KeepsLabels old new → Spells layout old m s → Spells layout new m s
 Spells-kept layout old new m s kept spells = record {
   file = λ o less. let t = spells.file o less in (t.0, t.1, kept-get old new t.0 _ kept t.2);
   vm = λ p mapped. let t = spells.vm p mapped in (t.0, t.1, kept-get old new t.0 _ kept t.2);
 }
-
-pub AllSpell-kept : (layout : Layout) (old new : List (List ℕ)) (ms : List Maps) (ss : List SourceView) → KeepsLabels old new → AllSpell layout old ms ss → AllSpell layout new ms ss
-AllSpell-kept layout old new [] [] kept all = tt
-AllSpell-kept layout old new (m ∷ ms) (s ∷ ss) kept all = (Spells-kept layout old new m s kept all.0, AllSpell-kept layout old new ms ss kept all.1)
-AllSpell-kept layout old new [] (s ∷ ss) kept all = absurd all
-AllSpell-kept layout old new (m ∷ ms) [] kept all = absurd all
-
--- One more pair of maps.
-pub AllSpell-more : (layout : Layout) (pool : List (List ℕ)) (ms : List Maps) (ss : List SourceView) (m : Maps) (s : SourceView) → AllSpell layout pool ms ss → Spells layout pool m s
-    → AllSpell layout pool (ms ++ m ∷ []) (ss ++ s ∷ [])
-AllSpell-more layout pool [] [] m s all spells = (spells, tt)
-AllSpell-more layout pool (n ∷ ms) (t ∷ ss) m s all spells = (all.0, AllSpell-more layout pool ms ss m s all.1 spells)
-AllSpell-more layout pool [] (t ∷ ss) m s all spells = absurd all
-AllSpell-more layout pool (n ∷ ms) [] m s all spells = absurd all

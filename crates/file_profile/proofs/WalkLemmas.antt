@@ -7,7 +7,6 @@ use Rattle.size_model.specs.declared.view.LabelledClaim.{LabelledClaim}
 use Rattle.size_model.proofs.Firsts.{drop-get, drop-end}
 use Rattle.file_profile.specs.declared.answer.SourceAnswer.{SourceAnswer}
 use Rattle.file_profile.specs.Claims.{OpenedFile, claims_within, result_after, result_before, results_of}
-use Rattle.file_profile.specs.Results.{Refuses}
 
 -- Earlier results before others.
 abbrev pub with_results : {X : Type 0} → List X → Result (List X) SourceAnswer → Result (List X) SourceAnswer
@@ -42,8 +41,8 @@ module _ {A X : Type 0} (base : A → Source) (show : A → List LabelledClaim �
       ∙ (results-more xs (show a made) (results_of base show (left - length made) f (drop (suc i) asked))
       ∙ ap (λ p. with_results (xs ++ show a made ∷ []) p) (rw (count, next) refl))
 
-  pub rest-refused : (a : A) (answer : SourceAnswer) → IsRest → slice_get asked i ≡ Some a → Refuses (claims_within left f (base a)) answer → Refuses (results_of base show limit f asked) answer
-  rest-refused a answer rest at refuses some = rest-at a (Err answer) rest at (refuses some)
+  pub rest-refused : (a : A) (answer : SourceAnswer) → IsRest → slice_get asked i ≡ Some a → claims_within left f (base a) ≡ Err answer → results_of base show limit f asked ≡ Err answer
+  rest-refused a answer rest at is = rest-at a (Err answer) rest at is
 
   pub rest-none : IsRest → length asked ≤ i → results_of base show limit f asked ≡ Ok xs
   rest-none rest end = rest ∙ (ap (λ s. with_results xs (results_of base show left f s)) (drop-end asked i end) ∙ ap Ok (append-nil xs))

@@ -60,11 +60,6 @@ abbrev pub within : ℕ → Result (List LabelledClaim) SourceAnswer → Result 
 within limit (Ok claims) = if nat_lt limit (length claims) then Err TooManyClaims else Ok claims
 within limit (Err answer) = Err answer
 
--- `TooManyClaims`, or the fault of these claims.
-abbrev pub or_too_many : Result (List LabelledClaim) SourceAnswer → Result (List LabelledClaim) SourceAnswer
-or_too_many (Ok claims) = Err TooManyClaims
-or_too_many (Err answer) = Err answer
-
 -- The claims of a data source on an opened file. Otherwise it is their first fault, or `TooManyClaims` if they exceed
 -- the limit.
 abbrev pub claims_within : ℕ → OpenedFile → Source → Result (List LabelledClaim) SourceAnswer

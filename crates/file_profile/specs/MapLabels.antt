@@ -1,5 +1,6 @@
 -- The labels that the maps of a file's data sources give its bytes.
-use Rattle.std.specs.Prelude.{◌≡◌, ℕ, ◌+◌, ◌<◌, ◌≤◌, ⊤, true, List, [], ◌∷◌, length, slice_get, Option, Some, All}
+use Rattle.std.specs.Prelude.{◌≡◌, ℕ, ◌+◌, ◌<◌, ◌≤◌, true, List, [], length, slice_get, Option, Some, All}
+use Rattle.std.specs.List.{AllZip}
 use Rattle.size_model.specs.declared.view.FileView.{FileView}
 use Rattle.size_model.specs.declared.view.LabelledClaim.{LabelledClaim}
 use Rattle.size_model.specs.declared.view.SourceView.{SourceView}
@@ -28,13 +29,6 @@ pub record Spells (layout : Layout) (pool : List (List ℕ)) (m : Maps) (s : Sou
   pub vm : (p : ℕ) → is_mapped layout.loads p ≡ true
       → HasText pool (label_in m.vm p) (label_of_address (file_at layout []) (space_of p) (address_of p) s)
 
--- The same for each pair of maps and its data source.
-abbrev pub AllSpell : Layout → List (List ℕ) → List Maps → List SourceView → Type 0
-AllSpell layout pool [] [] = ⊤
-AllSpell layout pool (m ∷ ms) (s ∷ ss) = Spells layout pool m s × AllSpell layout pool ms ss
-AllSpell layout pool [] (s ∷ ss) = ⊥
-AllSpell layout pool (m ∷ ms) [] = ⊥
-
 -- The maps of a data source with these claims, its labels rewritten.
 pub record IsMapped (layout : Layout) (chosen : Chosen) (pool : List (List ℕ)) (made : List LabelledClaim) (m : Mapped) : Type 0 where
   pub count : m.claims ≡ length made
@@ -51,6 +45,6 @@ pub record AreOver (layout : Layout) (m : FileMaps) : Type 0 where
 -- The maps of these data sources on a file.
 pub record AreMapped (layout : Layout) (count : ℕ) (views : List SourceView) (m : FileMaps) : Type 0 where
   pub over : AreOver layout m
-  pub spell : AllSpell layout m.pool m.maps.items views
+  pub spell : AllZip (Spells layout m.pool) m.maps.items views
   pub pieces : piece_count m.maps.items ≤ step_bound (file_at layout views)
   pub each : length m.maps.items ≡ count

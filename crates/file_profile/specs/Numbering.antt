@@ -1,5 +1,6 @@
 -- The claims of a data source on a file, if labels are numbers of a pool.
-use Rattle.std.specs.Prelude.{◌≡◌, ℕ, ◌<◌, ⊤, List, [], ◌∷◌, length, map, get_or, slice_get, Some, Vec}
+use Rattle.std.specs.Prelude.{◌≡◌, ℕ, ◌<◌, List, length, get_or, slice_get, Some, Vec}
+use Rattle.std.specs.List.{AllZip}
 use Rattle.std.specs.declared.alloc.Global.{Global}
 use Rattle.size_core.specs.declared.claim.Claim.{Claim}
 use Rattle.size_model.specs.declared.view.LabelledClaim.{LabelledClaim}
@@ -13,17 +14,10 @@ use Rattle.file_profile.specs.Views.{source_view}
 abbrev pub renumbered : List ℕ → Claim → Claim
 renumbered numbers c = record c { label = get_or numbers c.label 0 }
 
--- The texts that these numbers have in the pool are these labels.
-abbrev pub AreTexts : List (List ℕ) → List ℕ → List (List ℕ) → Type 0
-AreTexts pool [] [] = ⊤
-AreTexts pool (n ∷ ns) (l ∷ ls) = (slice_get pool n ≡ Some l) × AreTexts pool ns ls
-AreTexts pool [] (l ∷ ls) = ⊥
-AreTexts pool (n ∷ ns) [] = ⊥
-
 -- Each label of one pool has a number in another pool, and the text of that number is the rewritten label.
 pub record IsRenumbering (rewritten : List ℕ → List ℕ) (labels pool : List (List ℕ)) (numbers : List ℕ) : Type 0 where
   pub count : length numbers ≡ length labels
-  pub texts : AreTexts pool numbers (map rewritten labels)
+  pub texts : AllZip (λ n label. slice_get pool n ≡ Some (rewritten label)) numbers labels
 
 -- These claims, with labels that are numbers of the pool.
 pub record AreClaims (pool : List (List ℕ)) (made : List LabelledClaim) (v : Vec Claim Global) : Type 0 where

@@ -1,5 +1,5 @@
 -- What a call for the data sources of a file returns, compared with the expected result of its definition.
-use Rattle.std.specs.Prelude.{◌≡◌, ◌≢◌, ℕ, List, Result, Ok, Err}
+use Rattle.std.specs.Prelude.{◌≡◌, ◌≢◌, ℕ, List, Result, Ok, Err, IfOk, IsErrOf}
 use Rattle.size_model.specs.declared.view.LabelledClaim.{LabelledClaim}
 use Rattle.claim_sheet.specs.Made.{KeepsLabels}
 use Rattle.file_profile.specs.declared.answer.SourceAnswer.{SourceAnswer}
@@ -11,19 +11,15 @@ pub record IsExpected {X Y : Type 0} (Shows : Y → X → Type 0) (expected : Re
   pub are : expected ≡ Ok made
   pub shown : Shows made x
 
--- A returned error is the expected one, unless memory ran out.
-abbrev pub Refuses : {Y : Type 0} → Result Y SourceAnswer → SourceAnswer → Type 0
-Refuses expected answer = answer ≢ NoMemory → expected ≡ Err answer
-
 -- The result of a call is the expected one: a value that shows it, or the same error. The call may also run out of
 -- memory.
-abbrev pub Yields : {X Y : Type 0} → (Y → X → Type 0) → Result Y SourceAnswer → Result X SourceAnswer → Type 0
-Yields Shows expected (Ok x) = IsExpected Shows expected x
-Yields Shows expected (Err answer) = Refuses expected answer
+pub record Yields {X Y : Type 0} (Shows : Y → X → Type 0) (expected : Result Y SourceAnswer) (result : Result X SourceAnswer) : Type 0 where
+  pub made : IfOk result (λ x. IsExpected Shows expected x)
+  pub refused : (answer : SourceAnswer) → answer ≢ NoMemory → IsErrOf result answer → expected ≡ Err answer
 
 -- A call that makes the claims of a data source and adds their labels to a pool, `old` before and `new` after it. Its
 -- result is the expected one, which it shows with numbers of the pool. The labels that the pool had keep their numbers.
 pub record Makes {X : Type 0} (Shows : List (List ℕ) → List LabelledClaim → X → Type 0) (result : Result X SourceAnswer)
     (old new : List (List ℕ)) (expected : Result (List LabelledClaim) SourceAnswer) : Type 0 where
-  pub made : Yields (Shows new) expected result
+  pub yields : Yields (Shows new) expected result
   pub kept : KeepsLabels old new

@@ -1,5 +1,5 @@
 -- The content of a file that is counted, or why the file isn't counted.
-use Rattle.std.specs.Prelude.{◌≡◌, ℕ, ◌+◌, ◌-◌, ◌^◌, nat_lt, List, None, Result, Ok, Err, IsOk, if◌then◌else◌}
+use Rattle.std.specs.Prelude.{◌≡◌, ◌≢◌, ℕ, ◌+◌, ◌-◌, ◌^◌, nat_lt, List, None, Result, Ok, Err, IsOk, if◌then◌else◌}
 use Rattle.size_core.specs.declared.fault.BadFile.{BadFile}
 use Rattle.size_model.specs.declared.view.FileView.{FileView}
 use Rattle.size_model.specs.declared.view.LabelledClaim.{LabelledClaim}
@@ -77,7 +77,4 @@ Answers (Err MappedTooLarge) answer = answer ≡ Err MappedTooLarge
 -- The result of a call is this one, except that the call may run out of memory.
 abbrev pub OpenedAnswers : {X : Type 0} → Result (Unit {0}) OpenedAnswer → Result X OpenedAnswer → Type 0
 OpenedAnswers (Ok u) answer = IsOk answer
-OpenedAnswers (Err of_opened.NoMemory) answer = Unit {0}
-OpenedAnswers (Err (of_opened.Bad i bad)) answer = answer ≡ Err (of_opened.Bad i bad)
-OpenedAnswers (Err of_opened.TooManyClaims) answer = answer ≡ Err of_opened.TooManyClaims
-OpenedAnswers (Err of_opened.MappedTooLarge) answer = answer ≡ Err of_opened.MappedTooLarge
+OpenedAnswers (Err why) answer = why ≢ of_opened.NoMemory → answer ≡ Err why

@@ -76,6 +76,9 @@ pub enum SourceAnswer {
     NoMemory,
 }
 
+/// The result of a call that makes the claims of a data source.
+pub type Made<T> = Result<T, SourceAnswer>;
+
 impl From<NoMemory> for SourceAnswer {
     ghost use Rattle.file_profile.specs.declared.answer.SourceAnswer.TheVariants.{NoMemory as OutOfMemory};
 

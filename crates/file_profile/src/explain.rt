@@ -1,15 +1,16 @@
 //! The explanation of one location of a file by the data sources of a plan.
 
-ghost use Rattle.std.specs.Prelude.{◌≡◌, ◌<◌, ◌^◌, length, slice_get, IfOk, IfSome, IsTrue};
+ghost use Rattle.std.specs.Prelude.{◌≡◌, ◌<◌, ◌^◌, length, IfOk, IsTrue};
 ghost use Rattle.custom_rewrites.specs.Rewriting.{rewritten};
 ghost use Rattle.place_explain.specs.Explanation.{under_name};
+ghost use Rattle.file_profile.specs.Choices.{chosen_of};
 ghost use Rattle.file_profile.specs.Claims.{claims_within};
 ghost use Rattle.file_profile.specs.Explanations.{AreExplanations, Explains, IsExplained, explained_place, is_in, named_sources, opened_explained, sources_explained};
 ghost use Rattle.file_profile.specs.Results.{Yields};
 
-use crate::answer::{PlaceAnswer, SourceAnswer};
+use crate::answer::{Made, PlaceAnswer};
 use crate::claims::built_in_claims;
-use crate::plan::Plan;
+use crate::plan::{Plan, PlanSource};
 use crate::subject::Subject;
 use data_sources::open_binary;
 use place_explain::{
@@ -40,9 +41,9 @@ pub struct CountedExplanation {
 fn explain_built_in(
     request: &Request,
     base: Source,
-    subject: &Subject<'_, '_, '_>,
+    subject: &Subject,
     limit: u64,
-) -> Result<CountedExplanation, SourceAnswer>
+) -> Made<CountedExplanation>
     requires inside { IsTrue (is_in subject.now.binary request.now.place) }
     ensures { Yields (IsExplained request.now.place request.now.shown subject.now)
         (claims_within limit subject.now base) result }
@@ -60,13 +61,11 @@ fn explain_built_in(
     Ok(CountedExplanation { explained, claims })
 }
 
-// A label, rewritten by data source `i` of the plan.
-fn rewritten_label(alloc: Global, plan: &Plan, i: usize, label: Bytes) -> Result<Bytes, NoMemory>
-    requires { i < length plan.now.sources }
-    ensures { IfOk result (λ text. IfSome (slice_get plan.now.sources i)
-        (λ chosen. text ≡ rewritten label chosen.rewrites)) }
+// A label, rewritten by a data source.
+fn rewritten_label(alloc: Global, chosen: &PlanSource, label: Bytes) -> Result<Bytes, NoMemory>
+    ensures { IfOk result (λ text. text ≡ rewritten label (chosen_of chosen.now).rewrites) }
 {
-    match plan.rewrites(i) {
+    match chosen.rewrites {
         None => Ok(label),
         Some(rewrites) => {
             let mut text = Vec::new(alloc);
@@ -76,19 +75,17 @@ fn rewritten_label(alloc: Global, plan: &Plan, i: usize, label: Bytes) -> Result
     }
 }
 
-// The explanation of a location by data source `i` of the plan, under the data source's name in `-d`.
+// The explanation of a location by a data source, under the data source's name in `-d`.
 fn explain_under_name(
     alloc: Global,
-    plan: &Plan,
-    i: usize,
+    chosen: &PlanSource,
     name: &Text,
     explained: Explained,
 ) -> Result<PlaceSource, NoMemory>
-    requires { i < length plan.now.sources }
-    ensures { IfOk result (λ s. IfSome (slice_get plan.now.sources i)
-        (λ chosen. s ≡ under_name name.now (λ label. rewritten label chosen.rewrites) explained)) }
+    ensures { IfOk result (λ s. s
+        ≡ under_name name.now (λ label. rewritten label (chosen_of chosen.now).rewrites) explained) }
 {
-    let label = rewritten_label(alloc, plan, i, explained.label)?;
+    let label = rewritten_label(alloc, chosen, explained.label)?;
     let name = name.copy()?;
     Ok(PlaceSource {
         name,
@@ -104,9 +101,9 @@ fn explain_all(
     plan: &Plan,
     names: &Names,
     request: &Request,
-    subject: &Subject<'_, '_, '_>,
+    subject: &Subject,
     limit: u64,
-) -> Result<Vec<PlaceSource>, SourceAnswer>
+) -> Made<Vec<PlaceSource>>
     requires names { length names.now ≡ length plan.now.sources }
     requires inside { IsTrue (is_in subject.now.binary request.now.place) }
     ensures { Yields AreExplanations
@@ -119,19 +116,21 @@ fn explain_all(
     let mut all = Vec::new(alloc);
     let mut left = limit;
     for i in 0..plan.len() {
-        let made = explain_built_in(request, plan.base(i), subject, left)?;
+        let chosen = plan.source(i);
+        let made = explain_built_in(request, chosen.base, subject, left)?;
         left -= made.claims;
-        all.push(explain_under_name(alloc, plan, i, names.get(i), made.explained)?)?;
+        all.push(explain_under_name(alloc, &chosen, names.get(i), made.explained)?)?;
     }
     Ok(all)
 }
 
 // The explanation of a location of an opened file by the data sources of the plan, with these names.
+#[tactic(auto, unfolding(crate::specs::Explanations::opened_explained))]
 fn explain_opened(
     plan: &Plan,
     names: &Names,
     request: &Request,
-    subject: &Subject<'_, '_, '_>,
+    subject: &Subject,
     limit: u64,
 ) -> Result<Vec<PlaceSource>, PlaceAnswer>
     requires { length names.now ≡ length plan.now.sources }
@@ -164,6 +163,7 @@ fn explain_opened(
 /// - `MappedTooLarge`: the mapped size of the file exceeds 2^63 - 1.
 ///
 /// `NoMemory` may come at any step.
+#[tactic(auto, unfolding(crate::specs::Explanations::explained_place))]
 pub fn explain_place(
     alloc: Global,
     plan: &Plan,

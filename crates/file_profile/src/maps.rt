@@ -1,14 +1,15 @@
 //! The maps of the data sources of a plan over a file.
 
-ghost use Rattle.std.specs.Prelude.{◌≡◌, ◌<◌, IfSome, length, slice_get};
+ghost use Rattle.std.specs.Prelude.{◌≡◌, length};
+ghost use Rattle.file_profile.specs.Choices.{chosen_of};
 ghost use Rattle.file_profile.specs.Claims.{claims_within, layout_of};
 ghost use Rattle.file_profile.specs.Results.{Makes, Yields};
 ghost use Rattle.file_profile.specs.MapLabels.{AreMapped, IsMapped};
 ghost use Rattle.file_profile.specs.Views.{views_of};
 
-use crate::answer::SourceAnswer;
-use crate::claims::claims_by_number;
-use crate::plan::Plan;
+use crate::answer::Made;
+use crate::claims::claims_of_source;
+use crate::plan::{Plan, PlanSource};
 use crate::subject::Subject;
 use dual_map::DualMap;
 use size_core::LabelPool;
@@ -40,42 +41,31 @@ impl FileMaps {
     }
 }
 
-// The maps of data source `i` of the plan. Its claims are dropped here.
-fn map_source(
-    plan: &Plan,
-    i: usize,
-    subject: &Subject<'_, '_, '_>,
-    pool: &mut LabelPool,
-    limit: u64,
-) -> Result<Mapped, SourceAnswer>
-    requires { i < length plan.now.sources }
-    ensures { IfSome (slice_get plan.now.sources i)
-        (λ chosen. Makes (IsMapped (layout_of subject.now.binary) chosen) result pool.old pool.new
-        (claims_within limit subject.now chosen.base)) }
+// The maps of a data source. Its claims are dropped here.
+fn map_source(chosen: &PlanSource, file: &Subject, pool: &mut LabelPool, limit: u64) -> Made<Mapped>
+    ensures { Makes (IsMapped (layout_of file.now.binary) (chosen_of chosen.now)) result
+        pool.old pool.new (claims_within limit file.now chosen.now.base) }
 {
-    let made = claims_by_number(plan, i, subject, pool, limit)?;
-    let alloc = subject.alloc();
-    let base = subject.base();
-    let maps = DualMap::build(alloc, base, subject.len(), &made.claims, made.unmapped)?;
+    let made = claims_of_source(chosen, file, pool, limit)?;
+    let alloc = file.alloc();
+    let base = file.base();
+    let maps = DualMap::build(alloc, base, file.len(), &made.claims, made.unmapped)?;
     let claims = made.claims.len() as u64;
     Ok(Mapped { maps, claims })
 }
 
 /// The maps of the data sources of the plan over a file. The claims of a data source are dropped before those of the
 /// next are made. All claims together are at most `limit`.
-pub fn maps_of(
-    plan: &Plan,
-    subject: &Subject<'_, '_, '_>,
-    limit: u64,
-) -> Result<FileMaps, SourceAnswer>
-    ensures { Yields (AreMapped (layout_of subject.now.binary) (length plan.now.sources))
-        (views_of limit subject.now plan.now.sources) result }
+pub fn maps_of(plan: &Plan, file: &Subject, limit: u64) -> Made<FileMaps>
+    ensures { Yields (AreMapped (layout_of file.now.binary) (length plan.now.sources))
+        (views_of limit file.now plan.now.sources) result }
 {
-    let mut maps = Vec::new(subject.alloc());
-    let mut pool = LabelPool::new(subject.alloc());
+    let mut maps = Vec::new(file.alloc());
+    let mut pool = LabelPool::new(file.alloc());
     let mut left = limit;
     for i in 0..plan.len() {
-        let mapped = map_source(plan, i, subject, &mut pool, left)?;
+        let chosen = plan.source(i);
+        let mapped = map_source(&chosen, file, &mut pool, left)?;
         left -= mapped.claims;
         maps.push(mapped.maps)?;
     }

@@ -55,6 +55,7 @@ fn is_pair(binary: &Binary<'_>, debug: &Binary<'_>) -> bool
 }
 
 // Opens the file of this name and its debug file.
+#[tactic(auto, unfolding(crate::specs::PairViews::opened_pair))]
 fn open_pair<'n, 'a, 'd>(
     alloc: Global,
     name: &'n [u8],

@@ -1,8 +1,8 @@
 //! The plan of a run: its data sources and its filter.
 
-ghost use Rattle.std.specs.Prelude.{◌≡◌, ◌<◌, ◌≤◌, [], None, All, length, map, slice_get, IfSome};
+ghost use Rattle.std.specs.Prelude.{◌≡◌, ◌<◌, ◌≤◌, All, Some, length, map, slice_get};
 ghost use Rattle.std.specs.Option.{option_copied};
-ghost use Rattle.file_profile.specs.Choices.{IsChoice, chosen_in};
+ghost use Rattle.file_profile.specs.Choices.{IsChoice, chosen_in, chosen_of};
 
 use custom_rewrites::{LabelPattern, Rewrites};
 use size_core::Source;
@@ -45,6 +45,15 @@ pub struct Choice {
     pub base: Source,
     /// The index of its rewrites in the plan's list. `None` for a built-in data source.
     pub rewrites: Option<usize>,
+}
+
+/// A data source of a plan.
+#[derive(Clone, Copy)]
+pub struct PlanSource<'p> {
+    /// The built-in data source that makes its claims.
+    pub base: Source,
+    /// Its rewrites, if it is a custom one.
+    pub rewrites: Option<&'p Rewrites>,
 }
 
 /// What a run counts in each file. Contracts see the data sources, each with its rewrites, the rewrites of all custom
@@ -104,25 +113,21 @@ impl Plan {
         self.choices.len() as u32
     }
 
-    // The built-in source that makes the claims of data source `i`.
-    pub(crate) fn base(&self, i: usize) -> Source
+    // Data source `i`.
+    pub(crate) fn source(&self, i: usize) -> PlanSource<'_>
         requires { i < length self.now.sources }
-        ensures { IfSome (slice_get self.now.sources i) (λ chosen. chosen.base ≡ result) }
+        ensures { slice_get self.now.sources i ≡ Some (chosen_of result) }
     {
-        self.choices[i].base
-    }
-
-    // The rewrites of data source `i`, if it is a custom one.
-    pub(crate) fn rewrites(&self, i: usize) -> Option<&Rewrites>
-        requires { i < length self.now.sources }
-        ensures none { result ≡ None
-            → IfSome (slice_get self.now.sources i) (λ chosen. chosen.rewrites ≡ []) }
-        ensures some { IfSome result
-            (λ r. IfSome (slice_get self.now.sources i) (λ chosen. chosen.rewrites ≡ r.now)) }
-    {
+        let base = self.choices[i].base;
         match self.choices[i].rewrites {
-            None => None,
-            Some(k) => Some(&self.rewrites[k]),
+            None => PlanSource {
+                base,
+                rewrites: None,
+            },
+            Some(k) => PlanSource {
+                base,
+                rewrites: Some(&self.rewrites[k]),
+            },
         }
     }
 

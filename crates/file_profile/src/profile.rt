@@ -38,7 +38,7 @@ fn marks_of(alloc: Global, pattern: &LabelPattern, pool: &LabelPool) -> Result<V
 // Counts the bytes and addresses of the maps that pass the plan's filter.
 fn count_maps<L: Ledger>(
     plan: &Plan,
-    subject: &Subject<'_, '_, '_>,
+    subject: &Subject,
     maps: &FileMaps,
     total: &Rollup,
     steps: &mut Steps<L>,
@@ -62,7 +62,7 @@ fn count_maps<L: Ledger>(
 // spelled.
 fn add_maps<L: Ledger>(
     plan: &Plan,
-    subject: &Subject<'_, '_, '_>,
+    subject: &Subject,
     maps: FileMaps,
     total: &mut Rollup,
     steps: &mut Steps<L>,
@@ -94,9 +94,10 @@ fn add_maps<L: Ledger>(
 /// - `MappedTooLarge`: the mapped sizes of this file and of those in `total` exceed 2^63 - 1.
 ///
 /// `NoMemory` may come at any step. After an error `total` is as before.
+#[tactic(auto, unfolding(crate::specs::Views::opened_viewed))]
 pub fn profile_opened<L: Ledger>(
     plan: &Plan,
-    subject: &Subject<'_, '_, '_>,
+    subject: &Subject,
     total: &mut Rollup,
     limits: &Limits,
     steps: &mut Steps<L>,

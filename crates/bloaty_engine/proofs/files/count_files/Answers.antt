@@ -8,7 +8,7 @@ use Rattle.bloaty_engine.proofs.CostLemmas.{costs-more, costs-none, costs-one, c
 use Rattle.bloaty_engine.proofs.GivenLemmas.{given-all}
 use Rattle.bloaty_engine.proofs.FileLemmas.{all-counted, count-ends, counted-next, counted-none, extended, min-within, read-ends}
 use Rattle.bloaty_engine.specs.Verdict.{file_limit, total_limit}
-use Rattle.bloaty_engine.proofs.ReadLemmas.{take-none}
+use Rattle.run_plan.proofs.FirstLemmas.{take-none}
 use Rattle.bloaty_engine.proofs.StepLemmas.{batch-at, batch-file, front, front-all, front-rest, same-batch, same-ok, stops, then-ok, then-unread, unread-ok}
 use Rattle.bloaty_engine.proofs.TakenLemmas.{taken-more, taken-none}
 use Rattle.bloaty_engine.proofs.ResultLemmas.{ok-some}

@@ -13,9 +13,9 @@ returns-in_err-base g c =
     let base = c.in_err-base.ensures.batch in
     record { batch = rw (p.1, p.2) (batch-next g.F.Files c.args.run.now.limits batch _ _ (Err c.in_err-base.field-0.0) _ _ _ base refl base.ends); cost = c.count_files.ensures.cost }
 
-pub returns-in_err-growth_of : goal.returns-in_err-growth_of
-returns-in_err-growth_of g c =
-    let p = err_from_is_err_and c.from_residual-in_err-growth_of.result c.from_residual-in_err-growth_of.ensures.1 in
+pub returns-in_err-report_of_growth : goal.returns-in_err-report_of_growth
+returns-in_err-report_of_growth g c =
+    let p = err_from_is_err_and c.from_residual-in_err-report_of_growth.result c.from_residual-in_err-report_of_growth.ensures.1 in
     let batch = batch_of c.args.tally.now.files c.args.tally.now.bytes c.args.run.now.options.bases in
     record { batch = rw (p.1, p.2) (batch-next g.F.Files c.args.run.now.limits batch _ _ (Ok c.in_ok-base.base) (Err NoMemory) _ _ c.in_ok-base.ensures.batch (λ i late e. absurd e) tt); cost = c.count_files.ensures.cost }
 
@@ -24,6 +24,6 @@ returns g c =
     let batch = batch_of c.args.tally.now.files c.args.tally.now.bytes c.args.run.now.options.bases in
     let base = c.in_ok-base.ensures.batch in
     record {
-      batch = batch-next g.F.Files c.args.run.now.limits batch _ _ (Ok c.in_ok-base.base) (Ok c.in_ok-growth_of.field-0) _ _ base (λ i late e. absurd e) (c.in_ok-base.base, base.ends, c.in_ok-growth_of.ensures);
+      batch = batch-next g.F.Files c.args.run.now.limits batch _ _ (Ok c.in_ok-base.base) (Ok c.in_ok-report_of_growth.field-0) _ _ base (λ i late e. absurd e) (c.in_ok-base.base, base.ends, c.in_ok-report_of_growth.ensures);
       cost = c.count_files.ensures.cost;
     }

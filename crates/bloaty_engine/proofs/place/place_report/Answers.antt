@@ -41,9 +41,9 @@ returns-in_err-sources g c =
     rw (p.1, p.2)
     (alone-reported g.F.Files limits sources o alone _ (Ok c.in_ok-file.file) (Err end) _ _ file (explained-at limits o (files_to_read o) alone.one_file _ end c.in_err-sources.ensures) ends)
 
-pub returns-in_err-text_of : goal.returns-in_err-text_of
-returns-in_err-text_of g c =
-    let p = err_from_is_err_and c.from_residual-in_err-text_of.result c.from_residual-in_err-text_of.ensures.1 in
+pub returns-in_err-report_of_location : goal.returns-in_err-report_of_location
+returns-in_err-report_of_location g c =
+    let p = err_from_is_err_and c.from_residual-in_err-report_of_location.result c.from_residual-in_err-report_of_location.ensures.1 in
     let alone = c.requires.ready.limits.place _ c.requires.place in
     rw (p.1, p.2) (alone-reported g.F.Files c.args.run.now.limits c.args.plan.now.sources c.args.run.now.options alone _ (Ok c.in_ok-file.file) (Err NoMemory) _ _ c.in_ok-file.ensures (λ i late e. absurd e) tt)
 
@@ -54,6 +54,6 @@ returns g c =
     let o = c.args.run.now.options in
     let alone = c.requires.ready.limits.place _ c.requires.place in
     let file = c.in_ok-file.ensures in
-    let ends = place-found limits sources file.bytes o c.args.place.now c.requires.place file.ends.1 c.in_ok-sources.sources.items c.in_ok-text_of.field-0 (rw (c.deref.ensures.value, file.ends.0) at c.in_ok-sources.ensures)
-    (rw c.deref-2.ensures.value at c.in_ok-text_of.ensures) in
-    alone-reported g.F.Files limits sources o alone _ (Ok c.in_ok-file.file) (Ok c.in_ok-text_of.field-0) _ _ file (λ i late e. absurd e) ends
+    let ends = place-found limits sources file.bytes o c.args.place.now c.requires.place file.ends.1 c.in_ok-sources.sources.items c.in_ok-report_of_location.field-0 (rw (c.deref.ensures.value, file.ends.0) at c.in_ok-sources.ensures)
+    (rw c.deref-2.ensures.value at c.in_ok-report_of_location.ensures) in
+    alone-reported g.F.Files limits sources o alone _ (Ok c.in_ok-file.file) (Ok c.in_ok-report_of_location.field-0) _ _ file (λ i late e. absurd e) ends

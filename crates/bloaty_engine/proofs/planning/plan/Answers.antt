@@ -3,9 +3,9 @@ use Rattle.std.proofs.Common.{IfSome, IsOk, refl, ◌∙◌, rules}
 use Rattle.std.proofs.lemmas.Result.{err_from_is_err_and}
 use Rattle.custom_rewrites.specs.Pattern.{IsPattern}
 use Rattle.file_profile.specs.Sources.{chosen_sources}
-use Rattle.bloaty_engine.specs.PatternLists.{plan_patterns}
-use Rattle.bloaty_engine.proofs.BuildLemmas.{built-filter, built-none, built-rewrites, built-whole, if-known, plan-follows, plan-stops, plan-unbuilt}
-use Rattle.bloaty_engine.proofs.PlanLemmas.{cause-rewrites, patterns-read}
+use Rattle.run_plan.specs.PatternLists.{plan_patterns}
+use Rattle.run_plan.proofs.BuildLemmas.{built-filter, built-none, built-rewrites, built-whole, if-known, plan-follows, plan-stops, plan-unbuilt}
+use Rattle.run_plan.proofs.PlanLemmas.{cause-rewrites, patterns-read}
 use Rattle.bloaty_engine.proofs.planning.plan.Goals as goal
 
 pub returns-in_err-rewrites-clause-cause : goal.returns-in_err-rewrites-clause-cause

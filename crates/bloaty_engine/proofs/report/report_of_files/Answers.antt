@@ -63,23 +63,23 @@ returns-in_err-total g c =
       cost = c.total_of.ensures.cost;
     }
 
-pub returns-in_err-report_of : goal.returns-in_err-report_of
-returns-in_err-report_of g c =
-    let p = err_from_is_err_and c.from_residual-in_err-report_of.result c.from_residual-in_err-report_of.ensures.1 in
+pub returns-in_err-report_of_sizes : goal.returns-in_err-report_of_sizes
+returns-in_err-report_of_sizes g c =
+    let p = err_from_is_err_and c.from_residual-in_err-report_of_sizes.result c.from_residual-in_err-report_of_sizes.ensures.1 in
     let planned = c.requires.begins.ready.planned in
     record {
       inputs = rw (p.1, p.2) (sizes-reported g.F.Files c.args.run.now.limits c.args.plan.now c.args.run.now.options planned (Ok c.in_ok-total.total) (Err NoMemory) _ _ c.in_ok-total.ensures.files refl);
       cost = c.total_of.ensures.cost;
     }
 
-pub returns-then-len-eq0 : goal.returns-then-len-eq0
-returns-then-len-eq0 g c =
+pub returns-then-bases-eq0 : goal.returns-then-bases-eq0
+returns-then-bases-eq0 g c =
     let o = c.args.run.now.options in
     let planned = c.requires.begins.ready.planned in
-    let none : o.bases ≡ [] = no-names o.bases (sym c.len.ensures ∙ c.if-len-eq0.true) in
+    let none : o.bases ≡ [] = no-names o.bases (sym c.len-bases.ensures ∙ c.if-bases-eq0.true) in
     record {
-      inputs = sizes-reported g.F.Files c.args.run.now.limits c.args.plan.now o planned (Ok c.in_ok-total.total) (Ok c.in_ok-report_of.field-0) _ _ c.in_ok-total.ensures.files
-          (none, (rw (← c.total.view_is) c.total.invariant, c.in_ok-report_of.ensures));
+      inputs = sizes-reported g.F.Files c.args.run.now.limits c.args.plan.now o planned (Ok c.in_ok-total.total) (Ok c.in_ok-report_of_sizes.field-0) _ _ c.in_ok-total.ensures.files
+          (none, (rw (← c.total.view_is) c.total.invariant, c.in_ok-report_of_sizes.ensures));
       cost = c.total_of.ensures.cost;
     }
 
@@ -96,7 +96,7 @@ returns g c =
     let lengths : c.total_of.new.tally.bytes ≡ c.in_ok-total.total.lengths = omega (arith, tally.counts.1) in
     let b = rw (files, lengths) at c.growth_report.ensures.batch in
     let are = rw c.total_of.ensures.files.reads.held at b.are in
-    let some : 0 < length o.bases = omega (arith, c.len.ensures, c.if-len-eq0.false) in
+    let some : 0 < length o.bases = omega (arith, c.len-bases.ensures, c.if-bases-eq0.false) in
     let behind = rw files at c.growth_report.ensures.batch.reads in
     record {
       inputs = record {

@@ -8,19 +8,16 @@ use Rattle.dwarf_line_header.specs.UnitPrograms.{unit_program}
 use Rattle.dwarf_claims.proofs.ProgramLemmas.{program_again, program_known, program_read}
 use Rattle.dwarf_claims.proofs.last_program.add_program.Goals as goal
 
-pub returns-clause-adds : goal.returns-clause-adds
-returns-clause-adds c =
+pub returns : goal.returns
+returns c =
     let given : unit_program (shown_root c.args.root.now) ≡ Some c.in-Some.named = search rules in
     let known : IsProgramOf c.args.sections.now c.args.sheet.now (Some c.in-Some-last.known) = search rules in
     let shape : c.in-Some-last.known.shape ≡ (shown_root c.args.root.now).shape = search rules in
-    rw (program_known c.args.sections.now c.args.sheet.now (shown_root c.args.root.now) c.in-Some-last.known _ c.in-Some.named known given c.if-known-named.true shape) (c.add_again.ensures known.claims known.added)
-
-pub returns-clause-program : goal.returns-clause-program
-returns-clause-program c =
-    let known : IsProgramOf c.args.sections.now c.args.sheet.now (Some c.in-Some-last.known) = search rules in
-    on_ok_weaker c.add_again.result
-    (λ made. let same : c.add_again.new.sheet ≡ adding c.args.sheet.now known.claims = cc in program_again c.args.sections.now c.args.sheet.now c.add_again.new.sheet c.in-Some-last.known known same)
-    (c.add_again.ensures known.claims known.added).made
+    let again = c.add_again.ensures known.claims known.added in record {
+      adds = rw (program_known c.args.sections.now c.args.sheet.now (shown_root c.args.root.now) c.in-Some-last.known _ c.in-Some.named known given c.if-known-named.true shape) again;
+      program = on_ok_weaker c.add_again.result (λ made. let same : c.add_again.new.sheet ≡ adding c.args.sheet.now known.claims = cc in
+          program_again c.args.sections.now c.args.sheet.now c.add_again.new.sheet c.in-Some-last.known known same) again.made;
+    }
 
 pub returns-2-clause-program : goal.returns-2-clause-program
 returns-2-clause-program c =

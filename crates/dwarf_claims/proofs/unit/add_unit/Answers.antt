@@ -1,5 +1,5 @@
 -- The label that was read is known on the sheet if it was known before.
 use Rattle.dwarf_claims.proofs.unit.add_unit.Goals as goal
 
-pub add_parts-requires : goal.add_parts-requires
-add_parts-requires c = c.in_ok-label.ensures.known c.args.sheet.now.made c.requires.known
+pub add-requires : goal.add-requires
+add-requires c = c.read.ensures.known c.args.sheet.now.made c.requires.known

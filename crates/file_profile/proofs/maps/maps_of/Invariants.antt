@@ -3,4 +3,4 @@ use Rattle.file_profile.proofs.MapLemmas.{AreMappedTo}
 use Rattle.file_profile.proofs.maps.maps_of.Given as goal
 
 abbrev pub invariant-loop-i : goal.invariant-loop-i
-invariant-loop-i l = AreMappedTo l.i l.left l.limit (layout_of l.subject.binary) l.subject l.plan.sources l.pool l.maps
+invariant-loop-i l = AreMappedTo l.i l.left l.limit (layout_of l.file.binary) l.file l.plan.sources l.pool l.maps

@@ -4,30 +4,13 @@ use Rattle.std.proofs.lemmas.Result.{err_from_is_err_and}
 use Rattle.path_rows.specs.Sums.{file_where, vm_where}
 use Rattle.file_profile.specs.Claims.{layout_of}
 use Rattle.file_profile.proofs.CountLemmas.{file_count-is, vm_count-is}
-use Rattle.file_profile.proofs.EffectLemmas.{profiles-nothing}
-use Rattle.file_profile.proofs.ProfileLemmas.{answers-added, answers-full, answers-refused, view-is, view-said, viewed-is}
+use Rattle.file_profile.proofs.ProfileLemmas.{view-is, view-said, viewed-is}
 use Rattle.file_profile.proofs.profile.profile_opened.Goals as goal
-
-pub returns-in_err-maps-clause-answer : goal.returns-in_err-maps-clause-answer
-returns-in_err-maps-clause-answer g c =
-    let p = err_from_is_err_and c.from_residual.result c.from_residual.ensures.1 in
-    rw (p.1, p.2) (answers-refused c.args.total.now.mapped c.args.limits.now.claims c.args.subject.now c.args.plan.now.sources c.in_err-maps.field-0.0 c.in_err-maps.ensures)
-
-pub returns-in_err-maps-clause-effect : goal.returns-in_err-maps-clause-effect
-returns-in_err-maps-clause-effect g c =
-    let p = err_from_is_err_and c.from_residual.result c.from_residual.ensures.1 in
-    rw (p.1, p.2) (profiles-nothing _ _ _ _ _ _ _)
-
-pub returns-in_err-add_maps-clause-answer : goal.returns-in_err-add_maps-clause-answer
-returns-in_err-add_maps-clause-answer g c =
-    let p = err_from_is_err_and c.from_residual-in_err-add_maps.result c.from_residual-in_err-add_maps.ensures.1 in
-    let maps = c.in_ok-maps.ensures in
-    rw (p.1, p.2) (answers-full c.args.total.now.mapped c.args.limits.now.claims c.args.subject.now c.args.plan.now.sources maps.made maps.are c.in_err-add_maps.field-0.0 c.in_err-add_maps.ensures.answer)
 
 pub returns-in_err-add_maps-clause-effect : goal.returns-in_err-add_maps-clause-effect
 returns-in_err-add_maps-clause-effect g c =
     let p = err_from_is_err_and c.from_residual-in_err-add_maps.result c.from_residual-in_err-add_maps.ensures.1 in
-    let maps = c.in_ok-maps.ensures in
+    let maps = c.in_ok-maps.ensures.made in
     let added = c.in_err-add_maps.ensures.sizes in
     let mapped = c.args.total.now.mapped in
     let limit = c.args.limits.now.claims in
@@ -43,14 +26,9 @@ returns-in_err-add_maps-clause-effect g c =
       free = λ fault at. absurd (view-said mapped limit c.args.subject.now sources maps.made maps.are fault at);
     })
 
-pub returns-clause-answer : goal.returns-clause-answer
-returns-clause-answer g c =
-    let maps = c.in_ok-maps.ensures in
-    answers-added c.args.total.now.mapped c.args.limits.now.claims c.args.subject.now c.args.plan.now.sources maps.made maps.are c.in_ok-add_maps.ensures.answer
-
 pub returns-clause-effect : goal.returns-clause-effect
 returns-clause-effect g c =
-    let maps = c.in_ok-maps.ensures in
+    let maps = c.in_ok-maps.ensures.made in
     let added = c.in_ok-add_maps.ensures.sizes in
     let layout = layout_of c.args.subject.now.binary in
     let mapped = c.args.total.now.mapped in

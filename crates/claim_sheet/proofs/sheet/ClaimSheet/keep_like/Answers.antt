@@ -1,5 +1,5 @@
 -- The claim is pushed below the limit, with the label number of the other claim, and dropped at the limit.
-use Rattle.std.proofs.Common.{◌≡◌, ◌∙◌, ◌<◌, true, false, length, get_or, refl, sym, ap, arith, rules, [], ◌∷◌}
+use Rattle.std.proofs.Common.{◌≡◌, ◌∙◌, ◌<◌, true, length, get_or, refl, sym, ap, arith, rules, [], ◌∷◌}
 use Rattle.std.proofs.lemmas.List.{length-map}
 use Rattle.size_core.specs.declared.claim.Claim.{Claim}
 use Rattle.size_model.specs.Numbered.{labelled}
@@ -8,17 +8,8 @@ use Rattle.claim_sheet.specs.Reaches.{claim_of}
 use Rattle.claim_sheet.specs.Sheets.{Sheet, adding, is_taken}
 use Rattle.claim_sheet.proofs.KnownLemmas.{pushes_like}
 use Rattle.claim_sheet.proofs.MadeLemmas.{kept-none}
-use Rattle.claim_sheet.proofs.SheetLemmas.{adding-left, seen-kept, seen-past}
+use Rattle.claim_sheet.proofs.SheetLemmas.{seen-kept, seen-past}
 use Rattle.claim_sheet.proofs.sheet.ClaimSheet.keep_like.Goals as goal
-
-pub returns-then-not-is_taken-clause-adds : goal.returns-then-not-is_taken-clause-adds
-returns-then-not-is_taken-clause-adds c =
-    let left : is_taken c.self.inside.addresses_only c.args.reach.side ≡ false = sym c.if-not-is_taken.ensures in
-    record {
-      made = sym (adding-left c.args.self.now (claim_of c.args.reach (label_at c.args.self.now.made c.args.position))
-          (ap (λ (t : Sheet). is_taken t.addresses_only c.args.reach.side) (sym c.self.view_is) ∙ left));
-      kept = search rules;
-    }
 
 pub returns-then-self-len-clause-adds : goal.returns-then-self-len-clause-adds
 returns-then-self-len-clause-adds c =

@@ -1,12 +1,12 @@
 use Rattle.std.proofs.Common.{◌≡◌}
 use Rattle.claim_sheet.specs.Known.{claims_between}
 use Rattle.claim_sheet.specs.Sheets.{adding}
-use Rattle.claim_sheet.proofs.KnownLemmas.{Grows}
+use Rattle.claim_sheet.proofs.SheetLemmas.{Grown}
 use Rattle.claim_sheet.proofs.sheet.ClaimSheet.repeat.Given as goal
 
 abbrev pub invariant-loop-position : goal.invariant-loop-position
 invariant-loop-position l = record {
   rest : adding l.self (claims_between l.initial.self.made l.position l.end) ≡ adding l.initial.self (claims_between l.initial.self.made l.first l.end);
-  grows : Grows l.initial.self.made l.self.made;
+  grows : Grown l.initial.self l.self;
   kept : l.self.pool ≡ l.initial.self.pool;
 }

@@ -1,0 +1,4 @@
+pub mod PrintLemmas
+pub mod ReadBackLemmas
+pub mod ReportLemmas
+pub mod UserLemmas

@@ -1,0 +1,3 @@
+pub mod GrowthReport
+pub mod ReportLaws
+pub mod SizeReport
