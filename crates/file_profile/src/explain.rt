@@ -82,8 +82,8 @@ fn explain_under_name(
     name: &Text,
     explained: Explained,
 ) -> Result<PlaceSource, NoMemory>
-    ensures { IfOk result (λ s. s
-        ≡ under_name name.now (λ label. rewritten label (chosen_of chosen.now).rewrites) explained) }
+    ensures { let rewrites = (chosen_of chosen.now).rewrites in
+        IfOk result (λ s. s ≡ under_name name.now (λ label. rewritten label rewrites) explained) }
 {
     let label = rewritten_label(alloc, chosen, explained.label)?;
     let name = name.copy()?;
