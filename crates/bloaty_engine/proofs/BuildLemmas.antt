@@ -1,27 +1,35 @@
 -- Patterns that the steps of a run build, one step after the other.
-use Rattle.std.proofs.Common.{◌≡◌, ℕ, ◌<◌, true, List, ◌++◌, length, Result, Ok, Err, ◌⊎◌, inl, inr, refl, sym, ap, ◌∙◌, arith}
+use Rattle.std.proofs.Common.{◌≡◌, ℕ, Bool, true, nat_lt, arith, List, ◌++◌, length, Option, Result, Ok, Err, ◌⊎◌, inl, inr, refl, ap, ◌∙◌}
 use Rattle.std.specs.Prelude.{⊤}
-use Rattle.std.proofs.lemmas.List.{take_all}
+use Rattle.std.proofs.lemmas.Bool.Decides.{nat_tests}
 use Rattle.outside.specs.Held.{Pairs}
 use Rattle.config_text.specs.declared.config.CustomSource.{CustomSource}
 use Rattle.custom_rewrites.specs.declared.pattern.Patterns.{Ghosts as PatternsGhosts}
 use Rattle.file_profile.proofs.MapLemmas.{err-same}
+use Rattle.file_profile.specs.declared.plan.PlanAnswer.{PlanAnswer}
 use Rattle.file_profile.specs.declared.plan.PlanAnswer.TheVariants as plan
+use Rattle.file_profile.specs.Plans.{HasCause, IsPlan, Plans as Plan}
 use Rattle.file_profile.specs.Sources.{Chosen, chosen_sources}
 use Rattle.size_core.specs.declared.limits.Limits.{Limits}
 use Rattle.size_options.specs.declared.run_options.Options.{Options}
 use Rattle.size_options.specs.declared.errors.UsageKind.{UsageKind}
 use Rattle.run_outcome.specs.declared.outcome.Outcome.{Outcome}
-use Rattle.run_outcome.specs.declared.outcome.Outcome.TheVariants.{Done, UnknownSource, PatternSyntax, PatternTooBig, WriteFailed, NoMemory}
+use Rattle.run_outcome.specs.declared.outcome.Outcome.TheVariants.{Done, PatternSyntax, PatternTooBig, WriteFailed}
 use Rattle.run_plan.specs.PatternLists.{PatternList, if_chosen, plan_patterns, request_patterns}
 use Rattle.run_plan.specs.Planning.{Plans}
-use Rattle.run_plan.proofs.FirstLemmas.{adds-none}
+use Rattle.run_plan.proofs.FirstLemmas.{adds-all, adds-none}
 use Rattle.bloaty_engine.specs.Devices.{Builds, BuildsAsked, ended, patterns_given, run_patterns}
 use Rattle.bloaty_engine.specs.Given.{SeenFiles, config_given, config_pairs}
 use Rattle.bloaty_engine.specs.Named.{Contents, config_alone}
-use Rattle.bloaty_engine.specs.Stages.{Patterns, goes_past}
+use Rattle.bloaty_engine.specs.PlanSteps.{MakesPlan, end_of_plan}
+use Rattle.bloaty_engine.specs.Stages.{Sources, rank, stage_of}
+use Rattle.bloaty_engine.specs.Steps.{EndsPlan}
 use Rattle.bloaty_engine.specs.Verdict.{◌>>=◌, asked, customs_in, if_unknown}
 use Rattle.bloaty_engine.proofs.GivenLemmas.{customs-given}
+
+-- The run ended before its data sources are looked up.
+abbrev pub is_early : Outcome → Bool
+is_early end = nat_lt (rank (stage_of end)) (rank Sources)
 
 -- The patterns of a request are those of its plan.
 pub asked-patterns : (limits : Limits) (o : Options) (contents : Contents) (customs : List CustomSource) → customs_in limits o.config contents.config ≡ Ok customs
@@ -35,45 +43,52 @@ asked-patterns limits o contents customs e =
     by-names (Ok sources) = refl
     by-names (Err unknown) = refl
 
+-- The cause of an answer of planning is that of the outcome.
+ends-plan-of : (names : List (List ℕ)) (filter : Option (List ℕ)) (customs : List CustomSource) (before after : ℕ) (last : List ℕ) (e : PlanAnswer) → HasCause names filter customs before after last e
+    → EndsPlan names filter customs last (end_of_plan e)
+ends-plan-of names filter customs before after last (plan.UnknownSource i) cause = cause
+ends-plan-of names filter customs before after last (plan.PatternSyntax i) cause = cause
+ends-plan-of names filter customs before after last (plan.PatternTooBig i) cause = (cause.0, cause.1)
+ends-plan-of names filter customs before after last plan.NoMemory cause = tt
+
 module _ {P : Type 0} (p : PatternsGhosts P) where
   -- The effect of planning as that of a step of the run.
-  pub plan-made : {X Y : Type 0} (b : PatternList) (x : X) (y : Y) (s t : P) → Plans p b (Ok x) s t → Builds p b (Ok y) s t
-  plan-made b x y s t a = record {
-    built = (length b.patterns, record { within = omega arith; are = a.built ∙ ap (λ ps. p.built s ++ ps) (sym (take_all (length b.patterns) b.patterns (omega arith))) });
-    all = λ q. a.built;
-    bad = λ i e. cc;
-    refused = λ i e. cc;
-    sound = λ q. a.sound refl;
+  plan-ended : {X Y : Type 0} (names : List (List ℕ)) (filter : Option (List ℕ)) (customs : List CustomSource) (b : PatternList) (e : PlanAnswer) (s t : P)
+      → HasCause names filter customs (p.refused s) (p.refused t) (p.last_refused t) e → Plans {X = X} p b (Err e) s t → Builds {X = Y} p b (Err (end_of_plan e)) s t
+  plan-ended names filter customs b (plan.UnknownSource i) s t cause a =
+      record { built = (0, rw a.built (adds-none (p.built s) b.patterns)); all = λ q. cc; bad = λ j e. cc; refused = λ j e. cc; sound = λ q. a.sound refl }
+  plan-ended names filter customs b (plan.PatternSyntax i) s t cause a =
+      record { built = (b.upto i, a.built); all = λ q. cc; bad = λ j e. (let same : i ≡ j = cc in rw (← same) a.built); refused = λ j e. cc; sound = λ q. a.sound refl }
+  plan-ended names filter customs b (plan.PatternTooBig i) s t cause a =
+      record { built = (b.upto i, a.built.0); all = λ q. cc; bad = λ j e. cc; refused = λ j e. (let same : i ≡ j = cc in rw (← same) (a.built.0, a.built.1, cause.2)); sound = λ q. cc }
+  plan-ended names filter customs b plan.NoMemory s t cause a = record { built = a.built; all = λ q. cc; bad = λ j e. cc; refused = λ j e. cc; sound = λ q. a.sound refl }
+
+  pub step_planned : (o : Options) (customs : List CustomSource) (x : Plan) (s t : P) → IsPlan o.sources o.filter customs x → Plans p (plan_patterns o.sources o.filter customs) (Ok x) s t → MakesPlan p o customs (Ok x) s t
+  step_planned o customs x s t planned a =
+      let all = (plan_patterns o.sources o.filter customs).patterns in
+      record {
+        plan = planned;
+        ends = tt;
+        patterns = record { built = (length all, adds-all (p.built s) (p.built t) all a.built); all = λ q. a.built; bad = λ i e. cc; refused = λ i e. cc; sound = λ q. a.sound refl };
+      }
+
+  pub step_unplanned : {X : Type 0} (o : Options) (customs : List CustomSource) (e : PlanAnswer) (s t : P) → HasCause o.sources o.filter customs (p.refused s) (p.refused t) (p.last_refused t) e
+      → Plans {X = X} p (plan_patterns o.sources o.filter customs) (Err e) s t → MakesPlan p o customs (Err (end_of_plan e)) s t
+  step_unplanned o customs e s t cause a = record {
+    plan = tt;
+    ends = ends-plan-of o.sources o.filter customs (p.refused s) (p.refused t) (p.last_refused t) e cause;
+    patterns = plan-ended o.sources o.filter customs (plan_patterns o.sources o.filter customs) e s t cause a;
   }
 
-  pub plan-unknown : {X Y : Type 0} (b : PatternList) (i : ℕ) (s t : P) → Plans {X = X} p b (Err (plan.UnknownSource i)) s t → Builds {X = Y} p b (Err (UnknownSource i)) s t
-  plan-unknown b i s t a = record { built = (0, rw a.built (adds-none (p.built s) b.patterns)); all = λ q. cc; bad = λ j e. cc; refused = λ j e. cc; sound = λ q. a.sound refl }
-
-  pub plan-syntax : {X Y : Type 0} (b : PatternList) (i : ℕ) (s t : P) → Plans {X = X} p b (Err (plan.PatternSyntax i)) s t → Builds {X = Y} p b (Err (PatternSyntax i)) s t
-  plan-syntax b i s t a = record {
-    built = (b.upto i, a.built);
-    all = λ q. cc;
-    bad = λ j e. let same : i ≡ j = cc in rw (← same) a.built;
-    refused = λ j e. cc;
-    sound = λ q. a.sound refl;
+  -- A step that ends the run before any pattern is built.
+  pub unbuilt : {X : Type 0} (b : PatternList) (end : Outcome) (s : P) → is_early end ≡ true → Builds {X = X} p b (Err end) s s
+  unbuilt b end s early = record {
+    built = (0, adds-none (p.built s) b.patterns);
+    all = λ e. absurd (let wrong : ⊥ = grind (arith, nat_tests) in wrong);
+    bad = λ i is. absurd (let wrong = rw (err-same _ _ is) at early in cc wrong);
+    refused = λ i is. absurd (let wrong = rw (err-same _ _ is) at early in cc wrong);
+    sound = λ e. refl;
   }
-
-  pub plan-big : {X Y : Type 0} (b : PatternList) (i : ℕ) (s t : P) → p.refused s < p.refused t → Plans {X = X} p b (Err (plan.PatternTooBig i)) s t → Builds {X = Y} p b (Err (PatternTooBig i)) s t
-  plan-big b i s t rose a = record {
-    built = (b.upto i, a.built.0);
-    all = λ q. cc;
-    bad = λ j e. cc;
-    refused = λ j e. let same : i ≡ j = cc in rw (← same) (a.built.0, a.built.1, rose);
-    sound = λ q. cc;
-  }
-
-  pub plan-no-memory : {X Y : Type 0} (b : PatternList) (s t : P) → Plans {X = X} p b (Err plan.NoMemory) s t → Builds {X = Y} p b (Err NoMemory) s t
-  plan-no-memory b s t a = record { built = a.built; all = λ q. cc; bad = λ j e. cc; refused = λ j e. cc; sound = λ q. a.sound refl }
-
-  -- A step that builds none.
-  pub unbuilt : {X : Type 0} (b : PatternList) (r : Result X Outcome) (s : P) → (goes_past Patterns r ≡ true → ⊥) → ((i : ℕ) → r ≡ Err (PatternSyntax i) → ⊥) → ((i : ℕ) → r ≡ Err (PatternTooBig i) → ⊥) → Builds p b r s s
-  unbuilt b r s early good small =
-      record { built = (0, adds-none (p.built s) b.patterns); all = λ e. absurd (early e); bad = λ i e. absurd (good i e); refused = λ i e. absurd (small i e); sound = λ e. refl }
 
   -- A step that ends the run.
   pub build-stops : {X Y : Type 0} (b : PatternList) (e : Outcome) (s t : P) → Builds {X = X} p b (Err e) s t → Builds {X = Y} p b (Err e) s t
@@ -82,10 +97,6 @@ module _ {P : Type 0} (p : PatternsGhosts P) where
   -- A step that builds none, after one that succeeded.
   pub built : {X Y : Type 0} (b : PatternList) (x : X) (r : Result Y Outcome) (s t : P) → ((i : ℕ) → r ≡ Err (PatternSyntax i) → ⊥) → ((i : ℕ) → r ≡ Err (PatternTooBig i) → ⊥) → Builds p b (Ok x) s t → Builds p b r s t
   built b x r s t good small a = record { built = a.built; all = λ q. a.all refl; bad = λ i e. absurd (good i e); refused = λ i e. absurd (small i e); sound = λ e. a.sound refl }
-
-  -- A run that ended before it was done.
-  pub builds-ended : {X : Type 0} (b : PatternList) (e : Outcome) (s t : P) → ended e ≡ Err e → Builds {X = X} p b (Err e) s t → Builds p b (ended e) s t
-  builds-ended b e s t is a = rw is (build-stops b e s t a)
 
   -- A run that wrote its report, or a part of it.
   pub written-builds : {X : Type 0} (b : PatternList) (x : X) (outcome : Outcome) (s t : P) → (outcome ≡ Done) ⊎ (outcome ≡ WriteFailed) → Builds p b (Ok x) s t → Builds p b (ended outcome) s t

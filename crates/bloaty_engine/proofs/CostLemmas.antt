@@ -1,5 +1,5 @@
 -- The costs of steps, one step after the other.
-use Rattle.std.proofs.Common.{◌≡◌, ℕ, ◌+◌, ◌≤◌, List, [], ◌∷◌, ◌++◌, codes, None, Some, Result, Ok, Err, refl, sym, ap, ◌∙◌, append_assoc, arith}
+use Rattle.std.proofs.Common.{◌≡◌, ℕ, ◌+◌, ◌≤◌, List, [], ◌∷◌, ◌++◌, codes, Some, Result, Ok, Err, refl, sym, ap, ◌∙◌, append_assoc, arith}
 use Rattle.std.proofs.lemmas.List.{append-nil}
 use Rattle.size_core.specs.declared.limits.Limits.{Limits}
 use Rattle.size_model.specs.declared.view.FileView.{FileView}
@@ -10,7 +10,7 @@ use Rattle.size_options.specs.declared.run_options.Options.{Options}
 use Rattle.file_profile.specs.Counts.{step_bound}
 use Rattle.file_profile.specs.Sources.{Chosen, chosen_sources}
 use Rattle.run_outcome.specs.declared.outcome.Outcome.{Outcome}
-use Rattle.bloaty_engine.specs.Costs.{CostsAtMost, counting_cost, file_cost, files_cost, found_cost, made_cost, pair_cost, request_cost, run_cost, view_cost}
+use Rattle.bloaty_engine.specs.Costs.{CostsAtMost, counting_cost, file_cost, files_cost, found_cost, made_cost, request_cost, run_cost, view_cost}
 use Rattle.bloaty_engine.specs.Given.{Gives, asked_given, config_given, config_pairs, files_given}
 use Rattle.bloaty_engine.specs.Named.{config_alone}
 use Rattle.bloaty_engine.specs.Verdict.{customs_in}
@@ -64,10 +64,6 @@ module _ (limits : Limits) (sources : List Chosen) where
         let same : made_cost limits sources o.synth ≡ file_cost limits sources (codes "synth") (made n) = ap (made_cost limits sources) is in
         record { given = []; are = sym (append-nil before); most = omega (arith, most, same) }
 
-    -- The files were read.
-    pub costs-counted : (before after : Pairs) (old new : ℕ) → CostsAtMost (files_cost limits sources) before after old new → CostsAtMost (counting_cost limits sources o) before after old new
-    costs-counted before after old new c = costs-as (files_cost limits sources) (counting_cost limits sources o) before after old new (λ given. omega arith) c
-
     -- The files, and then the base files.
     pub costs-bases : (before middle after : Pairs) (old between new : ℕ) → CostsAtMost (counting_cost limits sources o) before middle old between → CostsAtMost (files_cost limits sources) middle after between new
         → CostsAtMost (counting_cost limits sources o) before after old new
@@ -77,29 +73,15 @@ module _ (limits : Limits) (sources : List Chosen) where
       most = omega (arith, a.most, b.most, files-add a.given b.given);
     }
 
-    -- What the options ask for.
-    pub costs-alone : (before after : Pairs) (old new : ℕ) → o.place ≡ None → o.debug ≡ None → CostsAtMost (counting_cost limits sources o) before after old new → CostsAtMost (found_cost limits sources o) before after old new
-    costs-alone before after old new no_place no_debug c =
-        costs-as (counting_cost limits sources o) (found_cost limits sources o) before after old new (λ given. rw (no_place, no_debug) (let le : counting_cost limits sources o given ≤ counting_cost limits sources o given = omega arith in le)) c
-
-    pub costs-pair : (debug : List ℕ) (before after : Pairs) (old new : ℕ) → o.place ≡ None → o.debug ≡ Some debug → CostsAtMost (pair_cost limits sources) before after old new → CostsAtMost (found_cost limits sources o) before after old new
-    costs-pair debug before after old new no_place is c =
-        costs-as (pair_cost limits sources) (found_cost limits sources o) before after old new (λ given. rw (no_place, is) (let le : pair_cost limits sources given ≤ pair_cost limits sources given = omega arith in le)) c
-
   -- The configuration, and then what it asks for.
   pub costs-run : (o : Options) (text : List ℕ) (customs : List CustomSource) (before middle after : Pairs) (old new : ℕ) → customs_in limits o.config text ≡ Ok customs → chosen_sources customs o.sources ≡ Ok sources
       → middle ≡ before ++ config_pairs o.config text → CostsAtMost (found_cost limits sources o) middle after old new → CostsAtMost (run_cost limits o) before after old new
   costs-run o text customs before middle after old new parsed chosen read c =
       let given = config_pairs o.config text ++ c.given in
-      let known : asked_given limits o given ≡ Ok (record { options = o; customs = customs; sources = sources }) = asked-is limits o (config_alone (config_given o.config given)) customs sources (customs-given limits o.config text c.given ∙ parsed) chosen in
+      let known : asked_given limits o given ≡ Ok (record { options = o; customs = customs; sources = sources }) = asked-is limits o (config_alone (config_given o.config given)) customs (Ok sources) (customs-given limits o.config text c.given ∙ parsed) chosen in
       let same : run_cost limits o given ≡ found_cost limits sources o c.given
       = ap (λ r. request_cost limits r (files_given o.config given)) known ∙ ap (λ files. found_cost limits sources o files) (files-given o.config text c.given) in
       record { given = given; are = c.are ∙ (ap (λ ps. ps ++ c.given) read ∙ append_assoc before (config_pairs o.config text) c.given); most = omega (arith, c.most, same) }
-
--- A file and its debug file were read and counted.
-pub costs-paired : (limits : Limits) (sources : List Chosen) (name file debug_name debug : List ℕ) (before after : Pairs) (old new : ℕ) → after ≡ before ++ (name, file) ∷ (debug_name, debug) ∷ [] → new ≤ old + pair_cost limits sources ((name, file) ∷ (debug_name, debug) ∷ [])
-    → CostsAtMost (pair_cost limits sources) before after old new
-costs-paired limits sources name file debug_name debug before after old new are most = record { given = (name, file) ∷ (debug_name, debug) ∷ []; are = are; most = most }
 
 -- A step that ends the run takes no steps.
 pub costs-ended : {X : Type 0} (cost : Pairs → ℕ) (r : Result X Outcome) (before after pairs : Pairs) (n : ℕ) → Gives r before after pairs → CostsAtMost cost before after n n

@@ -1,14 +1,14 @@
+pub mod BatchLemmas
 pub mod BuildLemmas
 pub mod CostLemmas
 pub mod EndLemmas
 pub mod FileLemmas
 pub mod GivenLemmas
 pub mod HeldLemmas
-pub mod KindLemmas
+pub mod InputLemmas
 pub mod LineLemmas
 pub mod LocationLemmas
 pub mod NextLemmas
-pub mod NumberLemmas
 pub mod PairLemmas
 pub mod PlaceLemmas
 pub mod ReadLemmas
@@ -17,3 +17,4 @@ pub mod RunLemmas
 pub mod SidesLemmas
 pub mod StepLemmas
 pub mod TakenLemmas
+pub mod TextLemmas

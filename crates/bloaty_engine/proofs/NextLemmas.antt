@@ -1,9 +1,8 @@
 -- Steps that read nothing, after a step that reads.
-use Rattle.std.proofs.Common.{◌≡◌, ℕ, List, [], ◌++◌, length, Result, Ok, Err, refl, sym}
+use Rattle.std.proofs.Common.{◌≡◌, ℕ, List, [], ◌++◌, length, Result, Ok, Err, refl, sym, ◌∙◌, arith}
 use Rattle.std.specs.Prelude.{OnOk, Vec}
 use Rattle.std.specs.declared.alloc.Global.{Global}
 use Rattle.std.proofs.lemmas.List.{append-nil}
-use Rattle.size_core.specs.declared.limits.Limits.{Limits}
 use Rattle.outside.specs.declared.files.Files.{Ghosts as FilesGhosts}
 use Rattle.outside.specs.Held.{Pairs}
 use Rattle.rollup.specs.Totals.{IsTotals, Totals}
@@ -11,14 +10,11 @@ use Rattle.size_options.specs.declared.run_options.Options.{Options}
 use Rattle.run_outcome.specs.declared.outcome.Outcome.{Outcome}
 use Rattle.run_outcome.specs.declared.outcome.Outcome.TheVariants.{NoMemory}
 use Rattle.bloaty_engine.specs.Devices.{EndsAt, Reads}
-use Rattle.bloaty_engine.specs.FileSteps.{ReadsBatch}
 use Rattle.bloaty_engine.specs.Given.{Gives}
 use Rattle.bloaty_engine.specs.Reading.{Reading}
 use Rattle.file_reports.specs.SizeReport.{PrintsSizes}
-use Rattle.bloaty_engine.specs.Steps.{Batch, batch_reading}
 use Rattle.bloaty_engine.proofs.GivenLemmas.{gives-as, gives-ended, gives-stops, gives-then}
-use Rattle.bloaty_engine.proofs.ReadLemmas.{OnOk-any}
-use Rattle.bloaty_engine.proofs.StepLemmas.{IsPart, IsWithin, part-most, same-all, stops, then-unread}
+use Rattle.bloaty_engine.proofs.StepLemmas.{IsPart, IsWithin, stops, then-ok, then-unread}
 
 -- How a step goes on after another one. If the other one ended the run, so does this one, with the same outcome. If this one ends
 -- it at a file, the other one has read it, and `At` holds of its number.
@@ -26,11 +22,15 @@ abbrev pub GoesOn : {X Y : Type 0} → (ℕ → Type 0) → Result X Outcome →
 GoesOn At (Err end) r = r ≡ Err end
 GoesOn At (Ok x) r = (i late : ℕ) → EndsAt i late r → (late ≡ 0) × At i
 
+pub goes-as : {X Y : Type 0} (a : Result X Outcome) (r : Result Y Outcome) (At To : ℕ → Type 0) → ((i : ℕ) → At i → To i) → GoesOn At a r → GoesOn To a r
+goes-as (Err end) r At To to next = next
+goes-as (Ok x) r At To to next = λ i late e. let n = next i late e in (n.0, to i n.1)
+
 -- The run has read what the other step read.
 pub reads-next : {F X Y : Type 0} (f : FilesGhosts F) (p q : Reading) (rest : List (List ℕ)) (a : Result X Outcome) (r : Result Y Outcome) (s t : F) → q.names ≡ p.names ++ rest → IsPart p q 0 0 0
     → GoesOn (λ i. IsWithin q (length p.names) i 0) a r → OnOk r (rest ≡ []) → Reads f p a s t → Reads f q r s t
 reads-next f p q rest (Err end) r s t names part next none reads = rw next (stops f p q rest end s t names part reads)
-reads-next f p q rest (Ok x) r s t names part next none reads = then-unread f p q rest x r s t names (part-most p q part) none next reads
+reads-next f p q rest (Ok x) r s t names part next none reads = then-unread f p q rest x r s t names (omega (arith, part.most)) none next reads
 
 pub gives-next : {X Y : Type 0} (At : ℕ → Type 0) (a : Result X Outcome) (r : Result Y Outcome) (before after front rest : Pairs) → GoesOn At a r → OnOk r (rest ≡ []) → Gives a before after front → Gives r before after (front ++ rest)
 gives-next At (Err end) r before after front rest next none gives = rw next (gives-stops end before after front rest gives)
@@ -40,18 +40,10 @@ pub gives-same : {X Y : Type 0} (At : ℕ → Type 0) (a : Result X Outcome) (r 
 gives-same At (Err end) r before after pairs next gives = rw next (gives-ended end before after pairs gives)
 gives-same At (Ok x) r before after pairs next gives = gives-as x r before after pairs gives
 
--- The other step read a batch of files.
-pub batch-next : {F X Y : Type 0} (f : FilesGhosts F) (limits : Limits) (b : Batch) (P : (ℕ → List ℕ) → Result X Outcome → Type 0) (Q : (ℕ → List ℕ) → Result Y Outcome → Type 0) (a : Result X Outcome) (r : Result Y Outcome) (s t : F)
-    → (batch : ReadsBatch f limits b P a s t) → GoesOn (λ i. IsWithin (batch_reading limits b) (length b.names) i 0) a r → Q batch.bytes r → ReadsBatch f limits b Q r s t
-batch-next f limits b P Q a r s t batch next ends =
-    let q = batch_reading limits b in
-    record {
-      bytes = batch.bytes;
-      are = batch.are;
-      ends = ends;
-      gives = gives-same _ a r _ _ _ next batch.gives;
-      reads = reads-next f q q [] a r s t (sym (append-nil q.names)) (same-all q) next (OnOk-any r _ refl) batch.reads;
-    }
+-- The same files as those of another reading.
+pub reads-as : {F X : Type 0} (f : FilesGhosts F) (p q : Reading) (r : Result X Outcome) (s t : F) → q.names ≡ p.names → IsPart p q 0 0 0 → Reads f p r s t → Reads f q r s t
+reads-as f p q (Ok x) s t names part reads = then-ok f p q [] x x s t (names ∙ sym (append-nil p.names)) (omega (arith, part.most)) refl reads
+reads-as f p q (Err end) s t names part reads = stops f p q [] end s t (names ∙ sym (append-nil p.names)) part reads
 
 -- A step that makes the text of what another step counted. It ends the run as that step did, or runs out of memory, or returns a
 -- text for which P holds.

@@ -1,9 +1,9 @@
 -- Names that are read one after the other.
-use Rattle.std.proofs.Common.{◌≡◌, ℕ, zero, suc, ◌+◌, ◌≤◌, List, [], ◌∷◌, ◌++◌, length, take, false, true, None, Some, Result, Ok, Err, refl, ap, ◌∙◌, arith}
+use Rattle.std.proofs.Common.{◌≡◌, ℕ, zero, suc, ◌+◌, List, [], ◌∷◌, ◌++◌, length, false, true, None, Some, Result, Ok, Err, ◌⊎◌, inl, inr, refl, ◌∙◌, arith}
 use Rattle.std.specs.Prelude.{IfOk, OnOk, slice_get}
 use Rattle.std.proofs.lemmas.Option.{none-some}
 use Rattle.size_options.specs.declared.run_options.Options.{Options}
-use Rattle.run_outcome.specs.Names.{debug_names, file_names, name_at, other_names}
+use Rattle.run_outcome.specs.Names.{file_names, name_at, other_names}
 use Rattle.run_outcome.specs.declared.outcome.Outcome.{Outcome}
 use Rattle.run_outcome.specs.declared.outcome.Outcome.TheVariants.{Done}
 use Rattle.bloaty_engine.specs.Answers.{is_end}
@@ -22,11 +22,15 @@ get-behind (n ∷ front) names k =
     let p : suc (length front) + k ≡ suc (length front + k) = omega arith in
     rw p (get-behind front names k)
 
-pub take-length : (names : List (List ℕ)) (k : ℕ) → k ≤ length names → length (take k names) ≡ k
-take-length [] zero le = refl
-take-length [] (suc k) le = absurd (omega arith)
-take-length (n ∷ names) zero le = refl
-take-length (n ∷ names) (suc k) le = omega (arith, take-length names k (omega arith))
+-- A name of two lists is one of the first, or of the second.
+pub get-append : (names rest : List (List ℕ)) (k : ℕ) (name : List ℕ) → slice_get (names ++ rest) k ≡ Some name → (slice_get names k ≡ Some name) ⊎ ((i : ℕ) × (k ≡ length names + i) × (slice_get rest i ≡ Some name))
+get-append [] rest k name at = inr (k, omega arith, at)
+get-append (n ∷ names) rest zero name at = inl at
+get-append (n ∷ names) rest (suc k) name at = by-tail (get-append names rest k name at)
+  where
+    by-tail : (slice_get names k ≡ Some name) ⊎ ((i : ℕ) × (k ≡ length names + i) × (slice_get rest i ≡ Some name)) → (slice_get names k ≡ Some name) ⊎ ((i : ℕ) × (suc k ≡ suc (length names) + i) × (slice_get rest i ≡ Some name))
+    by-tail (inl here) = inl here
+    by-tail (inr (i, place, here)) = inr (i, omega (arith, place), here)
 
 -- Without a synthetic file, the names are those of the arguments.
 pub none-name : (o : Options) (k : ℕ) (name : List ℕ) → o.synth ≡ None → slice_get o.files k ≡ Some name → name_at o (k + 1) ≡ Some name
@@ -34,12 +38,11 @@ none-name o k name e at =
     let p : k + 1 ≡ suc k = omega arith in
     rw (p, e) (get-front o.files (other_names o) k name at)
 
--- After them come those of the base files.
-pub base-name : (o : Options) (k : ℕ) (name : List ℕ) → o.debug ≡ None → slice_get o.bases k ≡ Some name → name_at o (length (file_names o) + k + 1) ≡ Some name
-base-name o k name none at =
+-- After them come those of the debug file or of the base files.
+pub other-name : (o : Options) (k : ℕ) (name : List ℕ) → slice_get (other_names o) k ≡ Some name → name_at o (length (file_names o) + k + 1) ≡ Some name
+other-name o k name at =
     let p : length (file_names o) + k + 1 ≡ suc (length (file_names o) + k) = omega arith in
-    let same : other_names o ≡ o.bases = ap (λ d. debug_names d ++ o.bases) none in
-    rw (p, same) (get-behind (file_names o) o.bases k ∙ at)
+    rw p (get-behind (file_names o) (other_names o) k ∙ at)
 
 -- A statement that holds for any result.
 pub OnOk-any : {T E : Type 0} (r : Result T E) (P : Type 0) → P → OnOk r P

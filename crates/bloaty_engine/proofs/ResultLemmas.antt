@@ -8,9 +8,6 @@ use Rattle.run_outcome.specs.declared.outcome.Outcome.{Outcome}
 use Rattle.run_outcome.specs.declared.outcome.Outcome.TheVariants.{TooLong}
 use Rattle.bloaty_engine.specs.Verdict.{◌>>=◌, file_limit, if_short, next_limit, total_limit}
 
-pub ok-same : {X E : Type 0} (x y : X) → ◌≡◌ {A = Result X E} (Ok x) (Ok y) → x ≡ y
-ok-same x y e = cc
-
 pub ok-is : {X E : Type 0} (r : Result X E) (x : X) → r ≡ Ok x → IsOk r
 ok-is (Ok y) x e = refl
 ok-is (Err y) x e = cc
@@ -23,10 +20,6 @@ ok-some (Err e) ok = cc
 pub then-some : {X Y : Type 0} (r : Result X Outcome) (next : X → Result Y Outcome) (z : Y) → (r >>= next) ≡ Ok z → (y : X) × (next y ≡ Ok z)
 then-some (Ok y) next z e = (y, e)
 then-some (Err x) next z e = let wrong : ⊥ = cc in absurd wrong
-
-pub then-error : {X Y : Type 0} (P : Outcome → Type 0) (r : Result X Outcome) (next : X → Result Y Outcome) (end : Outcome) → ((x : Outcome) → r ≡ Err x → P x) → ((y : X) → next y ≡ Err end → P end) → (r >>= next) ≡ Err end → P end
-then-error P (Ok y) next end first second e = second y e
-then-error P (Err x) next end first second e = rw (← err-same _ _ e) (first x refl)
 
 -- A file over a limit is too long. Any other file has the result of the next step.
 pub short-some : {X : Type 0} (b : Bool) (i : ℕ) (next : Result X Outcome) (z : X) → cond b (Err (TooLong i)) next ≡ Ok z → next ≡ Ok z

@@ -1,10 +1,9 @@
 -- Steps of a run one after the other. The run has read what its steps have read.
-use Rattle.std.proofs.Common.{◌≡◌, ℕ, zero, suc, ◌+◌, ◌-◌, ◌<◌, ◌≤◌, Bool, true, false, cond, nat_lt, List, [], ◌∷◌, ◌++◌, length, take, drop, Option, None, Some, Result, Ok, Err, ◌⊎◌, inl, inr, codes, refl, sym, ap, ◌∙◌, arith}
-use Rattle.std.specs.Prelude.{⊤, IfSome, OnOk, Vec, slice_get}
-use Rattle.std.specs.declared.alloc.Global.{Global}
+use Rattle.std.proofs.Common.{◌≡◌, ℕ, zero, suc, ◌+◌, ◌-◌, ◌<◌, ◌≤◌, Bool, true, false, cond, nat_lt, List, [], ◌∷◌, ◌++◌, length, Option, None, Some, Result, Ok, Err, ◌⊎◌, inl, inr, codes, refl, sym, ap, ◌∙◌, arith}
+use Rattle.std.specs.Prelude.{⊤, IfSome, OnOk, slice_get}
 use Rattle.std.proofs.lemmas.Bool.Decides.{nat_tests}
-use Rattle.std.proofs.lemmas.List.{append-nil, map-append, take-append-drop, take_all}
-use Rattle.std.proofs.lemmas.Option.{none-some, same_Some, slice_get_within}
+use Rattle.std.proofs.lemmas.List.{append-nil, map-append}
+use Rattle.std.proofs.lemmas.Option.{none-some, same_Some}
 use Rattle.outside.specs.declared.files.Files.{Ghosts as FilesGhosts}
 use Rattle.outside.specs.Causes.{Rose}
 use Rattle.outside.specs.Held.{IsTaken, IsTakenAtLeast, Pairs}
@@ -18,37 +17,32 @@ use Rattle.run_outcome.specs.Names.{file_names, name_at, names_of, other_names}
 use Rattle.run_plan.specs.Firsts.{AddsFirst}
 use Rattle.bloaty_engine.specs.Devices.{EndsAt, GaveFirst, Reads, ended, names_given}
 use Rattle.bloaty_engine.specs.Reading.{Reading, config_most, config_names, config_reading, file_reading, least_taken, made_len, numbered, read_upto, reading_for, run_reading, unmade_names}
-use Rattle.bloaty_engine.specs.Steps.{Batch, batch_of, batch_reading}
+use Rattle.bloaty_engine.specs.Steps.{batch_of, batch_reading}
 use Rattle.bloaty_engine.specs.Verdict.{config_limit, file_limit, next_limit, total_limit}
 use Rattle.bloaty_engine.specs.Stages.{ends_without, is_failed_read}
-use Rattle.run_plan.proofs.FirstLemmas.{adds-all, adds-as-many, adds-behind, adds-more, adds-none, adds-whole, take-next}
-use Rattle.bloaty_engine.proofs.ReadLemmas.{OnOk-any, OnOk-then, base-name, get-front, take-length}
+use Rattle.run_plan.proofs.FirstLemmas.{adds-all, adds-as-many, adds-behind, adds-more, adds-none, adds-whole}
+use Rattle.bloaty_engine.proofs.ReadLemmas.{OnOk-any, OnOk-then, get-behind, get-front, other-name}
 use Rattle.bloaty_engine.proofs.TakenLemmas.{at-least-any, at-least-behind, at-least-less, left-over, most-over, rose-later, some-limit, some-most}
 
 -- The files of a reading are files of another reading, after `before` names of the other. At least `taken` and at most
 -- `spent` bytes were read before them.
 pub record IsPart (p q : Reading) (before taken spent : ℕ) : Type 0 where
-  pub name_of : (i : ℕ) (name : List ℕ) → p.name_of i ≡ Some name → q.name_of i ≡ Some name
-  pub upto : (i : ℕ) (name : List ℕ) → p.name_of i ≡ Some name → q.upto i ≡ before + p.upto i
-  pub least : (i : ℕ) (name : List ℕ) → p.name_of i ≡ Some name → q.least i ≤ taken + p.least i
+  pub each : (i : ℕ) (name : List ℕ) → p.name_of i ≡ Some name → (q.name_of i ≡ Some name) × (q.upto i ≡ before + p.upto i) × (q.least i ≤ taken + p.least i)
   pub most : spent + p.most ≤ q.most
 
 pub same-all : (q : Reading) → IsPart q q 0 0 0
-same-all q = record { name_of = λ i name at. at; upto = λ i name at. omega arith; least = λ i name at. omega arith; most = omega arith }
-
-pub part-most : (p q : Reading) → IsPart p q 0 0 0 → p.most ≤ q.most
-part-most p q part = omega (arith, part.most)
+same-all q = record { each = λ i name at. (at, omega arith, omega arith); most = omega arith }
 
 -- The same for two readings of a run with these options.
 pub same-run : (limits : Limits) (o : Options) (names all : List (List ℕ)) → IsPart (reading_for limits o names) (reading_for limits o all) 0 0 0
-same-run limits o names all = record { name_of = λ i name at. at; upto = λ i name at. omega arith; least = λ i name at. omega arith; most = omega arith }
+same-run limits o names all = record { each = λ i name at. (at, omega arith, omega arith); most = omega arith }
 
 -- The configuration in a run, and the files after it.
 pub config-run : (limits : Limits) (o : Options) → IsPart (config_reading limits o) (run_reading limits (Ok o)) 0 0 0
-config-run limits o = record { name_of = λ i name at. at; upto = λ i name at. omega arith; least = λ i name at. omega arith; most = omega arith }
+config-run limits o = record { each = λ i name at. (at, omega arith, omega arith); most = omega arith }
 
 pub files-run : (limits : Limits) (o : Options) (names : List (List ℕ)) → IsPart (reading_for limits o names) (run_reading limits (Ok o)) (length (config_names o.config)) 0 (config_most limits o.config)
-files-run limits o names = record { name_of = λ i name at. at; upto = λ i name at. refl; least = λ i name at. omega arith; most = omega arith }
+files-run limits o names = record { each = λ i name at. (at, refl, omega arith); most = omega arith }
 
 pub numbered-first : (first k : ℕ) (names : List (List ℕ)) → numbered first names (first + k) ≡ slice_get names k
 numbered-first first k names =
@@ -78,23 +72,23 @@ long-number i j e = cc
 part-front : (p q : Reading) (rest : List (List ℕ)) (taken spent : ℕ) → q.names ≡ p.names ++ rest → IsPart p q 0 taken spent
     → (i : ℕ) (name : List ℕ) → p.name_of i ≡ Some name → (old new : List (List ℕ)) → AddsFirst (p.upto i) old new p.names → AddsFirst (q.upto i) old new q.names
 part-front p q rest taken spent names part i name at old new reads =
-    adds-as-many (p.upto i) (q.upto i) old new q.names (part.upto i name at ∙ (omega arith)) (rw names (adds-more (p.upto i) old new p.names rest reads))
+    adds-as-many (p.upto i) (q.upto i) old new q.names ((part.each i name at).1 ∙ (omega arith)) (rw names (adds-more (p.upto i) old new p.names rest reads))
 
 part-behind : (front : List (List ℕ)) (p q : Reading) (taken spent : ℕ) → q.names ≡ front ++ p.names → IsPart p q (length front) taken spent
     → (i : ℕ) (name : List ℕ) → p.name_of i ≡ Some name → (old mid new : List (List ℕ)) → mid ≡ old ++ front → AddsFirst (p.upto i) mid new p.names → AddsFirst (q.upto i) old new q.names
 part-behind front p q taken spent names part i name at old mid new are reads =
-    adds-as-many (length front + p.upto i) (q.upto i) old new q.names (part.upto i name at) (rw names (adds-behind old mid front p.names are (p.upto i) new reads))
+    adds-as-many (length front + p.upto i) (q.upto i) old new q.names ((part.each i name at).1) (rw names (adds-behind old mid front p.names are (p.upto i) new reads))
 
 -- The same of the names that returned their bytes.
 gave-front : (p q : Reading) (rest : List (List ℕ)) (taken spent : ℕ) → q.names ≡ p.names ++ rest → IsPart p q 0 taken spent
     → (i late : ℕ) (name : List ℕ) → p.name_of i ≡ Some name → (old new : Pairs) → GaveFirst (p.upto i - late) old new p.names → GaveFirst (q.upto i - late) old new q.names
 gave-front p q rest taken spent names part i late name at old new (n, le, gave) =
-    (n, omega (arith, le, part.upto i name at), rw names (adds-more n (names_given old) (names_given new) p.names rest gave))
+    (n, omega (arith, le, (part.each i name at).1), rw names (adds-more n (names_given old) (names_given new) p.names rest gave))
 
 gave-behind : (front : List (List ℕ)) (p q : Reading) (taken spent : ℕ) → q.names ≡ front ++ p.names → IsPart p q (length front) taken spent
     → (i late : ℕ) (name : List ℕ) → p.name_of i ≡ Some name → (old mid new : Pairs) → names_given mid ≡ names_given old ++ front → GaveFirst (p.upto i - late) mid new p.names → GaveFirst (q.upto i - late) old new q.names
 gave-behind front p q taken spent names part i late name at old mid new are (n, le, gave) =
-    (length front + n, omega (arith, le, part.upto i name at), rw names (adds-behind (names_given old) (names_given mid) front p.names are n (names_given new) gave))
+    (length front + n, omega (arith, le, (part.each i name at).1), rw names (adds-behind (names_given old) (names_given mid) front p.names are n (names_given new) gave))
 
 -- A step that ends the run at a file, after all files of a reading returned their bytes.
 abbrev pub IsWithin : Reading → ℕ → ℕ → ℕ → Type 0
@@ -124,27 +118,6 @@ module _ {F : Type 0} (f : FilesGhosts F) where
     most = omega arith;
   }
 
-  -- The same files as those of another reading.
-  pub reads-as : {X : Type 0} (p q : Reading) (r : Result X Outcome) (s t : F) → q.names ≡ p.names → IsPart p q 0 0 0 → Reads f p r s t → Reads f q r s t
-  reads-as p q r s t names part a = record {
-    held = a.held;
-    asked = rw names a.asked;
-    all = rw names a.all;
-    gave = rw names a.gave;
-    reached = λ i late e. let g = a.reached i late e in (g.0, part.name_of i g.0 g.1, gave-front p q [] 0 0 whole part i late g.0 g.1 _ _ g.2);
-    failed = λ i is. let g = a.failed i is in (g.0, part.name_of i g.0 g.1, part-front p q [] 0 0 whole part i g.0 g.1 _ _ g.2, g.3, g.4);
-    sound = a.sound;
-    later = a.later;
-    more = a.more;
-    long = λ i is.
-        let g = a.long i is in
-        (g.0, part.name_of i g.0 g.1, part-front p q [] 0 0 whole part i g.0 g.1 _ _ g.2, at-least-less (f.held s) (q.least i) (p.least i) (f.taken s) (f.taken t) (omega (arith, part.least i g.0 g.1)) g.3);
-    most = omega (arith, a.most, part.most);
-  }
-    where
-      whole : q.names ≡ p.names ++ []
-      whole = names ∙ sym (append-nil p.names)
-
   -- A step that ends the run.
   pub stops : {X Y : Type 0} (p q : Reading) (rest : List (List ℕ)) (e : Outcome) (s t : F) → q.names ≡ p.names ++ rest → IsPart p q 0 0 0
       → Reads {X = X} f p (Err e) s t → Reads {X = Y} f q (Err e) s t
@@ -153,14 +126,14 @@ module _ {F : Type 0} (f : FilesGhosts F) where
     asked = (a.asked.0, rw names (adds-more a.asked.0 (f.asked s) (f.asked t) p.names rest a.asked.1));
     all = tt;
     gave = tt;
-    reached = λ i late e'. let g = a.reached i late e' in (g.0, part.name_of i g.0 g.1, gave-front p q rest 0 0 names part i late g.0 g.1 _ _ g.2);
-    failed = λ i is. let g = a.failed i (ap Err (err-same _ _ is)) in (g.0, part.name_of i g.0 g.1, part-front p q rest 0 0 names part i g.0 g.1 _ _ g.2, g.3, g.4);
+    reached = λ i late e'. let g = a.reached i late e' in (g.0, (part.each i g.0 g.1).0, gave-front p q rest 0 0 names part i late g.0 g.1 _ _ g.2);
+    failed = λ i is. let g = a.failed i (ap Err (err-same _ _ is)) in (g.0, (part.each i g.0 g.1).0, part-front p q rest 0 0 names part i g.0 g.1 _ _ g.2, g.3, g.4);
     sound = a.sound;
     later = a.later;
     more = a.more;
     long = λ i is.
         let g = a.long i (ap Err (err-same _ _ is)) in
-        (g.0, part.name_of i g.0 g.1, part-front p q rest 0 0 names part i g.0 g.1 _ _ g.2, at-least-less (f.held s) (q.least i) (p.least i) (f.taken s) (f.taken t) (omega (arith, part.least i g.0 g.1)) g.3);
+        (g.0, (part.each i g.0 g.1).0, part-front p q rest 0 0 names part i g.0 g.1 _ _ g.2, at-least-less (f.held s) (q.least i) (p.least i) (f.taken s) (f.taken t) (omega (arith, (part.each i g.0 g.1).2)) g.3);
     most = omega (arith, a.most, part.most);
   }
 
@@ -172,10 +145,10 @@ module _ {F : Type 0} (f : FilesGhosts F) where
     asked = (length p1.names + b.asked.0, rw names (adds-behind (f.asked s) (f.asked t) p1.names p2.names a.all b.asked.0 (f.asked u) b.asked.1));
     all = rw names (OnOk-then r _ _ (adds-whole (f.asked s) (f.asked t) p1.names p2.names a.all (f.asked u)) b.all);
     gave = rw names (OnOk-then r _ _ (adds-whole (names_given (f.gave s)) (names_given (f.gave t)) p1.names p2.names a.gave (names_given (f.gave u))) b.gave);
-    reached = λ i late e. let g = b.reached i late e in (g.0, part.name_of i g.0 g.1, gave-behind p1.names p2 q taken spent names part i late g.0 g.1 _ _ _ a.gave g.2);
+    reached = λ i late e. let g = b.reached i late e in (g.0, (part.each i g.0 g.1).0, gave-behind p1.names p2 q taken spent names part i late g.0 g.1 _ _ _ a.gave g.2);
     failed = λ i e.
         let g = b.failed i e in
-        (g.0, part.name_of i g.0 g.1, part-behind p1.names p2 q taken spent names part i g.0 g.1 _ _ _ a.all g.2, rose-later 1 _ _ _ a.later g.3, g.4);
+        (g.0, (part.each i g.0 g.1).0, part-behind p1.names p2 q taken spent names part i g.0 g.1 _ _ _ a.all g.2, rose-later 1 _ _ _ a.later g.3, g.4);
     sound = λ e. b.sound e ∙ a.sound refl;
     later = omega (arith, a.later, b.later);
     more = omega (arith, a.more, b.more);
@@ -183,9 +156,9 @@ module _ {F : Type 0} (f : FilesGhosts F) where
         let g = b.long i e in
         let more = rw a.held at g.3 in (
           g.0,
-          part.name_of i g.0 g.1,
+          (part.each i g.0 g.1).0,
           part-behind p1.names p2 q taken spent names part i g.0 g.1 _ _ _ a.all g.2,
-          at-least-behind (f.held s) (q.least i) taken (p2.least i) (f.taken s) (f.taken t) (f.taken u) (part.least i g.0 g.1) had more,
+          at-least-behind (f.held s) (q.least i) taken (p2.least i) (f.taken s) (f.taken t) (f.taken u) ((part.each i g.0 g.1).2) had more,
         );
     most = omega (arith, within, b.most, part.most);
   }
@@ -211,19 +184,13 @@ module _ {F : Type 0} (f : FilesGhosts F) where
     reached = λ i late e.
         let b = at i late e in
         (b.1.0, b.1.1, (length p.names, omega (arith, b.1.2), rw names (gave-all p.names rest (f.gave s) (f.gave t) a.gave)));
-    failed = λ i e. absurd (failed-late r i e at);
+    failed = λ i e. absurd (omega (arith, (at i 1 (rw e (refl, refl))).0));
     sound = λ e. a.sound refl;
     later = a.later;
     more = a.more;
-    long = λ i e. absurd (long-late r i e at);
+    long = λ i e. absurd (omega (arith, (at i 1 (rw e (refl, refl))).0));
     most = omega (arith, a.most, most);
   }
-    where
-      failed-late : {Z : Type 0} {P : ℕ → ℕ → Type 0} (z : Result Z Outcome) (i : ℕ) → z ≡ Err (ReadFailed i) → ((i late : ℕ) → EndsAt i late z → (late ≡ 0) × P i late) → ⊥
-      failed-late z i e at = omega (arith, ((rw e at at) i 1 (refl, refl)).0)
-
-      long-late : {Z : Type 0} {P : ℕ → ℕ → Type 0} (z : Result Z Outcome) (i : ℕ) → z ≡ Err (TooLong i) → ((i late : ℕ) → EndsAt i late z → (late ≡ 0) × P i late) → ⊥
-      long-late z i e at = omega (arith, ((rw e at at) i 1 (refl, refl)).0)
 
   -- The same with another value.
   pub same-ok : {X Y : Type 0} (q : Reading) (x : X) (y : Y) (s t : F) → Reads f q (Ok x) s t → Reads f q (Ok y) s t
@@ -303,74 +270,36 @@ none-before (Some n) = refl
 -- The only file of the configuration.
 pub config-part : (limits : Limits) (o : Options) (name : List ℕ) (limit : ℕ) → o.config ≡ Some name → limit ≡ config_limit limits → IsPart (file_reading 0 name limit) (config_reading limits o) 0 0 0
 config-part limits o name limit is limited = record {
-  name_of = λ i n at. let one = single-at 0 i name n at in rw one.0 (is ∙ ap Some one.1);
-  upto = λ i n at. let one = single-at 0 i name n at in rw one.0 (omega (arith, ap (λ c. length (config_names c)) is, none-before o.synth));
-  least = λ i n at. let one = single-at 0 i name n at in rw one.0 (omega (arith, limited));
+  each = λ i n at.
+      let one = single-at 0 i name n at in
+      let upto : read_upto o.synth 0 ≡ 0 = none-before o.synth in
+      rw one.0 (is ∙ ap Some one.1, omega (arith, ap (λ c. length (config_names c)) is, upto), omega (arith, limited));
   most = omega (arith, ap (config_most limits) is, limited);
 }
 
--- A file of a batch, if this many bytes were read before it.
-pub batch-part : (limits : Limits) (b : Batch) (k before lengths limit taken : ℕ) (name : List ℕ) (names : List (List ℕ)) → before ≡ k → slice_get b.names k ≡ Some name → lengths ≡ b.before + taken → lengths ≤ total_limit limits
-    → limit ≡ next_limit limits lengths
-    → IsPart (file_reading (b.first + k) name limit)
-    (record { names = names; name_of = numbered b.first b.names; upto = λ i. i + 1 - b.first; least = λ i. next_limit limits b.before + 1; most = total_limit limits - b.before + 1 }) before taken taken
-batch-part limits b k before lengths limit taken name names count at are within is = record {
-  name_of = λ i n here. named i n (single-at (b.first + k) i name n here);
-  upto = λ i n here. let number = (single-at (b.first + k) i name n here).0 in omega (arith, number, count);
-  least = λ i n here. some-limit (file_limit limits) (total_limit limits) b.before taken lengths limit are within is;
-  most = some-most (file_limit limits) (total_limit limits) b.before taken lengths limit are within is;
-}
-  where
-    named : (i : ℕ) (n : List ℕ) → (i ≡ b.first + k) × (name ≡ n) → numbered b.first b.names i ≡ Some n
-    named i n one = rw one.0 (numbered-first b.first k b.names ∙ (at ∙ ap Some one.1))
-
--- The first k files of a batch.
-abbrev pub front : Limits → Batch → ℕ → Reading
-front limits b k = record {
-  names = take k b.names;
-  name_of = numbered b.first b.names;
-  upto = λ i. i + 1 - b.first;
-  least = λ i. next_limit limits b.before + 1;
-  most = total_limit limits - b.before + 1;
-}
-
--- The next file of a batch was read, after the first k files.
-pub batch-file : {F : Type 0} (f : FilesGhosts F) (limits : Limits) (b : Batch) (k lengths limit taken : ℕ) (name : List ℕ) (r : Result (Vec ℕ Global) Outcome) (s t u : F) → slice_get b.names k ≡ Some name → lengths ≡ b.before + taken → lengths ≤ total_limit limits
-    → limit ≡ next_limit limits lengths → Reads {X = ⊤} f (front limits b k) (Ok tt) s t → IsTaken (f.held s) taken (f.taken s) (f.taken t) → Reads f (file_reading (b.first + k) name limit) r t u → Reads f (front limits b (k + 1)) r s u
-batch-file f limits b k lengths limit taken name r s t u at are within is before had read =
-    let inside : k < length b.names = slice_get_within b.names k name at in
-    let part = batch-part limits b k (length (take k b.names)) lengths limit taken name (take (k + 1) b.names) (take-length b.names k (omega (arith, inside))) at are within is in
-    follows f (front limits b k) (file_reading (b.first + k) name limit) (front limits b (k + 1)) tt r taken s t u (take-next b.names k name at) part before had read
-
--- File k of a batch, after the first k + 1 files.
-pub batch-at : (limits : Limits) (b : Batch) (k i : ℕ) (name : List ℕ) → slice_get b.names k ≡ Some name → i ≡ b.first + k → IsWithin (batch_reading limits b) (length (take (k + 1) b.names)) i 0
-batch-at limits b k i name at is =
-    let inside : k < length b.names = slice_get_within b.names k name at in
-    (name, rw is (numbered-first b.first k b.names ∙ at), omega (arith, is, take-length b.names (k + 1) (omega (arith, inside))))
-
-pub same-batch : (limits : Limits) (b : Batch) (k : ℕ) → IsPart (front limits b k) (batch_reading limits b) 0 0 0
-same-batch limits b k = record { name_of = λ i name at. at; upto = λ i name at. omega arith; least = λ i name at. omega arith; most = omega arith }
-
-pub front-all : (names : List (List ℕ)) (k : ℕ) → length names ≤ k → names ≡ take k names ++ []
-front-all names k le = sym (append-nil (take k names) ∙ take_all k names le)
-
-pub front-rest : (names : List (List ℕ)) (k : ℕ) → names ≡ take k names ++ drop k names
-front-rest names k = sym (take-append-drop k names)
-
--- The first file of a run.
-pub first-part : (limits : Limits) (name : List ℕ) (names rest : List (List ℕ)) (limit : ℕ) → limit ≡ next_limit limits 0
-    → IsPart (file_reading 1 name limit) (batch_reading limits (batch_of 0 0 (name ∷ rest))) 0 0 0
-first-part limits name names rest limit is =
-    let part = batch-part limits (batch_of 0 0 (name ∷ rest)) 0 0 0 limit 0 name (name ∷ rest) refl refl (omega arith) (omega arith) is in
-    record { name_of = part.name_of; upto = part.upto; least = part.least; most = part.most }
+-- The only file of a batch.
+pub one-part : (limits : Limits) (count lengths limit : ℕ) (name : List ℕ) → lengths ≤ total_limit limits → limit ≡ next_limit limits lengths
+    → IsPart (file_reading (count + 1) name limit) (batch_reading limits (batch_of count lengths (name ∷ []))) 0 0 0
+one-part limits count lengths limit name within is = record { each = λ i n at. (at, omega arith, omega (arith, is)); most = omega (arith, is) }
 
 -- The files of a batch in a longer one.
 pub front-part : (limits : Limits) (first before : ℕ) (names rest : List (List ℕ))
     → IsPart (batch_reading limits (record { first = first; before = before; names = names })) (batch_reading limits (record { first = first; before = before; names = names ++ rest })) 0 0 0
-front-part limits first before names rest = record { name_of = λ i n at. named i n (numbered-at first i names n at); upto = λ i n at. omega arith; least = λ i n at. omega arith; most = omega arith }
+front-part limits first before names rest = record { each = λ i n at. (named i n (numbered-at first i names n at), omega arith, omega arith); most = omega arith }
   where
     named : (i : ℕ) (n : List ℕ) → (k : ℕ) × (i ≡ first + k) × (slice_get names k ≡ Some n) → numbered first (names ++ rest) i ≡ Some n
     named i n a = rw a.1 (numbered-first first a.0 (names ++ rest) ∙ get-front names rest a.0 n a.2)
+
+-- The files after it, if this many bytes were read before them.
+pub more-part : (limits : Limits) (count before lengths taken : ℕ) (names more : List (List ℕ)) → lengths ≡ before + taken → lengths ≤ total_limit limits
+    → IsPart (batch_reading limits (batch_of (count + length names) lengths more)) (batch_reading limits (batch_of count before (names ++ more))) (length names) taken taken
+more-part limits count before lengths taken names more are within = record {
+  each = λ i n at.
+      let a = numbered-at (count + length names + 1) i more n at in
+      let p : i ≡ count + 1 + (length names + a.0) = omega (arith, a.1) in
+      (rw p (numbered-first (count + 1) (length names + a.0) (names ++ more) ∙ (get-behind names more a.0 ∙ a.2)), omega (arith, a.1), some-limit (file_limit limits) (total_limit limits) before taken lengths (next_limit limits lengths) are within refl);
+  most = some-most (total_limit limits) before taken lengths are within;
+}
 
 least-file : (limits : Limits) (i : ℕ) → 0 < i → least_taken limits None i ≡ next_limit limits 0 + 1
 least-file limits zero lt = absurd (omega arith)
@@ -380,13 +309,11 @@ least-file limits (suc i) lt = refl
 pub files-part : (limits : Limits) (o : Options) (names all : List (List ℕ)) → o.synth ≡ None → ((k : ℕ) (n : List ℕ) → slice_get names k ≡ Some n → name_at o (k + 1) ≡ Some n)
     → IsPart (batch_reading limits (batch_of 0 0 names)) (reading_for limits o all) 0 0 0
 files-part limits o names all none named = record {
-  name_of = λ i n at. let a = numbered-at 1 i names n at in let p : i ≡ a.0 + 1 = omega (arith, a.1) in rw p (named a.0 n a.2);
-  upto = λ i n at. omega (arith, ap (λ s. read_upto s i) none);
-  least = λ i n at.
+  each = λ i n at.
       let a = numbered-at 1 i names n at in
-      let lt : 0 < i = omega (arith, a.1) in
-      let same : least_taken limits o.synth i ≡ next_limit limits 0 + 1 = ap (λ s. least_taken limits s i) none ∙ least-file limits i lt in
-      omega (arith, same);
+      let p : i ≡ a.0 + 1 = omega (arith, a.1) in
+      let least : least_taken limits o.synth i ≡ next_limit limits 0 + 1 = ap (λ s. least_taken limits s i) none ∙ least-file limits i (omega (arith, a.1)) in
+      (rw p (named a.0 n a.2), omega (arith, ap (λ s. read_upto s i) none), omega (arith, least));
   most = omega (arith, ap made_len none);
 }
 
@@ -408,7 +335,7 @@ made-unread f limits o n is r s unread_all at =
     upto : read_upto o.synth 1 ≡ 0
     upto = ap (λ t. read_upto t 1) is
 
--- Base files, after files with this many bytes.
+-- The debug file or base files, after files with this many bytes.
 base-least : (limits : Limits) (synth : Option ℕ) (files : List (List ℕ)) (lengths i : ℕ) → length (names_of synth files) < i → made_len synth ≤ lengths → lengths ≤ total_limit limits
     → least_taken limits synth i ≤ (lengths - made_len synth) + (next_limit limits lengths + 1)
 base-least limits None files lengths i lt made within = rw (least-file limits i (omega (arith, lt))) (left-over (file_limit limits) (total_limit limits) 0 lengths made within)
@@ -420,19 +347,13 @@ base-upto : (synth : Option ℕ) (files : List (List ℕ)) (i : ℕ) → length 
 base-upto None files i lt = omega (arith, lt)
 base-upto (Some n) files i lt = omega (arith, lt)
 
-pub base-part : (limits : Limits) (o : Options) (lengths : ℕ) (all : List (List ℕ)) → o.debug ≡ None → made_len o.synth ≤ lengths → lengths ≤ total_limit limits
-    → IsPart (batch_reading limits (batch_of (length (file_names o)) lengths o.bases)) (reading_for limits o all) (length (unmade_names o.synth o.files)) (lengths - made_len o.synth) (lengths - made_len o.synth)
-base-part limits o lengths all none made within = record {
-  name_of = λ i n at.
-      let a = numbered-at (length (file_names o) + 1) i o.bases n at in
+pub base-part : (limits : Limits) (o : Options) (lengths : ℕ) (all : List (List ℕ)) → made_len o.synth ≤ lengths → lengths ≤ total_limit limits
+    → IsPart (batch_reading limits (batch_of (length (file_names o)) lengths (other_names o))) (reading_for limits o all) (length (unmade_names o.synth o.files)) (lengths - made_len o.synth) (lengths - made_len o.synth)
+base-part limits o lengths all made within = record {
+  each = λ i n at.
+      let a = numbered-at (length (file_names o) + 1) i (other_names o) n at in
       let p : i ≡ length (file_names o) + a.0 + 1 = omega (arith, a.1) in
-      rw p (base-name o a.0 n none a.2);
-  upto = λ i n at.
-      let a = numbered-at (length (file_names o) + 1) i o.bases n at in
-      base-upto o.synth o.files i (omega (arith, a.1));
-  least = λ i n at.
-      let a = numbered-at (length (file_names o) + 1) i o.bases n at in
-      base-least limits o.synth o.files lengths i (omega (arith, a.1)) made within;
+      (rw p (other-name o a.0 n a.2), base-upto o.synth o.files i (omega (arith, a.1)), base-least limits o.synth o.files lengths i (omega (arith, a.1)) made within);
   most = most-over (total_limit limits) (made_len o.synth) lengths made within;
 }
 

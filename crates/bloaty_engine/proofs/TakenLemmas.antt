@@ -7,25 +7,16 @@ use Rattle.file_profile.specs.declared.answer.ProfileAnswer.TheVariants as profi
 use Rattle.bloaty_engine.specs.Devices.{IsEndAt}
 use Rattle.bloaty_engine.specs.Verdict.{end_at}
 
-rose-none : (before : ℕ) → RoseBy 0 before before
-rose-none before = grind arith
-
-rose-more : (m n before between now : ℕ) → RoseBy m before between → RoseBy n between now → RoseBy (m + n) before now
-rose-more m n before between now a b = grind arith
-
-rose-less : (m n before now : ℕ) → m ≤ n → RoseBy n before now → RoseBy m before now
-rose-less m n before now le rose = grind arith
-
 -- A count that rose since a later time rose since an earlier one.
 pub rose-later : (n before between now : ℕ) → before ≤ between → RoseBy n between now → RoseBy n before now
 rose-later n before between now le rose = grind arith
 
 pub taken-none : (held : Option Pairs) (before : ℕ) → IsTaken held 0 before before
-taken-none None before = record { least = rose-none before; most = omega arith }
+taken-none None before = record { least = grind arith; most = omega arith }
 taken-none (Some pairs) before = record { least = tt; most = omega arith }
 
 at-least-more : (held : Option Pairs) (m n before between now : ℕ) → IsTakenAtLeast held m before between → IsTakenAtLeast held n between now → IsTakenAtLeast held (m + n) before now
-at-least-more None m n before between now a b = rose-more m n before between now a b
+at-least-more None m n before between now a b = grind arith
 at-least-more (Some pairs) m n before between now a b = tt
 
 pub taken-more : (held : Option Pairs) (m n before between now : ℕ) → IsTaken held m before between → IsTaken held n between now → IsTaken held (m + n) before now
@@ -33,19 +24,16 @@ taken-more held m n before between now a b = record { least = at-least-more held
 
 -- A file was found too long after others were read.
 pub at-least-behind : (held : Option Pairs) (all m n before between now : ℕ) → all ≤ m + n → IsTakenAtLeast held m before between → IsTakenAtLeast held n between now → IsTakenAtLeast held all before now
-at-least-behind None all m n before between now le a b = rose-less all (m + n) before now le (rose-more m n before between now a b)
+at-least-behind None all m n before between now le a b = grind arith
 at-least-behind (Some pairs) all m n before between now le a b = tt
 
 pub at-least-less : (held : Option Pairs) (m n before now : ℕ) → m ≤ n → IsTakenAtLeast held n before now → IsTakenAtLeast held m before now
-at-least-less None m n before now le a = rose-less m n before now le a
+at-least-less None m n before now le a = grind arith
 at-least-less (Some pairs) m n before now le a = tt
 
 -- At least 0 bytes were read, which always holds.
 pub at-least-any : (held : Option Pairs) (before now : ℕ) → before ≤ now → IsTakenAtLeast held 0 before now
-at-least-any None before now le = rose-less-none before now le
-  where
-    rose-less-none : (before now : ℕ) → before ≤ now → RoseBy 0 before now
-    rose-less-none before now le = grind arith
+at-least-any None before now le = grind arith
 at-least-any (Some pairs) before now le = tt
 
 pub at-least-longer : (held : Option Pairs) (name : List ℕ) (limit before now : ℕ) → IsLonger held name limit before now → IsTakenAtLeast held (limit + 1) before now
@@ -59,8 +47,8 @@ pub some-limit : (file total before taken lengths limit : ℕ) → lengths ≡ b
 some-limit file total before taken lengths limit are within is = grind arith
 
 -- What is left for the files after some files.
-pub some-most : (file total before taken lengths limit : ℕ) → lengths ≡ before + taken → lengths ≤ total → limit ≡ min file (total - lengths) → taken + (limit + 1) ≤ total - before + 1
-some-most file total before taken lengths limit are within is = grind arith
+pub some-most : (total before taken lengths : ℕ) → lengths ≡ before + taken → lengths ≤ total → taken + (total - lengths + 1) ≤ total - before + 1
+some-most total before taken lengths are within = grind arith
 
 pub most-over : (total made lengths : ℕ) → made ≤ lengths → lengths ≤ total → (lengths - made) + (total - lengths + 1) ≤ total - made + 1
 most-over total made lengths le within = grind arith

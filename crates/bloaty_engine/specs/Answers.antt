@@ -18,7 +18,8 @@ use Rattle.bloaty_engine.specs.Named.{AreContents, Contents}
 use Rattle.run_outcome.specs.Names.{all_names}
 use Rattle.file_profile.specs.Laws.{IsOfFile}
 use Rattle.file_profile.specs.Patterns.{ArePatterns, StopsAt}
-use Rattle.bloaty_engine.specs.Reports.{IsReport, IsUnmade}
+use Rattle.bloaty_engine.specs.Reports.{IsReport}
+use Rattle.bloaty_engine.specs.Reading.{IsUnmade}
 use Rattle.bloaty_engine.specs.Stages.{Patterns, is_past}
 use Rattle.bloaty_engine.specs.Verdict.{Counted, Explained, Finding, Found, IsReadAt, Request, asked, verdict}
 

@@ -1,9 +1,8 @@
--- The effects of the steps of a run that read and count files.
-use Rattle.std.specs.Prelude.{◌≡◌, ℕ, ◌+◌, ◌-◌, ◌^◌, ◌≤◌, Bool, Option, List, [], ◌∷◌, ◌++◌, codes, length, Result, Ok, Err, Vec, IfOk, OnOk, IsErrOf}
-use Rattle.std.specs.declared.alloc.Global.{Global}
+-- The effects of the steps of a run that count files.
+use Rattle.std.specs.Prelude.{◌≡◌, ℕ, ◌+◌, ◌-◌, ◌^◌, ◌≤◌, List, [], ◌∷◌, ◌++◌, codes, length, Result, Ok, IfOk, OnOk, IsErrOf}
 use Rattle.size_core.specs.declared.limits.Limits.{Limits}
 use Rattle.outside.specs.declared.files.Files.{Ghosts as FilesGhosts}
-use Rattle.outside.specs.Held.{IsHeld, IsTaken}
+use Rattle.outside.specs.Held.{IsTaken}
 use Rattle.rollup.specs.Totals.{Totals}
 use Rattle.size_model.specs.declared.view.FileView.{FileView}
 use Rattle.elf_synth.specs.Made.{made}
@@ -16,64 +15,13 @@ use Rattle.run_outcome.specs.declared.outcome.Outcome.{Outcome}
 use Rattle.run_outcome.specs.declared.outcome.Outcome.TheVariants.{ReadFailed}
 use Rattle.bloaty_engine.specs.declared.files.Tally.{Tally}
 use Rattle.bloaty_engine.specs.Costs.{CostsAtMost, counting_cost, file_cost, files_cost}
-use Rattle.bloaty_engine.specs.Devices.{EndsAt, Reads}
-use Rattle.bloaty_engine.specs.Given.{Gives, pairs_from}
-use Rattle.bloaty_engine.specs.Named.{AreFiles, AreHeld}
-use Rattle.bloaty_engine.specs.Reading.{file_reading, made_len, reading_for, unmade_names}
-use Rattle.file_reports.specs.GrowthReport.{PrintsGrowth}
-use Rattle.bloaty_engine.specs.Reports.{IsUnmade}
+use Rattle.bloaty_engine.specs.Devices.{EndsAt}
+use Rattle.bloaty_engine.specs.FileReads.{ReadsBatch, ReadsFiles}
+use Rattle.bloaty_engine.specs.Reading.{made_len}
 use Rattle.run_outcome.specs.Names.{file_names}
 use Rattle.file_reports.specs.SizeReport.{HasCounted}
-use Rattle.bloaty_engine.specs.Steps.{Batch, EndsAs, EndsFiles, Finds, batch_of, batch_reading}
+use Rattle.bloaty_engine.specs.Steps.{Batch, EndsAs, EndsFiles, batch_of}
 use Rattle.bloaty_engine.specs.Verdict.{counted_file, file_limit, total_limit}
-
--- The effect of a step that reads file `number`, which has this name. `before` and `after` are the files before and after it.
---
--- bytes, is: The file has these bytes.
--- finds: The step returns them if they are within the limit; or the read failed; or memory ran out.
--- gives: Its read returned these bytes.
--- reads: It read this file alone.
--- taken: If it succeeded, the bytes that it returned were read, and no more.
-pub record ReadsFile {F : Type 0} (f : FilesGhosts F) (number : ℕ) (name : List ℕ) (limit : ℕ)
-    (result : Result (Vec ℕ Global) Outcome) (before after : F) : Type 0 where
-  pub bytes : List ℕ
-  pub is : IsHeld (f.held before) name bytes
-  pub finds : Finds number limit bytes result
-  pub gives : Gives result (f.gave before) (f.gave after) ((name, bytes) ∷ [])
-  pub reads : Reads f (file_reading number name limit) result before after
-  pub taken : IfOk result (λ v. IsTaken (f.held before) (length v.items) (f.taken before) (f.taken after))
-
--- The effect of a step that reads the files of the options, or makes the synthetic file, which isn't read. `P` says which result
--- the step has, by the bytes of the files. `before` and `after` are the files before and after it.
---
--- bytes, are: The files have these bytes, by their numbers.
--- ends: The step has its result over them.
--- gives: Its reads returned these bytes.
--- unmade: A read that failed wasn't that of a synthetic file.
--- reads: It read the files, one after the other, unless the file is synthetic.
-pub record ReadsFiles {F X : Type 0} (f : FilesGhosts F) (limits : Limits) (o : Options)
-    (P : (ℕ → List ℕ) → Result X Outcome → Type 0) (result : Result X Outcome) (before after : F) : Type 0 where
-  pub bytes : ℕ → List ℕ
-  pub are : AreFiles (f.held before) o.synth o.files bytes
-  pub ends : P bytes result
-  pub gives : Gives result (f.gave before) (f.gave after) (pairs_from 1 (unmade_names o.synth o.files) bytes)
-  pub unmade : (k : ℕ) → IsErrOf result (ReadFailed (k + 1)) → IsUnmade o.synth k
-  pub reads : Reads f (reading_for limits o (unmade_names o.synth o.files)) result before after
-
--- The effect of a step that reads a batch of files. `P` says which result the step has, by the bytes of the files. `before` and
--- `after` are the files before and after it.
---
--- bytes, are: The files of the batch have these bytes, by their numbers.
--- ends: The step has its result over them.
--- gives: Its reads returned these bytes.
--- reads: It read the files of the batch, one after the other, within what the limits leave.
-pub record ReadsBatch {F X : Type 0} (f : FilesGhosts F) (limits : Limits) (batch : Batch)
-    (P : (ℕ → List ℕ) → Result X Outcome → Type 0) (result : Result X Outcome) (before after : F) : Type 0 where
-  pub bytes : ℕ → List ℕ
-  pub are : AreHeld (f.held before) batch.first batch.names bytes
-  pub ends : P bytes result
-  pub gives : Gives result (f.gave before) (f.gave after) (pairs_from batch.first batch.names bytes)
-  pub reads : Reads f (batch_reading limits batch) result before after
 
 -- The effect of a step on the synthetic file, which is made and not read. `P` says which result it has.
 --
@@ -137,15 +85,6 @@ pub record CanTotal {L : Type 0} (limits : Limits) (p : Plans) (o : Options) (ta
   pub input : HasInput o.synth o.files
   pub none : (tally.files ≡ 0) × (tally.bytes ≡ 0)
 
--- The growth of a total of files from the base files of the options can be reported. The tally counts these files.
---
--- batch: The base files can be counted after them.
--- depth, total: There is a data source for each name in `-d`, and a path of the total has a label for each.
-pub record CanGrow {L : Type 0} (limits : Limits) (p : Plans) (o : Options) (t : Totals) (tally : Tally L) : Type 0 where
-  pub batch : CanCount limits p.sources (batch_of tally.files tally.bytes o.bases)
-  pub depth : length o.sources ≡ length p.sources
-  pub total : t.depth ≡ length p.sources
-
 -- The synthetic file of `n` functions can be counted.
 --
 -- number: There are at most a million functions.
@@ -205,22 +144,3 @@ pub record CountsTotal {F L : Type 0} (f : FilesGhosts F) (limits : Limits) (p :
   pub files : ReadsFiles f limits o (EndsFiles limits p.sources (filter_test p.filter) (batch_of 0 0 (file_names o))) result before after
   pub tally : Tallies f limits (batch_of 0 0 (file_names o)) (made_len o.synth) result new.files new.bytes before after
   pub cost : CostsAtMost (counting_cost limits p.sources o) (f.gave before) (f.gave after) old.steps new.steps
-
--- The base files with these bytes were counted, and the text is that of the growth from them to the total `new`; or the run ended at
--- one of them.
-abbrev pub EndsGrowth : Limits → List Chosen → Option (List ℕ → Bool) → Batch → (ℕ → List ℕ) → Options
-    → Totals → Result (Vec ℕ Global) Outcome → Type 0
-EndsGrowth limits sources filter b files o new (Ok text) =
-    (t : Totals) × EndsFiles limits sources filter b files (Ok t) × PrintsGrowth o new t text.items
-EndsGrowth limits sources filter b files o new (Err end) = EndsFiles limits sources filter b files (Err end)
-
--- The effect of a step that counts the base files and makes the report of growth from them to `total`, which is that of the files.
--- `old` and `new` are the tally before and after it, `before` and `after` the files.
---
--- batch: It read the base files, and its result is what their bytes decide.
--- cost: It took at most the steps for the base files that it read.
-pub record ReportsGrowth {F L : Type 0} (f : FilesGhosts F) (limits : Limits) (p : Plans) (o : Options) (total : Totals)
-    (result : Result (Vec ℕ Global) Outcome) (before after : F) (old new : Tally L) : Type 0 where
-  pub batch : ReadsBatch f limits (batch_of old.files old.bytes o.bases)
-      (λ bytes. EndsGrowth limits p.sources (filter_test p.filter) (batch_of old.files old.bytes o.bases) bytes o total) result before after
-  pub cost : CostsAtMost (files_cost limits p.sources) (f.gave before) (f.gave after) old.steps new.steps

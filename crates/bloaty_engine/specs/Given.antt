@@ -36,15 +36,15 @@ files_given None returned = returned
 abbrev pub asked_given : Limits → Options → Pairs → Result Request Outcome
 asked_given limits o returned = asked limits (Ok o) (config_alone (config_given o.config returned))
 
--- The files that are read, and then the others, with their bytes. A synthetic file isn't read.
-abbrev pub input_pairs : Options → List (List ℕ) → (ℕ → List ℕ) → Pairs
-input_pairs o others files = pairs_from 1 (unmade_names o.synth o.files) files ++ pairs_from (length (file_names o) + 1) others files
+-- The files that are read, and then the debug file or the base files, with their bytes. A synthetic file isn't read.
+abbrev pub input_pairs : Options → (ℕ → List ℕ) → Pairs
+input_pairs o files = pairs_from 1 (unmade_names o.synth o.files) files ++ pairs_from (length (file_names o) + 1) (other_names o) files
 
 -- What a run reads, in order, with its bytes: the configuration, the files, and then the debug file or the base files. It
 -- reads nothing if its arguments are misused.
 abbrev pub run_pairs : Result Options UsageKind → Contents → Pairs
 run_pairs (Err kind) contents = []
-run_pairs (Ok o) contents = config_pairs o.config contents.config ++ input_pairs o (other_names o) contents.files
+run_pairs (Ok o) contents = config_pairs o.config contents.config ++ input_pairs o contents.files
 
 -- The reads of a step returned the first of these bytes under their names, in order, and nothing else. If the step
 -- succeeded, they returned all of them. `before` and `after` are what reads had returned before and after the step.

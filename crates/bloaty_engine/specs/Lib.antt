@@ -1,12 +1,12 @@
 pub mod Answers
 pub mod Costs
 pub mod Devices
+pub mod FileReads
 pub mod FileSteps
 pub mod Given
 pub mod LocationReport
 pub mod Named
 pub mod PairSteps
-pub mod PlaceSteps
 pub mod PlanSteps
 pub mod Reading
 pub mod Reports

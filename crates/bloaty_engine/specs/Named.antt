@@ -30,8 +30,8 @@ AreFiles held None names files = AreHeld held 1 names files
 AreFiles held (Some n) names files = files 1 ≡ made n
 
 -- The files of a run have these bytes, and so have the debug file or the base files, whose numbers follow.
-abbrev pub AreInputs : Option Pairs → Options → List (List ℕ) → (ℕ → List ℕ) → Type 0
-AreInputs held o others files = AreFiles held o.synth o.files files × AreHeld held (length (file_names o) + 1) others files
+abbrev pub AreInputs : Option Pairs → Options → (ℕ → List ℕ) → Type 0
+AreInputs held o files = AreFiles held o.synth o.files files × AreHeld held (length (file_names o) + 1) (other_names o) files
 
 -- These are the bytes of the configuration and of the files.
 pub record AreContents (held : Option Pairs) (o : Options) (c : Contents) : Type 0 where

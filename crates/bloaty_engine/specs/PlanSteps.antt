@@ -7,6 +7,9 @@ use Rattle.config_text.specs.declared.config.CustomSource.{CustomSource}
 use Rattle.custom_rewrites.specs.declared.pattern.Patterns.{Ghosts as PatternsGhosts}
 use Rattle.size_options.specs.declared.run_options.Options.{Options}
 use Rattle.run_outcome.specs.declared.outcome.Outcome.{Outcome}
+use Rattle.run_outcome.specs.declared.outcome.Outcome.TheVariants.{UnknownSource, PatternSyntax, PatternTooBig, NoMemory}
+use Rattle.file_profile.specs.declared.plan.PlanAnswer.{PlanAnswer}
+use Rattle.file_profile.specs.declared.plan.PlanAnswer.TheVariants as plan
 use Rattle.file_profile.specs.Plans.{IsPlan, Plans as Plan}
 use Rattle.bloaty_engine.specs.Devices.{Builds, Reads}
 use Rattle.bloaty_engine.specs.Given.{Gives, config_pairs}
@@ -14,6 +17,13 @@ use Rattle.bloaty_engine.specs.Named.{IsText}
 use Rattle.run_plan.specs.PatternLists.{plan_patterns}
 use Rattle.bloaty_engine.specs.Reading.{config_reading}
 use Rattle.bloaty_engine.specs.Steps.{EndsConfig, EndsPlan}
+
+-- The outcome of a run without a plan.
+abbrev pub end_of_plan : PlanAnswer → Outcome
+end_of_plan (plan.UnknownSource i) = UnknownSource i
+end_of_plan (plan.PatternSyntax i) = PatternSyntax i
+end_of_plan (plan.PatternTooBig i) = PatternTooBig i
+end_of_plan plan.NoMemory = NoMemory
 
 -- The effect of the step of a run that makes its plan. `before` and `after` are the patterns before and after it.
 --

@@ -1,5 +1,5 @@
 -- Which files a run reads, in which order, and how many bytes it reads of them.
-use Rattle.std.specs.Prelude.{ℕ, zero, suc, ◌+◌, ◌-◌, nat_lt, if◌then◌else◌, List, [], ◌∷◌, ◌++◌, length, slice_get, Option, None, Some, Result, Ok, Err}
+use Rattle.std.specs.Prelude.{ℕ, zero, suc, ◌+◌, ◌-◌, ◌<◌, ⊤, nat_lt, if◌then◌else◌, List, [], ◌∷◌, ◌++◌, length, slice_get, Option, None, Some, Result, Ok, Err}
 use Rattle.size_core.specs.declared.limits.Limits.{Limits}
 use Rattle.elf_synth.specs.Made.{made}
 use Rattle.size_options.specs.declared.run_options.Options.{Options}
@@ -16,6 +16,11 @@ config_names (Some name) = name ∷ []
 abbrev pub unmade_names : Option ℕ → List (List ℕ) → List (List ℕ)
 unmade_names None files = files
 unmade_names (Some n) files = []
+
+-- File k + 1 isn't synthetic. A synthetic file isn't read.
+abbrev pub IsUnmade : Option ℕ → ℕ → Type 0
+IsUnmade None k = ⊤
+IsUnmade (Some n) k = 0 < k
 
 -- The files, and then the debug file or the base files.
 abbrev pub files_to_read : Options → List (List ℕ)

@@ -1,5 +1,5 @@
 -- The report that a run has.
-use Rattle.std.specs.Prelude.{◌≡◌, ℕ, ◌+◌, ◌<◌, ⊤, List, [], ◌∷◌, ◌++◌, length, Option, None, Some, Result, Ok, Err, Vec, IsOk}
+use Rattle.std.specs.Prelude.{◌≡◌, ℕ, ◌+◌, ◌<◌, List, [], ◌∷◌, length, None, Some, Result, Ok, Err, Vec, IsOk}
 use Rattle.std.specs.declared.alloc.Global.{Global}
 use Rattle.size_core.specs.declared.limits.Limits.{Limits}
 use Rattle.size_core.specs.declared.place.Place.{Place}
@@ -9,12 +9,10 @@ use Rattle.size_options.specs.declared.run_options.Options.{Options}
 use Rattle.run_outcome.specs.declared.outcome.Outcome.{Outcome}
 use Rattle.bloaty_engine.specs.declared.files.Tally.{Tally}
 use Rattle.bloaty_engine.specs.Costs.{CostsAtMost, counting_cost, found_cost}
-use Rattle.bloaty_engine.specs.Devices.{Reads}
-use Rattle.bloaty_engine.specs.Given.{Gives, input_pairs}
 use Rattle.file_reports.specs.GrowthReport.{IsGrowthReport}
-use Rattle.bloaty_engine.specs.Named.{AreInputs}
-use Rattle.bloaty_engine.specs.Reading.{reading_for, unmade_names}
-use Rattle.run_outcome.specs.Names.{all_names, file_names, other_names, side_names}
+use Rattle.bloaty_engine.specs.FileReads.{ReadsInputs}
+use Rattle.bloaty_engine.specs.Reading.{IsUnmade}
+use Rattle.run_outcome.specs.Names.{all_names, file_names, side_names}
 use Rattle.file_reports.specs.SizeReport.{IsSizeReport}
 use Rattle.file_profile.specs.Plans.{Plans}
 use Rattle.file_profile.specs.Sources.{Chosen}
@@ -36,11 +34,6 @@ IsReport o (Explained place sources) text = text ≡ place_report_text place sou
 pub record IsPlanned (o : Options) (p : Plans) : Type 0 where
   pub depth : length o.sources ≡ length p.sources
   pub filter : p.filter ≡ o.filter
-
--- File k + 1 isn't synthetic. A synthetic file isn't read.
-abbrev pub IsUnmade : Option ℕ → ℕ → Type 0
-IsUnmade None k = ⊤
-IsUnmade (Some n) k = 0 < k
 
 -- File i is one of the files or of the base files, and those before it are counted.
 abbrev pub IsCountedFile : Limits → List Chosen → (ℕ → List ℕ) → Options → ℕ → Type 0
@@ -82,26 +75,11 @@ pub record AsksPlace (o : Options) (p : Plans) (location : Place) : Type 0 where
   pub ready : IsReady o p
   pub place : o.place ≡ Some location
 
--- The effect of a step that reads the files of the options and then other files, whose numbers follow. `P` says which result the
--- step has, by the bytes of the files. `before` and `after` are the files before and after it.
---
--- bytes, are: The files have these bytes, by their numbers.
--- ends: The step has its result over them.
--- gives: Its reads returned these bytes.
--- reads: It read these files, one after the other. A synthetic file isn't read.
-pub record ReadsInputs {F X : Type 0} (f : FilesGhosts F) (limits : Limits) (o : Options) (others : List (List ℕ))
-    (P : (ℕ → List ℕ) → Result X Outcome → Type 0) (result : Result X Outcome) (before after : F) : Type 0 where
-  pub bytes : ℕ → List ℕ
-  pub are : AreInputs (f.held before) o others bytes
-  pub ends : P bytes result
-  pub gives : Gives result (f.gave before) (f.gave after) (input_pairs o others bytes)
-  pub reads : Reads f (reading_for limits o (unmade_names o.synth o.files ++ others)) result before after
-
 -- The effect of a step that makes the report of what the options ask for. It returns the report over the bytes of their files, or
 -- the outcome that these bytes decide; or a read failed; or memory ran out.
 abbrev pub MakesReport : {F : Type 0} → FilesGhosts F → Limits → List Chosen → Options → Result (Vec ℕ Global) Outcome → F → F → Type 0
 MakesReport f limits sources o result before after =
-    ReadsInputs f limits o (other_names o) (λ bytes. EndsFinding limits sources bytes o) result before after
+    ReadsInputs f limits o (λ bytes. EndsFinding limits sources bytes o) result before after
 
 -- The report of these options can begin with this plan.
 --
@@ -110,6 +88,11 @@ MakesReport f limits sources o result before after =
 pub record BeginsReport {L : Type 0} (o : Options) (p : Plans) (tally : Tally L) : Type 0 where
   pub ready : IsReady o p
   pub none : (tally.files ≡ 0) × (tally.bytes ≡ 0)
+
+-- The report of sizes or of growth can begin with this plan. The options have no debug file.
+pub record BeginsFiles {L : Type 0} (o : Options) (p : Plans) (tally : Tally L) : Type 0 where
+  pub begins : BeginsReport o p tally
+  pub no_debug : o.debug ≡ None
 
 -- The effect of a step that makes the report of what the options ask for. `before` and `after` are the files before and after it,
 -- `old` and `new` the counts of steps.
@@ -128,5 +111,5 @@ pub record Reports {F : Type 0} (f : FilesGhosts F) (limits : Limits) (p : Plans
 -- cost: It took at most the steps for the files that it read, and for the synthetic one.
 pub record ReportsFiles {F L : Type 0} (f : FilesGhosts F) (limits : Limits) (p : Plans) (o : Options) (result : Result (Vec ℕ Global) Outcome)
     (before after : F) (old new : Tally L) : Type 0 where
-  pub inputs : ReadsInputs f limits o o.bases (λ bytes. EndsCounting limits p.sources bytes o) result before after
+  pub inputs : ReadsInputs f limits o (λ bytes. EndsCounting limits p.sources bytes o) result before after
   pub cost : CostsAtMost (counting_cost limits p.sources o) (f.gave before) (f.gave after) old.steps new.steps

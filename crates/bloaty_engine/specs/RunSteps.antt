@@ -11,6 +11,7 @@ use Rattle.size_options.specs.declared.errors.UsageKind.{UsageKind}
 use Rattle.run_outcome.specs.declared.outcome.Outcome.{Outcome}
 use Rattle.run_outcome.specs.declared.outcome.Outcome.TheVariants.{Done, Usage, WriteFailed}
 use Rattle.bloaty_engine.specs.Answers.{EndsReport, GaveConfig, IsRun, is_plan_end}
+use Rattle.bloaty_engine.specs.Costs.{CostsAtMost, run_cost}
 use Rattle.bloaty_engine.specs.Devices.{BuildsAsked, CountsWrites, Reads, ended}
 use Rattle.bloaty_engine.specs.Given.{Gives, run_pairs, seen_files}
 use Rattle.bloaty_engine.specs.Named.{AreContents, Contents}
@@ -23,7 +24,7 @@ pub record IsBlankOf (ledger_name ledger_parts blank_name blank_parts : ℕ) : T
   pub some : 0 < blank_parts
 
 -- The effect of a step that makes the text of the report of a run with these options, on the files and the patterns, each before
--- and after it.
+-- and after it. `old` and `new` are the counts of steps.
 --
 -- contents, are: The configuration and the files have these bytes.
 -- ends: The step returns the text that they decide, or ends the run with the outcome that they decide, or is interrupted.
@@ -31,8 +32,9 @@ pub record IsBlankOf (ledger_name ledger_parts blank_name blank_parts : ℕ) : T
 -- planned: If it ended at a name in `-d` or at a pattern, they returned the configuration, if there is one, and nothing else.
 -- files: It reads the configuration and the files, one after the other.
 -- patterns: It builds the patterns of its request.
+-- cost: It takes at most the steps for the files that it read, and for the synthetic one.
 pub record MakesText {F P : Type 0} (f : FilesGhosts F) (p : PatternsGhosts P) (limits : Limits) (o : Options)
-    (result : Result (Vec ℕ Global) Outcome) (old_files new_files : F) (old_patterns new_patterns : P) : Type 0 where
+    (result : Result (Vec ℕ Global) Outcome) (old_files new_files : F) (old_patterns new_patterns : P) (old new : ℕ) : Type 0 where
   pub contents : Contents
   pub are : AreContents (f.held old_files) o contents
   pub ends : EndsReport limits o (p.last_refused new_patterns) contents result
@@ -40,6 +42,7 @@ pub record MakesText {F P : Type 0} (f : FilesGhosts F) (p : PatternsGhosts P) (
   pub planned : (end : Outcome) → result ≡ Err end → is_plan_end end ≡ true → GaveConfig (Ok o) contents (f.gave old_files) (f.gave new_files)
   pub files : Reads f (run_reading limits (Ok o)) result old_files new_files
   pub patterns : BuildsAsked p (seen_files f old_files new_files) limits (Ok o) result old_patterns new_patterns
+  pub cost : CostsAtMost (run_cost limits o) (f.gave old_files) (f.gave new_files) old new
 
 -- The effect of writing a report to the output. `before` and `after` are the output before and after it.
 --

@@ -1,12 +1,12 @@
 -- The results of the steps of a run.
-use Rattle.std.specs.Prelude.{◌≡◌, ℕ, ◌+◌, ◌-◌, ◌<◌, ◌≤◌, ⊤, Bool, List, length, take, Option, Some, Result, Ok, Err, Vec, IsOk}
+use Rattle.std.specs.Prelude.{◌≡◌, ℕ, ◌+◌, ◌-◌, ◌<◌, ◌≤◌, ⊤, Bool, true, false, List, length, take, Option, Some, Result, Ok, Err, Vec, IsOk}
 use Rattle.std.specs.declared.alloc.Global.{Global}
 use Rattle.size_core.specs.declared.limits.Limits.{Limits}
 use Rattle.size_model.specs.declared.view.FileView.{FileView}
 use Rattle.config_text.specs.declared.config.CustomSource.{CustomSource}
 use Rattle.rollup.specs.Totals.{Totals}
 use Rattle.run_outcome.specs.declared.outcome.Outcome.{Outcome}
-use Rattle.run_outcome.specs.declared.outcome.Outcome.TheVariants.{ReadFailed, TooLong, UnknownSource, PatternSyntax, PatternTooBig, NoMemory}
+use Rattle.run_outcome.specs.declared.outcome.Outcome.TheVariants.{ReadFailed, TooLong, Bad, TooManyClaims, MappedTooLarge, NoMatch, PlaceOutside, UnknownSource, PatternSyntax, PatternTooBig, NoMemory}
 use Rattle.custom_rewrites.specs.Pattern.{IsNoPattern}
 use Rattle.file_profile.specs.Patterns.{StopsAt}
 use Rattle.file_profile.specs.Sources.{Chosen, chosen_sources}
@@ -23,10 +23,26 @@ Finds i limit bytes (Err NoMemory) = ⊤
 Finds i limit bytes (Err end) = ⊥
 
 -- A step ends a run at a failed read that may happen, out of memory, or with the outcome of `decided`.
+abbrev pub EndsWith : {X : Type 0} → (ℕ → Type 0) → Result X Outcome → Outcome → Type 0
+EndsWith may_fail decided (ReadFailed i) = may_fail i
+EndsWith may_fail decided NoMemory = ⊤
+EndsWith may_fail decided end = decided ≡ Err end
+
+-- The outcomes that can end a run while it reads, counts or explains its files.
+abbrev pub is_file_end : Outcome → Bool
+is_file_end (ReadFailed i) = true
+is_file_end (TooLong i) = true
+is_file_end (Bad i fault offset) = true
+is_file_end (TooManyClaims i) = true
+is_file_end MappedTooLarge = true
+is_file_end NoMatch = true
+is_file_end PlaceOutside = true
+is_file_end NoMemory = true
+is_file_end end = false
+
+-- The same for a step over files. It has no other outcomes.
 abbrev pub EndsBy : {X : Type 0} → (ℕ → Type 0) → Result X Outcome → Outcome → Type 0
-EndsBy may_fail decided (ReadFailed i) = may_fail i
-EndsBy may_fail decided NoMemory = ⊤
-EndsBy may_fail decided end = decided ≡ Err end
+EndsBy may_fail decided end = (is_file_end end ≡ true) × EndsWith may_fail decided end
 
 -- No read can fail.
 abbrev pub Nowhere : ℕ → Type 0
@@ -36,7 +52,7 @@ Nowhere i = ⊥
 abbrev pub EndsConfig : Limits → Option (List ℕ) → List ℕ → Result (Vec CustomSource Global) Outcome → Type 0
 EndsConfig limits name text (Ok v) = customs_in limits name text ≡ Ok v.items
 EndsConfig limits name text (Err end) =
-    EndsBy (λ i. (i ≡ 0) × ((n : List ℕ) × (name ≡ Some n))) (customs_in limits name text) end
+    EndsWith (λ i. (i ≡ 0) × ((n : List ℕ) × (name ≡ Some n))) (customs_in limits name text) end
 
 -- A step that reads no file has this result, or runs out of memory.
 abbrev pub EndsAs : {X : Type 0} → Result (Unit {0}) Outcome → Result X Outcome → Type 0

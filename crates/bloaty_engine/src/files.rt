@@ -3,7 +3,8 @@
 ghost use Rattle.std.specs.Prelude.{◌≡◌, ◌≤◌, length};
 ghost use Rattle.elf_synth.specs.Made.{made};
 ghost use Rattle.size_options.specs.Answers.{IsOneInput};
-ghost use Rattle.bloaty_engine.specs.FileSteps.{AddsFile, CanCount, CanMake, CountsBatch, CountsMade, FitsTotal, ReadsFile, UsesMade};
+ghost use Rattle.bloaty_engine.specs.FileSteps.{AddsFile, CanCount, CanMake, CountsBatch, CountsMade, FitsTotal, UsesMade};
+ghost use Rattle.bloaty_engine.specs.FileReads.{HasOneInput, ReadsFile, ReadsOnly};
 ghost use Rattle.run_outcome.specs.Names.{file_names};
 ghost use Rattle.bloaty_engine.specs.RunSteps.{IsBlankOf};
 ghost use Rattle.bloaty_engine.specs.Steps.{Finds, batch_of};
@@ -201,4 +202,22 @@ pub fn count_made<L: Ledger>(
     tally.files = 1;
     tally.bytes = file.len() as u64;
     Ok(total)
+}
+
+/// Reads the only file, or makes the synthetic one, and returns its bytes. The outcome is `ReadFailed` or `TooLong` with
+/// file 1, or `NoMemory`.
+pub fn only_file<F: Files>(run: &Run, files: &mut F) -> Result<Vec<u8>, Outcome>
+    requires { HasOneInput run.now.options }
+    ensures { ReadsOnly F.Files run.now.limits run.now.options result files.old files.new }
+{
+    match run.options.synth {
+        Some(n) => made_file(run, n),
+        None => read_file(
+            run.alloc,
+            files,
+            first_name(&run.options),
+            1,
+            run.next_limit(0),
+        ),
+    }
 }

@@ -2,7 +2,6 @@
 #![tactic(auto)]
 
 mod files;
-mod growth;
 mod laws;
 mod pair;
 mod place;

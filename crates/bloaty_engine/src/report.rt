@@ -1,20 +1,18 @@
 //! The report of a run, up to its text.
 
-ghost use Rattle.std.specs.Prelude.{◌≡◌, None};
+ghost use Rattle.std.specs.Prelude.{◌≡◌};
 ghost use Rattle.size_options.specs.Answers.{KeepsLimits};
-ghost use Rattle.bloaty_engine.specs.Costs.{CostsAtMost, run_cost};
 ghost use Rattle.bloaty_engine.specs.FileSteps.{CanTotal, CountsTotal};
-ghost use Rattle.bloaty_engine.specs.Reports.{BeginsReport, Reports, ReportsFiles};
+ghost use Rattle.bloaty_engine.specs.Reports.{BeginsFiles, BeginsReport, Reports, ReportsFiles};
 ghost use Rattle.bloaty_engine.specs.RunSteps.{MakesText};
 
 use crate::files::{Tally, count_files, count_made, file_count};
-use crate::growth::growth_report;
 use crate::pair::pair_report;
 use crate::place::place_report;
 use crate::request::{Run, customs_of, plan_of};
 use custom_rewrites::Patterns;
 use file_profile::Plan;
-use file_reports::report_of_sizes;
+use file_reports::{report_of_growth, report_of_sizes};
 use outside::Files;
 use rollup::Rollup;
 use run_outcome::Outcome;
@@ -44,8 +42,7 @@ fn report_of_files<L: Ledger, F: Files>(
     files: &mut F,
     tally: &mut Tally<L>,
 ) -> Result<Vec<u8>, Outcome>
-    requires begins { BeginsReport run.now.options plan.now tally.old }
-    requires no_debug { run.now.options.debug ≡ None }
+    requires { BeginsFiles run.now.options plan.now tally.old }
     ensures { ReportsFiles F.Files run.now.limits plan.now run.now.options result
         files.old files.new tally.old tally.new }
 {
@@ -57,7 +54,8 @@ fn report_of_files<L: Ledger, F: Files>(
     if bases == 0 {
         return Ok(report_of_sizes(run.alloc, &run.options, &total)?);
     }
-    growth_report(run, plan, &total, files, tally)
+    let base = count_files(run, plan, &run.options.bases, files, tally)?;
+    Ok(report_of_growth(run.alloc, &run.options, &total, &base)?)
 }
 
 // The explanation of a location, the report of the only file with its debug file, or that of all files, as the options
@@ -89,10 +87,8 @@ pub fn report<L: Ledger, F: Files, P: Patterns>(
 ) -> Result<Vec<u8>, Outcome>
     requires none { (tally.old.files ≡ 0) × (tally.old.bytes ≡ 0) }
     requires limits { KeepsLimits run.now.options }
-    ensures text { MakesText F.Files P.Patterns run.now.limits run.now.options result
-        files.old files.new patterns.old patterns.new }
-    ensures cost { CostsAtMost (run_cost run.now.limits run.now.options)
-        (F.gave files.old) (F.gave files.new) tally.old.steps tally.new.steps }
+    ensures { MakesText F.Files P.Patterns run.now.limits run.now.options result
+        files.old files.new patterns.old patterns.new tally.old.steps tally.new.steps }
 {
     let customs = customs_of(run, files)?;
     let plan = plan_of(run, &customs, patterns)?;

@@ -1,7 +1,7 @@
 //! The input of a run: its options and limits, its configuration, and its plan.
 
 ghost use Rattle.std.specs.Prelude.{◌≡◌, ◌≤◌};
-ghost use Rattle.bloaty_engine.specs.PlanSteps.{MakesPlan, ReadsConfig};
+ghost use Rattle.bloaty_engine.specs.PlanSteps.{MakesPlan, ReadsConfig, end_of_plan};
 ghost use Rattle.bloaty_engine.specs.Verdict.{config_limit, next_limit, total_limit};
 
 use crate::files::read_file;
@@ -67,7 +67,20 @@ pub fn customs_of<F: Files>(run: &Run, files: &mut F) -> Result<Vec<CustomSource
     }
 }
 
+// The outcome of a run without a plan.
+fn end_of_plan(answer: PlanAnswer) -> Outcome
+    ensures { result ≡ end_of_plan answer }
+{
+    match answer {
+        PlanAnswer::UnknownSource(i) => Outcome::UnknownSource(i),
+        PlanAnswer::PatternSyntax(i) => Outcome::PatternSyntax(i),
+        PlanAnswer::PatternTooBig(i) => Outcome::PatternTooBig(i),
+        PlanAnswer::NoMemory => Outcome::NoMemory,
+    }
+}
+
 /// The plan for these options and custom data sources.
+#[tactic(auto, using(crate::proofs::BuildLemmas::step_planned, crate::proofs::BuildLemmas::step_unplanned))]
 pub fn plan_of<P: Patterns>(
     run: &Run,
     customs: &[CustomSource],
@@ -77,9 +90,6 @@ pub fn plan_of<P: Patterns>(
 {
     match plan(run.alloc, &run.options, customs, patterns) {
         Ok(plan) => Ok(plan),
-        Err(PlanAnswer::UnknownSource(i)) => Err(Outcome::UnknownSource(i)),
-        Err(PlanAnswer::PatternSyntax(i)) => Err(Outcome::PatternSyntax(i)),
-        Err(PlanAnswer::PatternTooBig(i)) => Err(Outcome::PatternTooBig(i)),
-        Err(PlanAnswer::NoMemory) => Err(Outcome::NoMemory),
+        Err(answer) => Err(end_of_plan(answer)),
     }
 }

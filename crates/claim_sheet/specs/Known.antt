@@ -3,11 +3,24 @@ use Rattle.std.specs.Prelude.{◌≡◌, ℕ, ◌-◌, ◌<◌, ◌≤◌, false
 use Rattle.std.specs.List.{filter}
 use Rattle.size_model.specs.declared.view.LabelledClaim.{LabelledClaim}
 use Rattle.claim_sheet.specs.declared.known.KnownLabel.{KnownLabel}
+use Rattle.claim_sheet.specs.declared.labels.ClaimLabel.{ClaimLabel}
+use Rattle.claim_sheet.specs.declared.labels.ClaimLabel.TheVariants.{Text, OfClaim}
+use Rattle.claim_sheet.specs.Reaches.{wrapped}
 use Rattle.claim_sheet.specs.Sheets.{Sheet, is_taken}
 
 -- The label of the claim at a position. It is empty if there is no such claim.
 abbrev pub label_at : List LabelledClaim → ℕ → List ℕ
 label_at made i = get_or (map (λ c. c.label) made) i []
+
+-- The label that a claim gets.
+abbrev pub label_text : List LabelledClaim → ClaimLabel → List ℕ
+label_text made (Text text wrap) = wrapped wrap text.now
+label_text made (OfClaim i) = label_at made i
+
+-- If the label is that of a claim, there is such a claim.
+abbrev pub HasClaim : List LabelledClaim → ClaimLabel → Type 0
+HasClaim made (Text text wrap) = Unit {0}
+HasClaim made (OfClaim i) = i < length made
 
 -- There is a claim at this position, and it has this label.
 pub record HasLabel (made : List LabelledClaim) (label : List ℕ) (i : ℕ) : Type 0 where

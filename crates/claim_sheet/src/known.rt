@@ -5,7 +5,7 @@ ghost use Rattle.claim_sheet.specs.Adds.{Adds};
 ghost use Rattle.claim_sheet.specs.Known.{IsKnown, IsKnownBy, position_added, position_known};
 ghost use Rattle.claim_sheet.specs.Reaches.{claim_on};
 
-use crate::labels::Wrap;
+use crate::labels::{ClaimLabel, Wrap};
 use crate::reach::Reach;
 use crate::sheet::ClaimSheet;
 use size_core::NoMemory;
@@ -23,7 +23,7 @@ pub struct KnownLabel<'a> {
 impl ClaimSheet {
     /// Adds a claim, and returns its position on the sheet, counted from 0. The position is None if no claim was
     /// kept.
-    #[tactic(auto, using(crate::proofs::KnownLemmas::noted))]
+    #[tactic(auto, using(crate::proofs::KnownLemmas::noted, crate::proofs::SheetLemmas::adding_none))]
     pub fn add_noted(&mut self, reach: Reach, label: &[u8]) -> Result<Option<usize>, NoMemory>
         ensures adds { Adds result self.old self.new (claim_on reach label.now) }
         ensures known { IfOk result (λ claim. IsKnownBy self.new.made label.now claim) }
@@ -31,8 +31,11 @@ impl ClaimSheet {
             claim ≡ position_added self.old.made self.new.made) }
         ensures same { OnErr result (self.new ≡ self.old) }
     {
+        if reach.is_empty() {
+            return Ok(None);
+        }
         let next = self.len();
-        self.add(reach, Wrap::Plain, label)?;
+        self.add_any(reach, ClaimLabel::Text(label, Wrap::Plain))?;
         if self.len() > next {
             return Ok(Some(next));
         }

@@ -3,13 +3,13 @@
 ghost use Rattle.std.specs.Prelude.{◌≡◌, ◌<◌, ◌≤◌, true, false, List, [], ◌∷◌, length, get_or, OnErr, IfOk, MatchResult};
 ghost use Rattle.size_model.specs.declared.view.LabelledClaim.{LabelledClaim};
 ghost use Rattle.claim_sheet.specs.Adds.{Adds};
-ghost use Rattle.claim_sheet.specs.Known.{AreAdded, claims_between, label_at};
+ghost use Rattle.claim_sheet.specs.Known.{AreAdded, HasClaim, claims_between, label_at, label_text};
 ghost use Rattle.claim_sheet.specs.Made.{AreNumbered, AreUsed, KeepsLabels, texts};
 ghost use Rattle.claim_sheet.specs.Reaches.{claim_of, claim_on, claim_on_some, wrapped};
 ghost use Rattle.claim_sheet.specs.Sheets.{fresh, fresh_on_addresses, is_taken};
 
-use crate::labels::{SourceLabel, Wrap};
-use crate::push::push_wrapped;
+use crate::labels::{ClaimLabel, Wrap};
+use crate::push::push;
 use crate::reach::Reach;
 use size_core::{Claim, LabelPool, NoMemory, Side};
 use std::alloc::Global;
@@ -93,16 +93,14 @@ impl ClaimSheet {
         sheet
     }
 
-    /// Adds a claim. A claim that covers nothing, or on a side that the sheet doesn't take, is dropped. A claim above the
-    /// limit is dropped, and the sheet records that there were more. If memory runs out, the sheet is unchanged.
-    #[tactic(auto, using(crate::proofs::SheetLemmas::adding_none, crate::proofs::SheetLemmas::adding_left))]
-    pub fn add(&mut self, reach: Reach, wrap: Wrap, label: &[u8]) -> Result<(), NoMemory>
-        ensures adds { Adds result self.old self.new (claim_on reach (wrapped wrap label.now)) }
+    // Adds a claim, even if it covers nothing.
+    #[tactic(auto, using(crate::proofs::SheetLemmas::adding_left))]
+    pub(crate) fn add_any(&mut self, reach: Reach, label: ClaimLabel<'_>) -> Result<(), NoMemory>
+        requires { HasClaim self.old.made label }
+        ensures adds { Adds result self.old self.new
+            (claim_of reach (label_text self.old.made label.entry) ∷ []) }
         ensures same { OnErr result (self.new ≡ self.old) }
     {
-        if reach.is_empty() {
-            return Ok(());
-        }
         if !is_taken(self.addresses_only, reach.side) {
             return Ok(());
         }
@@ -110,8 +108,21 @@ impl ClaimSheet {
             self.over = true;
             return Ok(());
         }
-        let label = SourceLabel { text: label, wrap };
-        push_wrapped(self.alloc, &mut self.pool, &mut self.claims, reach, label)
+        push(self.alloc, &mut self.pool, &mut self.claims, reach, label)?;
+        Ok(())
+    }
+
+    /// Adds a claim. A claim that covers nothing, or on a side that the sheet doesn't take, is dropped. A claim above the
+    /// limit is dropped, and the sheet records that there were more. If memory runs out, the sheet is unchanged.
+    #[tactic(auto, using(crate::proofs::SheetLemmas::adding_none))]
+    pub fn add(&mut self, reach: Reach, wrap: Wrap, label: &[u8]) -> Result<(), NoMemory>
+        ensures adds { Adds result self.old self.new (claim_on reach (wrapped wrap label.now)) }
+        ensures same { OnErr result (self.new ≡ self.old) }
+    {
+        if reach.is_empty() {
+            return Ok(());
+        }
+        self.add_any(reach, ClaimLabel::Text(label, wrap))
     }
 
     /// Adds a claim if there is something to cover.
@@ -153,31 +164,6 @@ impl ClaimSheet {
         }
     }
 
-    // Adds a claim under the label of the claim at a position, even if it covers nothing.
-    #[tactic(auto, using(crate::proofs::SheetLemmas::adding_left))]
-    fn keep_like(&mut self, reach: Reach, position: usize) -> Result<(), NoMemory>
-        requires { position < length self.old.made }
-        ensures adds { Adds result self.old self.new
-            (claim_of reach (label_at self.old.made position) ∷ []) }
-        ensures same { OnErr result (self.new ≡ self.old) }
-    {
-        if !is_taken(self.addresses_only, reach.side) {
-            return Ok(());
-        }
-        if self.limit <= self.claims.len() as u64 {
-            self.over = true;
-            return Ok(());
-        }
-        let label = self.claims[position].label;
-        self.claims.push(Claim {
-            side: reach.side,
-            vm: reach.vm,
-            file: reach.file,
-            label,
-        })?;
-        Ok(())
-    }
-
     /// Adds a claim under the label of the claim at a position. The label isn't looked up. A claim that covers nothing
     /// is dropped.
     #[tactic(auto, using(crate::proofs::SheetLemmas::adding_none))]
@@ -190,11 +176,11 @@ impl ClaimSheet {
         if reach.is_empty() {
             return Ok(());
         }
-        self.keep_like(reach, position)
+        self.add_any(reach, ClaimLabel::OfClaim(position))
     }
 
     // Adds the claims from one position up to another again.
-    #[tactic(auto, using(crate::proofs::KnownLemmas::repeat_goes, crate::proofs::KnownLemmas::repeat_ends, crate::proofs::SheetLemmas::grown_by))]
+    #[tactic(auto, using(crate::proofs::KnownLemmas::repeat_goes, crate::proofs::KnownLemmas::repeat_ends, crate::proofs::SheetLemmas::still_within))]
     fn repeat(&mut self, first: usize, end: usize) -> Result<(), NoMemory>
         requires order { first ≤ end }
         requires within { end ≤ length self.old.made }
@@ -202,7 +188,7 @@ impl ClaimSheet {
     {
         for position in first..end {
             let reach = self.reach_at(position);
-            self.keep_like(reach, position)?;
+            self.add_any(reach, ClaimLabel::OfClaim(position))?;
         }
         Ok(())
     }

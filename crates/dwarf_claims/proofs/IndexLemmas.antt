@@ -1,22 +1,20 @@
 -- An index of a table of abbreviations, attribute by attribute and declaration by declaration.
-use Rattle.std.proofs.Common.{◌≡◌, ℕ, ◌==◌, Bool, true, false, List, [], ◌∷◌, ◌++◌, Option, Some, None, refl, sym, ap, subst, ◌∙◌, append_assoc, arith, eqb-true, get_or, nat_eq}
+use Rattle.std.proofs.Common.{◌≡◌, ℕ, ◌==◌, Bool, true, false, List, [], ◌∷◌, ◌++◌, Option, Some, None, refl, sym, ap, subst, ◌∙◌, append_assoc, arith, eqb-true}
 use Rattle.std.specs.Prelude.{if◌then◌else◌}
-use Rattle.std.specs.BTreeMap.{BTreeMap, Updates, get, is_at}
+use Rattle.std.specs.BTreeMap.{BTreeMap, Updates, get}
 use Rattle.std.specs.Cmp.{unsigned_tied}
 use Rattle.std.specs.Global.{Vec}
 use Rattle.std.specs.List.{list_any}
 use Rattle.std.specs.Option.{is_some, option_map}
 use Rattle.std.specs.Ordering.{nat_cmp}
-use Rattle.std.proofs.lemmas.Bool.{or_left, or_right}
 use Rattle.std.proofs.lemmas.Bool.Decides.{nat_tests}
 use Rattle.std.proofs.lemmas.List.{append-nil}
-use Rattle.std.proofs.lemmas.List.Folds.{Any-from_list_any, list_any-append}
-use Rattle.std.proofs.lemmas.List.Elements.{All-push}
+use Rattle.std.proofs.lemmas.List.Folds.{list_any-append}
 use Rattle.dwarf_abbrev.specs.declared.spec.Spec.{Spec}
 use Rattle.dwarf_abbrev.specs.Declarations.{Declaration, declared}
 use Rattle.dwarf_abbrev.specs.Values.{TakesNoBytes}
 use Rattle.dwarf_units.specs.Filling.{AreRootsOf, GiveSameRoots, IsIndexOf, filled_from, specs_at}
-use Rattle.dwarf_units.proofs.SameRoots.{has, without_again}
+use Rattle.dwarf_units.proofs.SameRoots.{without_again}
 use Rattle.dwarf_claims.specs.Indexes.{AreAmong, GiveTheSame, HasEntry, IsFilled, IsFound}
 
 -- an attribute that is kept
@@ -25,21 +23,15 @@ kept s old new is = λ rest shape w r within.
     ap (λ (xs : List Spec). filled_from shape xs w r) (ap (λ (xs : List Spec). xs ++ rest) is ∙ append_assoc old (s ∷ []) rest)
 
 -- an attribute that is left out
-pub skipped_again : (s : Spec) (old : List Spec) (numbers : List ℕ) → TakesNoBytes s → AreAmong numbers old → list_any (λ m. nat_eq m s.attribute) numbers ≡ true → GiveTheSame old s old
-skipped_again s old numbers bare among again = λ rest.
-    let first = Any-from_list_any (λ m. nat_eq m s.attribute) numbers again in
-    without_again s old rest bare (subst (λ (n : ℕ). has n old ≡ true) (first.3 ∙ eqb-true first.1 s.attribute first.4) (among first.0 first.1 first.2))
+pub skipped_again : (s : Spec) (old : List Spec) (numbers : List ℕ) → TakesNoBytes s → AreAmong numbers old → list_any (λ m. m == s.attribute) numbers ≡ true → GiveTheSame old s old
+skipped_again s old numbers bare among again = λ rest. without_again s old rest bare (among s.attribute again)
 
 -- the numbers of the attributes that are kept
 pub among_more : (s : Spec) (numbers : List ℕ) (old new : List Spec) → new ≡ old ++ s ∷ [] → AreAmong numbers old → AreAmong numbers new
-among_more s numbers old new is among = λ k d lt. let n = get_or numbers k d in
-    ap (has n) is ∙ list_any-append (λ k. k.attribute == n) old (s ∷ []) ∙ or_left (has n old) (has n (s ∷ [])) (among k d lt)
+among_more s numbers old new is among = λ n has. grind (arith, nat_tests, is, list_any-append (λ k. k.attribute == n) old (s ∷ []), among n has)
 
 pub among_both : (s : Spec) (numbers more : List ℕ) (old new : List Spec) → new ≡ old ++ s ∷ [] → more ≡ numbers ++ s.attribute ∷ [] → AreAmong numbers old → AreAmong more new
-among_both s numbers more old new is are among =
-    let same : (s.attribute == s.attribute) ≡ true = grind (arith, nat_tests) in
-    let last = or_right (has s.attribute old) (has s.attribute (s ∷ [])) (or_left (s.attribute == s.attribute) false same) in
-    rw are (All-push (λ (n : ℕ). has n new ≡ true) numbers s.attribute (among_more s numbers old new is among) (ap (has s.attribute) is ∙ list_any-append (λ k. k.attribute == s.attribute) old (s ∷ []) ∙ last))
+among_both s numbers more old new is are among = λ n has. grind (arith, nat_tests, is, are, has, list_any-append (λ k. k.attribute == n) old (s ∷ []), list_any-append (λ m. m == n) numbers (s.attribute ∷ []), among n)
 
 -- all attributes of a declaration
 pub same_goes : (s : Spec) (old new xs ys all : List Spec) → GiveTheSame old s new → ys ≡ s ∷ xs → GiveSameRoots (old ++ ys) all → GiveSameRoots (new ++ xs) all
@@ -62,37 +54,30 @@ filled_ends all xs index none filled = λ code. by_entry (specs_at index code) (
     by_entry (Some specs) d e = e
 
 -- a declaration whose code has one already
+found_any : (o : Option (List Spec)) (whole rest other : Option Declaration) → is_some o ≡ true → IsFound o whole other → IsFound o whole rest
+found_any None whole rest other some found = cc
+found_any (Some specs) whole rest other some found = found
+
 pub entry_known : (d : Declaration) (index : ℕ → Option (List Spec)) → is_some (index d.code) ≡ true → HasEntry d index index
-entry_known d index known = λ all rest filled code. by_entry all rest code (index code) refl (d.code == code) refl (filled code)
+entry_known d index known = λ all rest filled code. by_code all rest code (d.code == code) refl (filled code)
   where
-    by_entry : (all rest : List Declaration) (code : ℕ) (specs : Option (List Spec)) → index code ≡ specs → (b : Bool) → (d.code == code) ≡ b
-        → IsFound (index code) (declared all code) (if b then Some d else declared rest code) → IsFound (index code) (declared all code) (declared rest code)
-    by_entry all rest code specs is false other found = found
-    by_entry all rest code (Some specs) is true same found = subst (λ (o : Option (List Spec)). IsFound o (declared all code) (declared rest code)) (sym is) (subst (λ (o : Option (List Spec)). IsFound o (declared all code) (Some d)) is found)
-    by_entry all rest code None is true same found =
-        let here : index d.code ≡ None = ap index (eqb-true d.code code same) ∙ is in
-        let impossible : false ≡ true = rw here at known in
-        cc
+    by_code : (all rest : List Declaration) (code : ℕ) (b : Bool) → (d.code == code) ≡ b → IsFound (index code) (declared all code) (if b then Some d else declared rest code) → IsFound (index code) (declared all code) (declared rest code)
+    by_code all rest code false other found = found
+    by_code all rest code true same found = found_any (index code) (declared all code) (declared rest code) (Some d) (rw (eqb-true d.code code same) at known) found
 
 -- a declaration of a new code
-absent : {X : Type 0} (o : Option X) → is_some o ≡ false → o ≡ None
-absent None e = refl
-absent (Some x) e = cc
-
 pub entry_new : (d : Declaration) (old new : BTreeMap ℕ (Vec Spec)) (specs : Vec Spec) → is_some (get nat_cmp old d.code) ≡ false → GiveSameRoots specs.items d.specs → Updates nat_cmp old new d.code (Some specs)
     → HasEntry d (specs_at old) (specs_at new)
 entry_new d old new specs fresh same updates = λ all rest filled code. by_code all rest code (d.code == code) refl (filled code)
   where
+    by_old : (whole : Option Declaration) (o : Option (Vec Spec)) → is_some o ≡ false → IsFound (option_map (λ v. v.items) o) whole (Some d) → AreRootsOf whole (Some specs.items)
+    by_old whole None none found = rw found same
+    by_old whole (Some v) none found = cc
+
     by_code : (all rest : List Declaration) (code : ℕ) (b : Bool) → (d.code == code) ≡ b → IsFound (specs_at old code) (declared all code) (if b then Some d else declared rest code)
         → IsFound (specs_at new code) (declared all code) (declared rest code)
     by_code all rest code true is found =
-        let tied : is_at (nat_cmp d.code) code ≡ true = unsigned_tied d.code code ∙ is in
-        let got : get nat_cmp new code ≡ Some specs = rw tied at (updates.0 code) in
-        let none : get nat_cmp old code ≡ None = ap (get nat_cmp old) (sym (eqb-true d.code code is)) ∙ absent (get nat_cmp old d.code) fresh in
-        let whole : declared all code ≡ Some d = rw none at found in
-        subst (λ (o : Option (Vec Spec)). IsFound (option_map (λ v. v.items) o) (declared all code) (declared rest code)) (sym got)
-        (subst (λ (x : Option Declaration). AreRootsOf x (Some specs.items)) (sym whole) same)
-    by_code all rest code false is found =
-        let tied : is_at (nat_cmp d.code) code ≡ false = unsigned_tied d.code code ∙ is in
-        let got : get nat_cmp new code ≡ get nat_cmp old code = rw tied at (updates.0 code) in
-        subst (λ (o : Option (Vec Spec)). IsFound (option_map (λ v. v.items) o) (declared all code) (declared rest code)) (sym got) found
+        let got : get nat_cmp new code ≡ Some specs = rw (unsigned_tied d.code code ∙ is) at (updates.0 code) in
+        let here : is_some (get nat_cmp old code) ≡ false = rw (eqb-true d.code code is) at fresh in
+        rw got (by_old (declared all code) (get nat_cmp old code) here found)
+    by_code all rest code false is found = let got : get nat_cmp new code ≡ get nat_cmp old code = rw (unsigned_tied d.code code ∙ is) at (updates.0 code) in rw got found

@@ -1,64 +1,37 @@
--- A binary search finds the label of the unit at an offset.
-use Rattle.std.proofs.Common.{◌≡◌, ℕ, zero, suc, ◌+◌, ◌<◌, ◌≤◌, ◌==◌, true, false, List, [], ◌∷◌, ◌++◌, length, get_or, Some, None, Result, Ok, Err, refl, sym, arith}
-use Rattle.std.specs.Prelude.{MatchResult}
-use Rattle.std.specs.List.Sorted.{IsSearchInRange, IsBinarySearchResult, IsNonDecreasingBy}
-use Rattle.std.specs.Ordering.{nat_cmp, ordering_index}
-use Rattle.std.proofs.lemmas.Bool.Decides.{nat_tests}
-use Rattle.std.proofs.lemmas.Cmp.{ranked}
-use Rattle.std.proofs.lemmas.List.Elements.{All-push}
+-- Rows and units whose labels are known by a claim.
+use Rattle.std.proofs.Common.{◌≡◌, ℕ, ◌<◌, List, [], ◌∷◌, ◌++◌, Option, Result, Ok, get_or, length, set, subst, sym, arith}
+use Rattle.std.proofs.lemmas.List.Elements.{All-push, All-set}
 use Rattle.size_core.specs.declared.fault.BadFile.{BadFile}
 use Rattle.size_model.specs.declared.view.LabelledClaim.{LabelledClaim}
-use Rattle.claim_sheet.specs.Known.{IsKnown}
-use Rattle.claim_sheet.specs.Sheets.{Sheet, adding_read}
-use Rattle.claim_sheet.proofs.KnownLemmas.{known_read}
+use Rattle.claim_sheet.specs.Known.{IsKnown, IsKnownBy}
+use Rattle.claim_sheet.specs.Sheets.{Sheet, adding, adding_read}
+use Rattle.claim_sheet.proofs.KnownLemmas.{known_after, known_read}
+use Rattle.dwarf_lines.specs.declared.registers.LineRow.{LineRow}
+use Rattle.dwarf_line_header.specs.Header.{LineHeader}
 use Rattle.dwarf_claims.specs.declared.known.KnownUnit.{KnownUnit}
-use Rattle.dwarf_claims.specs.SetClaims.{label_at}
-use Rattle.dwarf_claims.specs.Tables.{AreKnownUnits, AreReadUnits, Ascends, shown_units}
+use Rattle.dwarf_claims.specs.declared.known_rows.KnownRow.{KnownRow}
+use Rattle.dwarf_claims.specs.LineClaims.{label_by, row_label}
+use Rattle.dwarf_claims.specs.RowSteps.{AreKnownRows, IsKnownRow}
+use Rattle.dwarf_claims.specs.Tables.{AreKnownUnits, AreReadUnits}
 
--- no unit has an offset below the first one
-above : (n : ℕ) (units : List KnownUnit) (k : ℕ) (d : KnownUnit) → Ascends n (shown_units units) → k < length units → n ≤ (get_or units k d).offset
-above n [] k d up lt = absurd (omega arith)
-above n (u ∷ us) zero d up lt = up.0
-above n (u ∷ us) (suc k) d up lt = let rest = above (u.offset + 1) us k d up.1 (omega arith) in omega (arith, rest, up.0)
+-- a known row of the same file and line has the label of the row
+pub known_is : (made : List LabelledClaim) (h : LineHeader) (rows : List KnownRow) (i : ℕ) (known : KnownRow) (row : LineRow) → AreKnownRows made h rows → known ≡ get_or rows i known → i < length rows → known.file ≡ row.file → known.line ≡ row.line
+    → IsKnownBy made (row_label h row) known.claim
+unfolding AreKnownRows row_label
+known_is made h rows i known row all at within file line =
+    let is : IsKnownRow made h known = subst (λ (k : KnownRow). IsKnownRow made h k) (sym at) (all i known within) in
+    rw (← file, ← line) is
 
-rise : (n : ℕ) (units : List KnownUnit) (i j : ℕ) (d : KnownUnit) → Ascends n (shown_units units) → i ≤ j → j < length units → (get_or units i d).offset ≤ (get_or units j d).offset
-rise n [] i j d up le lt = absurd (omega arith)
-rise n (u ∷ us) zero zero d up le lt = omega arith
-rise n (u ∷ us) zero (suc j) d up le lt = let rest = above (u.offset + 1) us j d up.1 (omega arith) in omega (arith, rest)
-rise n (u ∷ us) (suc i) zero d up le lt = absurd (omega arith)
-rise n (u ∷ us) (suc i) (suc j) d up le lt = rise (u.offset + 1) us i j d up.1 (omega arith) (omega arith)
+-- a row that is stored
+pub stored : (made : List LabelledClaim) (h : LineHeader) (rows : List KnownRow) (i file line : ℕ) (claim : Option ℕ) → IsKnownBy made (label_by h file line) claim → AreKnownRows made h rows
+    → AreKnownRows made h (set rows i (record { file = file; line = line; claim = claim }))
+unfolding AreKnownRows
+stored made h rows i file line claim is all = All-set (IsKnownRow made h) rows i (record { file = file; line = line; claim = claim }) is all
 
--- the unit that has the offset is the first that has it
-found : (n : ℕ) (units : List KnownUnit) (i offset : ℕ) (d : KnownUnit) → Ascends n (shown_units units) → i < length units → (get_or units i d).offset ≡ offset → label_at (shown_units units) offset ≡ Some (get_or units i d).label.text.now
-found n [] i offset d up lt is = absurd (omega arith)
-found n (u ∷ us) zero offset d up lt is = let test : (u.offset == offset) ≡ true = grind (arith, nat_tests) in rw test refl
-found n (u ∷ us) (suc i) offset d up lt is =
-    let later = above (u.offset + 1) us i d up.1 (omega arith) in
-    let test : (u.offset == offset) ≡ false = grind (arith, nat_tests, later, is) in
-    rw test (found (u.offset + 1) us i offset d up.1 (omega arith) is)
-
-absent : (units : List KnownUnit) (offset : ℕ) → ((k : ℕ) (d : KnownUnit) → k < length units → (get_or units k d).offset ≡ offset → ⊥) → label_at (shown_units units) offset ≡ None
-absent [] offset none = refl
-absent (u ∷ us) offset none =
-    let here : u.offset ≡ offset → ⊥ = none 0 u (omega arith) in
-    let test : (u.offset == offset) ≡ false = grind (arith, nat_tests, here) in
-    rw test (absent us offset (λ k d lt is. none (suc k) d (omega arith) is))
-
-module _ (units : List KnownUnit) (up : Ascends 0 (shown_units units)) (offset : ℕ) where
-  -- the comparisons rise along the list, as a binary search asks
-  comparisons_rise : IsNonDecreasingBy (λ u. ordering_index (nat_cmp u.offset offset)) units
-  comparisons_rise i j d le lt = let rising = rise 0 units i j d up le lt in grind (arith, nat_tests)
-
-  pub searched : (r : Result ℕ ℕ) → IsSearchInRange r (length units) → IsBinarySearchResult (λ u. nat_cmp u.offset offset) units r
-      → MatchResult r (λ i. (d : KnownUnit) → label_at (shown_units units) offset ≡ Some (get_or units i d).label.text.now) (λ i. label_at (shown_units units) offset ≡ None)
-  searched (Ok i) in_range equal = λ d. found 0 units i offset d up (omega arith) (ranked _ offset _ (sym (equal d)))
-  searched (Err i) in_range parted = absent units offset (λ k d lt is. differs k d lt is)
-    where
-      differs : (k : ℕ) (d : KnownUnit) → k < length units → (get_or units k d).offset ≡ offset → ⊥
-      differs k d lt is =
-          let before : k < i → (get_or units k d).offset < offset = λ low. ranked _ offset _ (sym ((parted comparisons_rise).0 k d (omega arith) low)) in
-          let behind : i ≤ k → offset < (get_or units k d).offset = λ high. ranked _ offset _ (sym ((parted comparisons_rise).1 k d high lt)) in
-          grind (arith, before, behind)
+-- rows that are known before claims are added are known after that
+pub rows_after : (s t : Sheet) (xs : List LabelledClaim) (h : LineHeader) (rows : List KnownRow) → t ≡ adding s xs → AreKnownRows s.made h rows → AreKnownRows t.made h rows
+unfolding AreKnownRows
+rows_after s t xs h rows e known = λ k d lt. known_after s t xs (label_by h (get_or rows k d).file (get_or rows k d).line) (get_or rows k d).claim e (known k d lt)
 
 pub units_none : (made : List LabelledClaim) → AreKnownUnits made []
 unfolding AreKnownUnits

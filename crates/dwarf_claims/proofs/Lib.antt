@@ -1,10 +1,6 @@
 pub mod Ascending
 pub mod IndexLemmas
+pub mod KeptLemmas
 pub mod KnownLemmas
-pub mod KnownRowLemmas
-pub mod LabelLemmas
-pub mod Lists
-pub mod ProgramLemmas
-pub mod RangeLemmas
 pub mod RowLemmas
-pub mod TableLemmas
+pub mod StopLemmas

@@ -1,5 +1,5 @@
 -- An index of a table of abbreviations while it is made.
-use Rattle.std.specs.Prelude.{◌≡◌, ℕ, ◌==◌, true, List, ◌∷◌, ◌++◌, Option, None, Some, All}
+use Rattle.std.specs.Prelude.{◌≡◌, ℕ, ◌==◌, true, List, ◌∷◌, ◌++◌, Option, None, Some}
 use Rattle.std.specs.List.{list_any}
 use Rattle.dwarf_abbrev.specs.declared.spec.Spec.{Spec}
 use Rattle.dwarf_abbrev.specs.Declarations.{Declaration, declared}
@@ -7,7 +7,7 @@ use Rattle.dwarf_units.specs.Filling.{AreRootsOf, GiveSameRoots}
 
 -- Each of these numbers is that of one of the attributes.
 abbrev pub AreAmong : List ℕ → List Spec → Type 0
-AreAmong numbers specs = All (λ n. list_any (λ s. s.attribute == n) specs ≡ true) numbers
+AreAmong numbers specs = (n : ℕ) → list_any (λ m. m == n) numbers ≡ true → list_any (λ s. s.attribute == n) specs ≡ true
 
 -- The attributes `new` give the same roots as the attributes `old` and one more, whatever comes after them.
 abbrev pub GiveTheSame : List Spec → Spec → List Spec → Type 0

@@ -11,11 +11,6 @@ abbrev pub HaveSameRanges : Bool → RangeKey → RangeKey → Type 0
 HaveSameRanges true a b = AreOneList a b
 HaveSameRanges false a b = a ≡ b
 
--- Both keys exist, and units with them have the same ranges.
-abbrev pub AreSameKeys : Bool → Option RangeKey → Option RangeKey → Type 0
-AreSameKeys is_hollow (Some a) (Some b) = HaveSameRanges is_hollow a b
-AreSameKeys is_hollow _ _ = ⊥
-
 -- The kept ranges, if they have a key, are those of the key.
 abbrev pub AreKnownBy : Sections → Option RangeKey → List (ℕ × ℕ) → Type 0
 AreKnownBy s None ranges = Unit {0}

@@ -1,5 +1,5 @@
 -- The claims of source lines.
-use Rattle.std.specs.Prelude.{ℕ, ◌-◌, List, [], ◌∷◌, ◌++◌, codes, decimal, nat_lt, Option, None, Some, Result, Ok, Err, if◌then◌else◌}
+use Rattle.std.specs.Prelude.{ℕ, ◌-◌, List, [], ◌∷◌, ◌++◌, codes, decimal, drop, get_or, nat_lt, Option, None, Some, Result, Ok, Err, if◌then◌else◌}
 use Rattle.std.specs.List.{flat_map}
 use Rattle.size_core.specs.declared.fault.BadFile.{BadFile}
 use Rattle.size_core.specs.Checks.{◌>>=◌}
@@ -42,8 +42,7 @@ pair_claims h row (next ∷ rows) = pair_claim h row next ++ pair_claims h next 
 
 -- A row put before the rows of the first sequence.
 abbrev pub in_front : LineRow → List (List LineRow) → List (List LineRow)
-in_front row [] = (row ∷ []) ∷ []
-in_front row (rows ∷ sequences) = (row ∷ rows) ∷ sequences
+in_front row sequences = (row ∷ get_or sequences 0 []) ∷ drop 1 sequences
 
 -- The rows of a program as sequences. A sequence ends with a row of `DW_LNE_end_sequence`, or with the program (DWARF
 -- 5, section 6.2.5).

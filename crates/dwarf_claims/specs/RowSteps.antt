@@ -1,10 +1,10 @@
 -- The claims of rows, one row at a time: what the walk over the rows of a program does at each.
-use Rattle.std.specs.Prelude.{◌≡◌, ℕ, not, All, Bool, List, [], ◌∷◌, take, Option, None, Some, Result, Ok, Err, if◌then◌else◌}
+use Rattle.std.specs.Prelude.{◌≡◌, ℕ, not, All, Bool, List, [], ◌++◌, drop, get_or, take, Option, None, Some, Result, Ok, Err, if◌then◌else◌}
+use Rattle.std.specs.List.{flat_map}
 use Rattle.size_core.specs.declared.fault.BadFile.{BadFile}
 use Rattle.size_core.specs.Checks.{◌>>=◌}
 use Rattle.size_model.specs.declared.view.LabelledClaim.{LabelledClaim}
 use Rattle.claim_sheet.specs.Known.{IsKnownBy}
-use Rattle.claim_sheet.specs.Read.{joined}
 use Rattle.dwarf_lines.specs.declared.registers.LineRow.{LineRow}
 use Rattle.dwarf_line_header.specs.Header.{LineHeader}
 use Rattle.dwarf_lines.specs.Paths.{path_of}
@@ -14,7 +14,7 @@ use Rattle.dwarf_claims.specs.declared.known_rows.KnownRow.{KnownRow}
 use Rattle.dwarf_claims.specs.declared.row_label.RowLabel.{RowLabel}
 use Rattle.dwarf_claims.specs.declared.row_labels.RowLabels.{RowLabels}
 use Rattle.dwarf_claims.specs.UnitClaims.{Reading}
-use Rattle.dwarf_claims.specs.LineClaims.{label_by, pair_claim}
+use Rattle.dwarf_claims.specs.LineClaims.{label_by, pair_claim, pair_claims, sequence_claims, sequences_of, whole_rows}
 
 -- The claim of the previous row, which ends at this row. There is none at the first row of a sequence, or if the
 -- sequence makes no claims.
@@ -41,10 +41,15 @@ unfoldable pub next_before : ℕ → Option Before → Result LineRow BadFile �
 next_before size before (Ok row) = previous_of_next size before row
 next_before size before (Err e) = None
 
+-- The claims of sequences of rows after a previous row, whose sequence the first of them continues.
+abbrev pub sequences_after : LineHeader → ℕ → Option Before → List (List LineRow) → List LabelledClaim
+sequences_after h size None sequences = flat_map (sequence_claims h size) sequences
+sequences_after h size (Some before) sequences =
+    (if before.claims then pair_claims h before.row (get_or sequences 0 []) else []) ++ flat_map (sequence_claims h size) (drop 1 sequences)
+
 -- The claims of these rows after a previous row, or the fault among them.
 unfoldable pub claims_from : LineHeader → ℕ → Option Before → List (Result LineRow BadFile) → Reading
-claims_from h size before [] = Ok []
-claims_from h size before (row ∷ rows) = joined (row_claims h before row) (claims_from h size (next_before size before row) rows)
+claims_from h size before rows = whole_rows rows >>= λ all. Ok (sequences_after h size before (sequences_of all))
 
 -- The label begins with the path of its file.
 abbrev pub HasPath : LineHeader → RowLabel → Type 0

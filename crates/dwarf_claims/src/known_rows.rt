@@ -55,7 +55,7 @@ impl KnownRows {
     }
 
     /// Returns the position of a claim that has the label of a row, if one is known.
-    #[tactic(auto, using(crate::proofs::KnownRowLemmas::known_is))]
+    #[tactic(auto, using(crate::proofs::KnownLemmas::known_is))]
     pub fn claim_of(&self, row: &LineRow) -> Option<usize>
         ensures { (made : List LabelledClaim) (h : LineHeader)
             → AreKnownRows made h self.now.rows.items
@@ -68,6 +68,7 @@ impl KnownRows {
     }
 
     /// Stores the position of a claim that has the label of a row.
+    #[tactic(auto, using(crate::proofs::KnownLemmas::stored), unfolding(crate::specs::LineClaims::row_label))]
     pub fn keep(&mut self, row: &LineRow, claim: Option<usize>)
         ensures { (made : List LabelledClaim) (h : LineHeader)
             → AreKnownRows made h self.old.rows.items

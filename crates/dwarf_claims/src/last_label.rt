@@ -33,7 +33,7 @@ fn is_last(last: Option<StringAt>, name: Option<StringAt>) -> bool
 impl<'a> LastLabel<'a> {
     /// Sets `self` to the label of a unit. A name that the unit before had isn't read again. The fault is that of the
     /// name.
-    #[tactic(auto, using(crate::proofs::LabelLemmas::label_again, crate::proofs::LabelLemmas::label_new))]
+    #[tactic(auto, using(crate::proofs::KeptLemmas::label_again, crate::proofs::KeptLemmas::label_new))]
     pub fn read(&mut self, root: &Root<'a>, sections: &Sections<'a>) -> Result<(), BadFile>
         requires { IsLabelOf sections.now self.old }
         ensures label { Gives (λ _. self.new.label.text.now) result

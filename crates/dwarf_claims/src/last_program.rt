@@ -59,7 +59,7 @@ fn read_program(
 
 /// Adds the claims of the line program that a unit names, if it names one. The program that was read last isn't read
 /// again for a unit of the same shape: its claims are copied. Bad is the first fault of the program.
-#[tactic(auto, using(claim_sheet::proofs::SheetLemmas::adding_none))]
+#[tactic(auto, using(claim_sheet::proofs::SheetLemmas::adding_none, crate::proofs::KeptLemmas::program_again, crate::proofs::KeptLemmas::program_still, crate::proofs::KeptLemmas::program_new))]
 pub fn add_program(
     alloc: Global,
     sections: &Sections<'_>,

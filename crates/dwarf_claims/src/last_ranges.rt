@@ -3,7 +3,7 @@
 ghost use Rattle.std.specs.Prelude.{◌≡◌, true};
 ghost use Rattle.dwarf_ranges.specs.Ranges.{ranges_of};
 ghost use Rattle.dwarf_units.specs.Roots.{shown_root};
-ghost use Rattle.dwarf_claims.specs.KnownRanges.{AreRangesOf, AreSameKeys, HaveSameRanges, IsHollowBy};
+ghost use Rattle.dwarf_claims.specs.KnownRanges.{AreRangesOf, HaveSameRanges, IsHollowBy};
 ghost use Rattle.dwarf_claims.specs.Reads.{Reads};
 
 use claim_sheet::Stop;
@@ -31,16 +31,6 @@ fn have_same_ranges(is_hollow: bool, last: &RangeKey, key: &RangeKey) -> bool
         last.is_list_of(key)
     } else {
         last.is_same(key)
-    }
-}
-
-// Returns whether there is a key and the last ranges are those of this key.
-fn is_last(is_hollow: bool, last: Option<RangeKey>, key: Option<RangeKey>) -> bool
-    ensures { result ≡ true → AreSameKeys is_hollow last key }
-{
-    match (last, key) {
-        (Some(last), Some(key)) => have_same_ranges(is_hollow, &last, &key),
-        _ => false,
     }
 }
 
@@ -76,7 +66,7 @@ fn ranges_of(
 /// Sets `last` to the ranges of a unit, without those that claim nothing. The list that the unit before named is read
 /// again only if the two units differ in what its ranges depend on. A list without ranges doesn't depend on the
 /// unit's first address. Bad is the first fault of the ranges.
-#[tactic(auto, using(crate::proofs::RangeLemmas::known_again, crate::proofs::RangeLemmas::known_new))]
+#[tactic(auto, using(crate::proofs::KeptLemmas::ranges_again, crate::proofs::KeptLemmas::ranges_new))]
 pub fn read_ranges(
     alloc: Global,
     sections: &Sections<'_>,
@@ -89,7 +79,9 @@ pub fn read_ranges(
     ensures last { AreRangesOf sections.now last.new }
 {
     let key = range_key(root, sections);
-    if is_last(last.is_hollow, last.key, key) {
+    if let (Some(known), Some(key)) = (last.key, key)
+        && have_same_ranges(last.is_hollow, &known, &key)
+    {
         return Ok(());
     }
     let ranges = ranges_of(alloc, sections, root)?;

@@ -107,7 +107,7 @@ fn add_row(
 
 /// Adds the claims of the rows of a line program, for a unit with addresses of `size` bytes. Bad is the fault of the
 /// rows.
-#[tactic(auto, using(crate::proofs::RowLemmas::ends, crate::proofs::RowLemmas::passes, crate::proofs::RowLemmas::streamed))]
+#[tactic(auto, using(crate::proofs::RowLemmas::ends, crate::proofs::RowLemmas::passes))]
 pub fn add_rows(
     alloc: Global,
     program: &LineProgram<'_>,

@@ -34,7 +34,7 @@ impl RowLabels {
     }
 
     /// Adds a claim under the label of a row, and stores its position. A label that is known isn't written again.
-    #[tactic(auto, using(crate::proofs::KnownRowLemmas::rows_after))]
+    #[tactic(auto, using(crate::proofs::KnownLemmas::rows_after))]
     pub fn add(
         &mut self,
         program: &LineProgram<'_>,

@@ -33,7 +33,7 @@ fn add_tuple(
 }
 
 // Adds the claims of a set under the label of its unit.
-#[tactic(auto, using(crate::proofs::Lists::left_goes, claim_sheet::proofs::ListLemmas::none_left, claim_sheet::proofs::SheetLemmas::adding_more), unfolding(crate::specs::SetClaims::named_claims))]
+#[tactic(auto, using(claim_sheet::proofs::LoopLemmas::list_goes, claim_sheet::proofs::ListLemmas::none_left, claim_sheet::proofs::SheetLemmas::adding_more), unfolding(crate::specs::SetClaims::named_claims))]
 fn add_named(
     set: AddressSet<'_>,
     label: KnownLabel<'_>,

@@ -4,7 +4,6 @@
 
 ghost use Rattle.std.specs.Prelude.{◌≡◌};
 ghost use Rattle.size_core.specs.Checks.{Gives};
-ghost use Rattle.dwarf_units.specs.declared.sections.Sections.{Sections as SectionsSpec};
 ghost use Rattle.dwarf_units.specs.Filling.{code_of};
 ghost use Rattle.dwarf_units.specs.Roots.{root_in, root_of, shown_root};
 ghost use Rattle.dwarf_claims.specs.Codes.{IsKnownOf};
@@ -80,23 +79,8 @@ pub struct LastTables<'a> {
     pub older: Option<LastTable<'a>>,
 }
 
-impl<'a> LastTables<'a> {
-    // Swaps the tables unless the recent one has this offset. So the table that was used last is never the one that
-    // the next new table replaces.
-    fn turn_to(&mut self, offset: u64)
-        ensures { (s : SectionsSpec) → AreTablesOf s self.old → AreTablesOf s self.new }
-    {
-        if let Some(recent) = &self.recent
-            && recent.offset == offset
-        {
-            return;
-        }
-        swap(&mut self.recent, &mut self.older);
-    }
-}
-
 // Returns the root of a unit. If `last` isn't its table, its table is read and replaces `last`.
-#[tactic(auto, using(crate::proofs::TableLemmas::same_table, crate::proofs::TableLemmas::still_read))]
+#[tactic(auto, using(crate::proofs::KeptLemmas::same_table, crate::proofs::KeptLemmas::still_read))]
 fn root_by_last<'a>(
     alloc: Global,
     sections: &Sections<'a>,
@@ -122,8 +106,9 @@ fn root_by_last<'a>(
     Ok(root?)
 }
 
-/// Returns the root of a unit. Its table of abbreviations is read only if it isn't one of the last two. Bad is the first
-/// fault of the table or the root.
+/// Returns the root of a unit. Its table of abbreviations is read only if it isn't one of the last two. The table that was
+/// used last is never the one that the next new table replaces. Bad is the first fault of the table or the root.
+#[tactic(auto, using(crate::proofs::KeptLemmas::still_read))]
 pub fn root_of<'a>(
     alloc: Global,
     sections: &Sections<'a>,
@@ -134,6 +119,11 @@ pub fn root_of<'a>(
     ensures root { Reads shown_root result (root_of sections.now unit.now) }
     ensures tables { AreTablesOf sections.now last.new }
 {
-    last.turn_to(unit.abbrev_offset);
+    if let Some(recent) = &mut last.recent
+        && recent.offset == unit.abbrev_offset
+    {
+        return recent.root_again(alloc, unit);
+    }
+    swap(&mut last.recent, &mut last.older);
     root_by_last(alloc, sections, unit, &mut last.recent)
 }

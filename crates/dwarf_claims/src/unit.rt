@@ -51,7 +51,7 @@ fn add_range(
 }
 
 // Adds the claims of ranges, in order.
-#[tactic(auto, using(crate::proofs::Lists::drop_goes, crate::proofs::Lists::drop_ends))]
+#[tactic(auto, using(claim_sheet::proofs::LoopLemmas::list_goes, claim_sheet::proofs::ListLemmas::none_left, std::proofs::lemmas::List::drop_more, std::proofs::lemmas::List::drop_all))]
 fn add_ranges(
     ranges: &[(u64, u64)],
     label: &mut KnownLabel<'_>,
@@ -69,7 +69,7 @@ fn add_ranges(
 
 impl UnitParts<'_, '_> {
     // Adds the claims of the unit.
-    #[tactic(auto, using(claim_sheet::proofs::SheetLemmas::adding_more, claim_sheet::proofs::SheetLemmas::adding_none, crate::proofs::Lists::append_none), unfolding(crate::specs::UnitClaims::told_claims))]
+    #[tactic(auto, using(claim_sheet::proofs::SheetLemmas::adding_more, claim_sheet::proofs::SheetLemmas::adding_none, crate::proofs::StopLemmas::append_none), unfolding(crate::specs::UnitClaims::told_claims))]
     fn add(self, label: &mut KnownLabel<'_>, sheet: &mut ClaimSheet) -> Result<(), NoMemory>
         requires { IsKnown sheet.old.made label.old }
         ensures { AddsUnder label.old label.new result sheet.old sheet.new

@@ -59,7 +59,7 @@ fn add_item<'a>(
 }
 
 // Adds the claims of all units, in order, and returns their offsets and labels.
-#[tactic(auto, using(crate::proofs::KnownLemmas::units_none, claim_sheet::proofs::LoopLemmas::read_list_goes, claim_sheet::proofs::LoopLemmas::read_list_ends, crate::proofs::Lists::kept_goes), unfolding(crate::specs::UnitClaims::units_claims))]
+#[tactic(auto, using(crate::proofs::KnownLemmas::units_none, claim_sheet::proofs::LoopLemmas::read_list_goes, claim_sheet::proofs::LoopLemmas::read_list_ends, std::proofs::Common::append_assoc), unfolding(crate::specs::UnitClaims::units_claims))]
 fn add_each<'a>(
     alloc: Global,
     sections: &Sections<'a>,

@@ -1,5 +1,5 @@
 -- A symbol has the fault of its name, and the labels that were read stay known.
-use Rattle.std.proofs.Common.{◌≡◌, ℕ, List, Err, refl, sym}
+use Rattle.std.proofs.Common.{◌≡◌, ℕ, List, Err, refl}
 use Rattle.size_core.specs.declared.fault.BadFile.{BadFile}
 use Rattle.size_model.specs.declared.view.LabelledClaim.{LabelledClaim}
 use Rattle.claim_sheet.specs.Known.{IsKnown}

@@ -1,12 +1,13 @@
-pub mod AddedLemmas
 pub mod AloneLemmas
 pub mod ClaimLemmas
 pub mod CountLemmas
 pub mod EffectLemmas
+pub mod FaultLemmas
 pub mod LawLemmas
 pub mod MapLemmas
 pub mod NumberLemmas
 pub mod PairLemmas
+pub mod PathLemmas
 pub mod PlaceLemmas
 pub mod ProfileLemmas
 pub mod SpellLemmas

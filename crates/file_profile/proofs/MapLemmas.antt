@@ -1,5 +1,5 @@
 -- How the maps of a file grow, data source by data source.
-use Rattle.std.proofs.Common.{◌≡◌, ◌+◌, ◌-◌, ◌≤◌, ℕ, List, [], ◌∷◌, ◌++◌, length, Result, Err, Some, refl, ap, ◌∙◌, arith}
+use Rattle.std.proofs.Common.{◌≡◌, ◌+◌, ◌-◌, ◌≤◌, ℕ, List, [], ◌∷◌, ◌++◌, length, Result, Ok, Err, Some, refl, ap, ◌∙◌, arith}
 use Rattle.std.specs.Prelude.{slice_get, Vec}
 use Rattle.std.specs.declared.alloc.Global.{Global}
 use Rattle.std.specs.List.{sum_by}
@@ -24,7 +24,7 @@ use Rattle.file_profile.specs.MapLabels.{AreMapped, IsMapped, Spells, file_at}
 use Rattle.file_profile.specs.Views.{source_view, views_of}
 use Rattle.file_profile.proofs.NumberLemmas.{zip-weaker}
 use Rattle.file_profile.proofs.SpellLemmas.{Spells-kept}
-use Rattle.file_profile.proofs.WalkLemmas.{IsRest, rest-more, rest-none, results-none}
+use Rattle.file_profile.proofs.WalkLemmas.{IsRest, rest-more, results-none}
 
 -- `Err` is injective.
 pub err-same : {T E : Type 0} (x y : E) → ◌≡◌ {A = Result T E} (Err x) (Err y) → x ≡ y
@@ -94,11 +94,10 @@ module _ (i left limit : ℕ) (layout : Layout) (f : OpenedFile) (sources : List
     mapped = mapped-next old new maps all m before.views is.made kept joined before.mapped is.shown;
   }
 
--- All data sources are mapped.
-pub mapped-all : (i left limit : ℕ) (layout : Layout) (f : OpenedFile) (sources : List Chosen) (pool : List (List ℕ)) (maps : Vec Maps Global) → i ≡ length sources
-    → AreMappedTo i left limit layout f sources pool maps → IsExpected (AreMapped layout (length sources)) (views_of limit f sources) (record { maps = maps; pool = pool })
-mapped-all i left limit layout f sources pool maps end to = record {
-  made = to.views;
-  are = rest-none (λ (c : Chosen). c.base) source_view f limit left i sources to.views to.rest (omega arith);
-  shown = rw (← end) to.mapped;
-}
+pub ok-same : {X E : Type 0} (x y : X) → ◌≡◌ {A = Result X E} (Ok x) (Ok y) → x ≡ y
+ok-same x y e = cc
+
+-- A step with a value goes on from a value.
+pub from-ok : {X Y A B : Type 0} (f : Result X A → Result Y B) (r : Result X A) (y : Y) → ((e : A) → f (Err e) ≡ Ok y → ⊥) → f r ≡ Ok y → (x : X) × (r ≡ Ok x) × (f (Ok x) ≡ Ok y)
+from-ok f (Ok x) y none is = (x, refl, is)
+from-ok f (Err e) y none is = absurd (none e is)

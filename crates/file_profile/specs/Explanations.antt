@@ -1,5 +1,5 @@
 -- The explanation of one location of a file, or why there is none.
-use Rattle.std.specs.Prelude.{◌≡◌, ℕ, ◌-◌, ◌^◌, nat_lt, Bool, List, [], ◌∷◌, length, Result, Ok, Err, Vec, if◌then◌else◌}
+use Rattle.std.specs.Prelude.{◌≡◌, ℕ, ◌-◌, ◌^◌, nat_lt, Bool, List, [], ◌∷◌, length, Result, Ok, Err, Vec, if◌then◌else◌, map}
 use Rattle.std.specs.declared.alloc.Global.{Global}
 use Rattle.size_core.specs.declared.fault.BadFile.{BadFile}
 use Rattle.size_core.specs.declared.place.Place.{Place}
@@ -14,7 +14,7 @@ use Rattle.data_sources.specs.Views.{view_of, unmapped}
 use Rattle.custom_rewrites.specs.Rewriting.{rewritten}
 use Rattle.place_explain.specs.declared.named.PlaceSource.{PlaceSource}
 use Rattle.place_explain.specs.Explanation.{explained, explanation}
-use Rattle.place_explain.specs.Places.{is_inside}
+use Rattle.place_explain.specs.Places.{is_inside, place_label}
 use Rattle.file_profile.specs.declared.answer.PlaceAnswer.{PlaceAnswer}
 use Rattle.file_profile.specs.declared.answer.PlaceAnswer.TheVariants.{Bad, PlaceOutside, TooManyClaims, MappedTooLarge, NoMemory}
 use Rattle.file_profile.specs.declared.answer.SourceAnswer.{SourceAnswer}
@@ -22,7 +22,7 @@ use Rattle.file_profile.specs.declared.explain.CountedExplanation.{CountedExplan
 use Rattle.file_profile.specs.Claims.{OpenedFile, results_of}
 use Rattle.file_profile.specs.Answers.{of_file_place, refused_as}
 use Rattle.file_profile.specs.Sources.{Chosen}
-use Rattle.file_profile.specs.Views.{alone}
+use Rattle.file_profile.specs.Views.{alone, viewed}
 
 -- Each data source with its name in `-d`.
 abbrev pub named_sources : List (List ℕ) → List Chosen → List (List ℕ × Chosen)
@@ -91,3 +91,19 @@ Explains (Err MappedTooLarge) answer = answer ≡ Err MappedTooLarge
 -- The returned explanations are these.
 abbrev pub AreExplanations : List PlaceSource → Vec PlaceSource Global → Type 0
 AreExplanations said v = said ≡ v.items
+
+-- The path of a byte of a file: its labels over the requested data sources.
+abbrev pub place_path : FileView → Place → List (List ℕ)
+place_path f place = map (place_label f place) f.sources
+
+-- The explanations of one byte of a file with these bytes.
+--
+-- view, counted: The file as a report of sizes counts it.
+-- names_are: The explained data sources have these names, in their order.
+-- labels: Their labels are the path of the byte in a report of sizes.
+pub record ExplainsPath (limit : ℕ) (place : Place) (name file : List ℕ) (names : List (List ℕ)) (sources : List Chosen)
+    (explained : List PlaceSource) : Type 0 where
+  pub view : FileView
+  pub counted : viewed 0 limit name file sources ≡ Ok view
+  pub names_are : map (λ (s : PlaceSource). s.name) explained ≡ names
+  pub labels : map (λ (s : PlaceSource). s.label) explained ≡ place_path view place

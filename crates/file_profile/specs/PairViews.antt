@@ -1,5 +1,5 @@
 -- The content of a file with its debug file that is counted, or why it isn't counted.
-use Rattle.std.specs.Prelude.{◌≡◌, ◌≢◌, ℕ, List, Some, Result, Ok, Err, IfOk, IsErrOf, IsOk, if◌then◌else◌}
+use Rattle.std.specs.Prelude.{◌≡◌, ℕ, List, Some, Result, Ok, Err, IsOk, if◌then◌else◌}
 use Rattle.size_core.specs.declared.fault.BadFile.{BadFile}
 use Rattle.size_model.specs.declared.view.FileView.{FileView}
 use Rattle.data_sources.specs.declared.binary.Binary.{Binary}
@@ -45,11 +45,6 @@ pair_view limit name file debug sources = when_opened (opened_pair name file deb
 unfoldable pub pair_viewed : ℕ → ℕ → List ℕ → List ℕ → List ℕ → List Chosen → Result FileView PairAnswer
 pair_viewed mapped limit name file debug sources = when_opened (opened_pair name file debug)
     (λ f. refused_as of_file_pair (opened_viewed mapped limit f sources))
-
--- The pair is opened, or the answer says why not. The call may also run out of memory.
-pub record OpensPair (expected result : Result OpenedFile PairAnswer) : Type 0 where
-  pub opened : IfOk result (λ f. expected ≡ Ok f)
-  pub refused : (answer : PairAnswer) → answer ≢ NoMemory → IsErrOf result answer → expected ≡ Err answer
 
 -- The result of a call is this one, except that the call may run out of memory.
 abbrev pub PairAnswers : {X : Type 0} → Result (Unit {0}) PairAnswer → Result X PairAnswer → Type 0

@@ -127,6 +127,16 @@ pub enum OpenedAnswer {
     NoMemory,
 }
 
+impl From<NoMemory> for OpenedAnswer {
+    ghost use Rattle.file_profile.specs.declared.answer.OpenedAnswer.TheVariants.{NoMemory as OutOfMemory};
+
+    ghost from_gives = { λ _ e. e ≡ OutOfMemory };
+
+    fn from(_: NoMemory) -> OpenedAnswer {
+        OpenedAnswer::NoMemory
+    }
+}
+
 impl From<SourceAnswer> for OpenedAnswer {
     ghost use Rattle.file_profile.specs.Answers.{of_data_source};
 

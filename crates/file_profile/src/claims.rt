@@ -120,12 +120,7 @@ fn all_claims(file: &Subject, source: Source, pool: &mut LabelPool, limit: u64) 
 
 // The claims by a built-in data source.
 #[tactic(auto, using(crate::proofs::ClaimLemmas::keeping))]
-pub(crate) fn built_in_claims(
-    file: &Subject,
-    source: Source,
-    pool: &mut LabelPool,
-    limit: u64,
-) -> Made<Numbered>
+pub fn claims_by(file: &Subject, source: Source, pool: &mut LabelPool, limit: u64) -> Made<Numbered>
     ensures { Makes (IsNumbered (built_in source)) result pool.old pool.new
         (claims_within limit file.now source) }
 {
@@ -134,28 +129,9 @@ pub(crate) fn built_in_claims(
     Ok(Numbered { claims, unmapped })
 }
 
-// The claims by a custom data source: those of its built-in source, with each label rewritten.
+/// The claims by a data source of a plan: those of its built-in source, with each label rewritten if it is a custom one.
+/// Labels that are already in the pool keep their numbers.
 #[tactic(auto, using(crate::proofs::ClaimLemmas::keeping))]
-fn custom_claims(
-    file: &Subject,
-    base: Source,
-    rewrites: &Rewrites,
-    pool: &mut LabelPool,
-    limit: u64,
-) -> Made<Numbered>
-    ensures { Makes (IsNumbered (record { base = base; rewrites = rewrites.now }))
-        result pool.old pool.new (claims_within limit file.now base) }
-{
-    let alloc = file.alloc();
-    let mut labels = LabelPool::new(alloc);
-    let mut made = built_in_claims(file, base, &mut labels, limit)?;
-    let numbers = rewritten_numbers(alloc, rewrites, &labels, pool)?;
-    renumber(&mut made.claims, &numbers);
-    made.unmapped = numbers[made.unmapped];
-    Ok(made)
-}
-
-/// The claims by a data source of a plan. Labels that are already in the pool keep their numbers.
 pub fn claims_of_source(
     chosen: &PlanSource,
     file: &Subject,
@@ -165,8 +141,14 @@ pub fn claims_of_source(
     ensures { Makes (IsNumbered (chosen_of chosen.now)) result pool.old pool.new
         (claims_within limit file.now chosen.now.base) }
 {
-    match chosen.rewrites {
-        None => built_in_claims(file, chosen.base, pool, limit),
-        Some(rewrites) => custom_claims(file, chosen.base, rewrites, pool, limit),
-    }
+    let Some(rewrites) = chosen.rewrites else {
+        return claims_by(file, chosen.base, pool, limit);
+    };
+    let alloc = file.alloc();
+    let mut labels = LabelPool::new(alloc);
+    let mut made = claims_by(file, chosen.base, &mut labels, limit)?;
+    let numbers = rewritten_numbers(alloc, rewrites, &labels, pool)?;
+    renumber(&mut made.claims, &numbers);
+    made.unmapped = numbers[made.unmapped];
+    Ok(made)
 }

@@ -9,7 +9,7 @@ ghost use Rattle.file_profile.specs.Explanations.{AreExplanations, Explains, IsE
 ghost use Rattle.file_profile.specs.Results.{Yields};
 
 use crate::answer::{Made, PlaceAnswer};
-use crate::claims::built_in_claims;
+use crate::claims::claims_by;
 use crate::plan::{Plan, PlanSource};
 use crate::subject::Subject;
 use data_sources::open_binary;
@@ -50,7 +50,7 @@ fn explain_built_in(
 {
     let alloc = subject.alloc();
     let mut pool = LabelPool::new(alloc);
-    let made = built_in_claims(subject, base, &mut pool, limit)?;
+    let made = claims_by(subject, base, &mut pool, limit)?;
     let source = NumberedClaims {
         claims: &made.claims,
         pool: &pool,
@@ -124,30 +124,6 @@ fn explain_all(
     Ok(all)
 }
 
-// The explanation of a location of an opened file by the data sources of the plan, with these names.
-#[tactic(auto, unfolding(crate::specs::Explanations::opened_explained))]
-fn explain_opened(
-    plan: &Plan,
-    names: &Names,
-    request: &Request,
-    subject: &Subject,
-    limit: u64,
-) -> Result<Vec<PlaceSource>, PlaceAnswer>
-    requires { length names.now ≡ length plan.now.sources }
-    ensures { Explains result
-        (opened_explained limit request.now.shown request.now.place subject.now
-        (named_sources names.now plan.now.sources)) }
-{
-    if !is_inside(subject.base(), subject.len(), &request.place) {
-        return Err(PlaceAnswer::PlaceOutside);
-    }
-    let made = explain_all(plan, names, request, subject, limit)?;
-    if subject.base().mapped_size() > (1 << 63) - 1 {
-        return Err(PlaceAnswer::MappedTooLarge);
-    }
-    Ok(made)
-}
-
 /// Explains a location of the file `name` by each data source of the plan: its label and the claims that cover it.
 /// `names` are the data sources' names in `-d`. If `shown` is 0, all these claims are kept, otherwise the first and up
 /// to `shown` more.
@@ -163,7 +139,7 @@ fn explain_opened(
 /// - `MappedTooLarge`: the mapped size of the file exceeds 2^63 - 1.
 ///
 /// `NoMemory` may come at any step.
-#[tactic(auto, unfolding(crate::specs::Explanations::explained_place))]
+#[tactic(auto, unfolding(crate::specs::Explanations::explained_place, crate::specs::Explanations::opened_explained))]
 pub fn explain_place(
     alloc: Global,
     plan: &Plan,
@@ -186,5 +162,13 @@ pub fn explain_place(
         place: *place,
         shown,
     };
-    explain_opened(plan, names, &request, &subject, limits.claims)
+    if !is_inside(subject.base(), subject.len(), &request.place) {
+        return Err(PlaceAnswer::PlaceOutside);
+    }
+    let made = explain_all(plan, names, &request, &subject, limits.claims)?;
+    // A fault of a data source comes before a mapped size that is too large.
+    if subject.base().mapped_size() > (1 << 63) - 1 {
+        return Err(PlaceAnswer::MappedTooLarge);
+    }
+    Ok(made)
 }

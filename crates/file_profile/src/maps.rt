@@ -32,15 +32,6 @@ pub struct FileMaps {
     pub pool: LabelPool,
 }
 
-impl FileMaps {
-    /// Drops the maps, and returns the pool of their labels.
-    pub fn into_pool(self) -> LabelPool
-        ensures { result ≡ self.pool }
-    {
-        self.pool
-    }
-}
-
 // The maps of a data source. Its claims are dropped here.
 fn map_source(chosen: &PlanSource, file: &Subject, pool: &mut LabelPool, limit: u64) -> Made<Mapped>
     ensures { Makes (IsMapped (layout_of file.now.binary) (chosen_of chosen.now)) result

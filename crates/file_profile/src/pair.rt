@@ -5,7 +5,7 @@ ghost use Rattle.std.specs.Option.{option_copied};
 ghost use Rattle.data_sources.specs.Groups.{bytes_of};
 ghost use Rattle.data_sources.specs.Opened.{opened};
 ghost use Rattle.file_profile.specs.Identity.{is_pair, is_same};
-ghost use Rattle.file_profile.specs.PairViews.{OpensPair, PairAnswers, opened_as, opened_pair, pair_view, pair_viewed};
+ghost use Rattle.file_profile.specs.PairViews.{PairAnswers, opened_as, opened_pair, pair_view, pair_viewed};
 ghost use Rattle.file_profile.specs.Profiles.{CanProfile, Profiles};
 
 use crate::answer::PairAnswer;
@@ -54,27 +54,6 @@ fn is_pair(binary: &Binary<'_>, debug: &Binary<'_>) -> bool
     }
 }
 
-// Opens the file of this name and its debug file.
-#[tactic(auto, unfolding(crate::specs::PairViews::opened_pair))]
-fn open_pair<'n, 'a, 'd>(
-    alloc: Global,
-    name: &'n [u8],
-    file: &'a [u8],
-    debug: &'d [u8],
-) -> Result<Subject<'n, 'a, 'd>, PairAnswer>
-    requires short { length file.now < 2 ^ 32 }
-    requires short_debug { length debug.now < 2 ^ 32 }
-    ensures opened { OpensPair (opened_pair name.now file.now debug.now) result }
-    ensures bytes { IfOk result (λ s. bytes_of s.binary ≡ file.now) }
-{
-    let binary = open_numbered(1, file)?;
-    let other = open_numbered(2, debug)?;
-    if !is_pair(&binary, &other) {
-        return Err(PairAnswer::NoMatch);
-    }
-    Ok(Subject::new(alloc, name, binary, Some(other))?)
-}
-
 /// Adds the sizes of one file to `total`. The claims of its debug file come before those of the file: they name
 /// symbols, compile units and source lines that a stripped file no longer has. Only the bytes and addresses of the file
 /// are counted, none of the debug file. `inputfiles` labels them `name`.
@@ -90,6 +69,7 @@ fn open_pair<'n, 'a, 'd>(
 /// - `MappedTooLarge`: the mapped sizes of this file and of those in `total` exceed 2^63 - 1.
 ///
 /// `NoMemory` may come at any step. After an error `total` is as before.
+#[tactic(auto, unfolding(crate::specs::PairViews::pair_viewed, crate::specs::PairViews::opened_pair))]
 pub fn profile_pair<L: Ledger>(
     alloc: Global,
     plan: &Plan,
@@ -116,7 +96,12 @@ pub fn profile_pair<L: Ledger>(
         Profiles result counted view plan.now.filter (length file.now)
         total.old total.new steps.old steps.new }
 {
-    let subject = open_pair(alloc, name.as_bytes(), file, debug)?;
+    let binary = open_numbered(1, file)?;
+    let other = open_numbered(2, debug)?;
+    if !is_pair(&binary, &other) {
+        return Err(PairAnswer::NoMatch);
+    }
+    let subject = Subject::new(alloc, name.as_bytes(), binary, Some(other))?;
     profile_opened(plan, &subject, total, limits, steps)?;
     Ok(())
 }

@@ -1,12 +1,10 @@
 //! The sizes of an opened file.
 
-ghost use Rattle.std.specs.Prelude.{◌≡◌, ◌+◌, ◌-◌, ◌≤◌, ◌^◌, length, map, IfOk};
-ghost use Rattle.size_model.specs.Loads.{mapped_count};
+ghost use Rattle.std.specs.Prelude.{◌≡◌, ◌+◌, ◌≤◌, length, map, IfOk};
 ghost use Rattle.rollup.specs.Adding.{piece_count};
 ghost use Rattle.custom_rewrites.specs.Pattern.{is_found};
 ghost use Rattle.data_sources.specs.Groups.{bytes_of};
-ghost use Rattle.data_sources.specs.Loads.{loads_of};
-ghost use Rattle.file_profile.specs.Added.{AddsSizes, CountsMaps, FitsIn, mapped_file_size, mapped_vm_size};
+ghost use Rattle.file_profile.specs.Added.{CountsMaps};
 ghost use Rattle.file_profile.specs.Claims.{layout_of};
 ghost use Rattle.file_profile.specs.Counts.{marks_by};
 ghost use Rattle.file_profile.specs.MapLabels.{AreOver};
@@ -58,30 +56,6 @@ fn count_maps<L: Ledger>(
     }
 }
 
-// Adds the bytes and addresses of the maps that pass the plan's filter. The maps are dropped before the paths are
-// spelled.
-fn add_maps<L: Ledger>(
-    plan: &Plan,
-    subject: &Subject,
-    maps: FileMaps,
-    total: &mut Rollup,
-    steps: &mut Steps<L>,
-) -> Result<(), RollupAnswer>
-    requires over { AreOver (layout_of subject.now.binary) maps }
-    requires depth { length maps.maps.items ≡ total.old.depth }
-    requires lengths { total.old.lengths + length (bytes_of subject.now.binary) ≤ 2 ^ 63 - 1 }
-    ensures sizes { AddsSizes result total.old total.new (layout_of subject.now.binary)
-        (λ test. mapped_file_size plan.now.filter test (layout_of subject.now.binary) maps)
-        (λ test. mapped_vm_size plan.now.filter test (layout_of subject.now.binary) maps) }
-    ensures answer { FitsIn (total.old.mapped + mapped_count (loads_of subject.now.binary)) result }
-    ensures cost { steps.new ≤ steps.old + piece_count maps.maps.items }
-{
-    let sizes = count_maps(plan, subject, &maps, total, steps)?;
-    let pool = maps.into_pool();
-    total.add_sizes(&pool, sizes)?;
-    Ok(())
-}
-
 /// Adds the sizes of an opened file to `total`: for each path of labels, one label for each data source of the plan,
 /// the number of the file's bytes and of its mapped addresses that have this path and pass the filter.
 ///
@@ -112,6 +86,10 @@ pub fn profile_opened<L: Ledger>(
         total.old total.new steps.old steps.new }
 {
     let maps = maps_of(plan, subject, limits.claims)?;
-    add_maps(plan, subject, maps, total, steps)?;
+    let sizes = count_maps(plan, subject, &maps, total, steps)?;
+    // The maps are dropped before the paths are spelled.
+    let FileMaps { maps, pool } = maps;
+    drop(maps);
+    total.add_sizes(&pool, sizes)?;
     Ok(())
 }

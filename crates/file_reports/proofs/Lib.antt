@@ -1,4 +1,3 @@
-pub mod PrintLemmas
+pub mod LawLemmas
 pub mod ReadBackLemmas
 pub mod ReportLemmas
-pub mod UserLemmas

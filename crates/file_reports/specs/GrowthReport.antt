@@ -63,7 +63,7 @@ GrowthsCountPaths = (filter : Option (List ℕ → Bool)) (depth : ℕ) (files b
     → AreGrowths filter depth files bases paths → (path : List (List ℕ)) → CountsGrowth filter files bases paths path
 
 -- In a report of growth, the growths of each shown size add up.
-abbrev pub GrowthsAddUp : Type 0
+unfoldable pub GrowthsAddUp : Type 0
 GrowthsAddUp = (o : Options) (files bases : List FileView) (paths : List GrowthPath)
     → AreGrowths (filter_test o.filter) (depth_of o) files bases paths
     → GrowsAlike o.domain (growth_tree (row_options o) (depth_of o) paths)

@@ -14,27 +14,27 @@ use Rattle.file_reports.specs.GrowthReport.{IsGrowthReport, growth_sizes}
 use Rattle.file_reports.specs.SizeReport.{IsSizeReport, depth_of, row_options}
 
 -- One text alone is the report of the sizes of files. This is the contract of `one_report_of_sizes`.
-abbrev pub OneReportOfSizes : Type 0
+unfoldable pub OneReportOfSizes : Type 0
 OneReportOfSizes = (o : Options) (files : List FileView) (a b : List ℕ) → IsSizeReport o files a → IsSizeReport o files b → a ≡ b
 
 -- One text alone is the report of the growth of files. This is the contract of `one_report_of_growth`.
-abbrev pub OneReportOfGrowth : Type 0
+unfoldable pub OneReportOfGrowth : Type 0
 OneReportOfGrowth = (o : Options) (files bases : List FileView) (a b : List ℕ)
     → IsGrowthReport o files bases a → IsGrowthReport o files bases b → a ≡ b
 
 -- The order of the files doesn't matter. This is the contract of `files_in_any_order`.
-abbrev pub FilesInAnyOrder : Type 0
+unfoldable pub FilesInAnyOrder : Type 0
 FilesInAnyOrder = (o : Options) (files others : List FileView) (text : List ℕ)
     → IsPermutation files others → IsSizeReport o files text → IsSizeReport o others text
 
 -- The growth of files from themselves has no rows. This is the contract of `no_growth_from_itself`.
-abbrev pub NoGrowthFromItself : Type 0
+unfoldable pub NoGrowthFromItself : Type 0
 NoGrowthFromItself = (o : Options) (files : List FileView) (text : List ℕ) (report : IsGrowthReport o files files text)
     → report.tree.rows ≡ []
 
 -- The growth of base files from files is that of files from base files the other way: it has the same rows in the same
 -- order, with the sizes of the two sides exchanged. This is the contract of `growth_the_other_way`.
-abbrev pub GrowthTheOtherWay : Type 0
+unfoldable pub GrowthTheOtherWay : Type 0
 GrowthTheOtherWay = (o : Options) (files bases : List FileView) (a b : List ℕ)
     (forth : IsGrowthReport o files bases a) (back : IsGrowthReport o bases files b) → back.tree ≡ turned_tree forth.tree
 
@@ -48,7 +48,7 @@ by_first_source f = record f { sources = take 1 f.sources }
 
 -- More data sources keep the first level. Without a filter, its rows in a report are all rows of the report of the same files
 -- by the first data source alone. This is the contract of `more_sources_keep_the_first_level`.
-abbrev pub FirstLevelIsKept : Type 0
+unfoldable pub FirstLevelIsKept : Type 0
 FirstLevelIsKept = (o : Options) (files : List FileView) (a b : List ℕ) → o.filter ≡ None → 0 < depth_of o
     → (one : IsSizeReport (with_first_source o) (map by_first_source files) a) (more : IsSizeReport o files b)
     → one.tree.rows ≡ first_level more.tree.rows

@@ -40,7 +40,7 @@ pub record CountsPath (filter : Option (List ℕ → Bool)) (files : List FileVi
   pub vm : vm_sum (under_path path rows) ≡ vm_size filter files path
 
 -- Each path has the sizes that its rows add up to, for every filter and all files.
-abbrev pub RowsCountPaths : Type 0
+unfoldable pub RowsCountPaths : Type 0
 RowsCountPaths = (filter : Option (List ℕ → Bool)) (depth : ℕ) (files : List FileView) (rows : List RollupRow)
     → AreSizes filter depth files rows → (path : List (List ℕ)) → CountsPath filter files rows path
 
@@ -62,20 +62,20 @@ pub record HasWholeTotals (files : List FileView) (tree : RowTree) : Type 0 wher
   pub vm : tree.vm ≡ sum_by (λ (f : FileView). mapped_count f.loads) files
 
 -- Without a filter, the totals of a report are those of the whole files, for all options and files.
-abbrev pub TotalsAreWhole : Type 0
+unfoldable pub TotalsAreWhole : Type 0
 TotalsAreWhole = (o : Options) (files : List FileView) (rows : List RollupRow)
     → o.filter ≡ None → AreSizes (filter_test o.filter) (depth_of o) files rows → HasWholeTotals files (report_tree o rows)
 
 -- The rows of a report show its files. The row of a label has the sizes of its path over all files. The path is read
 -- off the rows above it. An Others row has the sums of the labels that are left out. Each label with a shown size has
 -- its row or is one of those.
-abbrev pub RowsShowFiles : Type 0
+unfoldable pub RowsShowFiles : Type 0
 RowsShowFiles = (o : Options) (files : List FileView) (rows : List RollupRow) → AreSizes (filter_test o.filter) (depth_of o) files rows
     → ShowsPaths (row_options o) (vm_size (filter_test o.filter) files) (file_size (filter_test o.filter) files)
     (depth_of o) (report_tree o rows).rows
 
 -- In a report of sizes, each shown size adds up.
-abbrev pub SizesAddUp : Type 0
+unfoldable pub SizesAddUp : Type 0
 SizesAddUp = (o : Options) (files : List FileView) (rows : List RollupRow)
     → AreSizes (filter_test o.filter) (depth_of o) files rows → AddsUp o.domain (report_tree o rows)
 

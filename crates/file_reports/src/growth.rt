@@ -33,6 +33,7 @@ fn append(
 
 /// The report of the growth from the sizes in `base` to those in `total`. The options give the format, the limit, the order,
 /// the sizes that are shown, and the name of the data source of each label of a path.
+#[tactic(auto, using(crate::proofs::ReportLemmas::prints_growth))]
 pub fn report_of_growth(
     alloc: Global,
     options: &Options,

@@ -32,6 +32,7 @@ fn append(
 
 /// The report of the sizes in `total`. The options give the format, the limit, the order, the sizes that are shown, and the
 /// name of the data source of each label of a path.
+#[tactic(auto, using(crate::proofs::ReportLemmas::prints_sizes))]
 pub fn report_of_sizes(
     alloc: Global,
     options: &Options,

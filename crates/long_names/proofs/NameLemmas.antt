@@ -1,8 +1,8 @@
 -- One more label, and more claims on the sheet.
-use Rattle.std.proofs.Common.{◌≡◌, ℕ, ◌==◌, Bool, true, false, List, [], ◌∷◌, length, Option, Some, None, IfSome, refl, sym, subst, ◌∙◌, eqb-true, arith}
+use Rattle.std.proofs.Common.{◌≡◌, ℕ, ◌==◌, Bool, true, false, List, Option, Some, None, IfSome, refl, sym, subst, ◌∙◌, eqb-true}
+use Rattle.std.proofs.lemmas.List.{nil_from_length}
 use Rattle.std.specs.BTreeMap.{BTreeMap, IsEmpty, IsUnchanged, Updates, btree_map_len, get, is_at}
 use Rattle.std.specs.Cmp.{unsigned_tied}
-use Rattle.std.specs.Map.{lookup}
 use Rattle.std.specs.Ordering.{nat_cmp}
 use Rattle.size_model.specs.declared.view.LabelledClaim.{LabelledClaim}
 use Rattle.byte_cursor.specs.Numbers.{text}
@@ -17,15 +17,8 @@ abbrev Labels : Type 0
 Labels = BTreeMap ℕ KnownLabel
 
 -- no labels
-none_at : (labels : Labels) (offset : ℕ) → IsEmpty labels → get nat_cmp labels offset ≡ None
-none_at labels offset empty = rw empty refl
-
 pub empty_at : (names : LongNames) (offset : ℕ) → btree_map_len names.labels ≡ 0 → label_at names offset ≡ None
-empty_at names offset none = by_entries names.labels.entries none
-  where
-    by_entries : (es : List (ℕ × KnownLabel)) → length es ≡ 0 → lookup (is_at (nat_cmp offset)) es ≡ None
-    by_entries [] e = refl
-    by_entries (x ∷ es) e = absurd (omega (arith, e))
+empty_at names offset none = rw (nil_from_length names.labels.entries none) refl
 
 -- a label that is found is that of its offset
 pub found_name : (names : LongNames) (offset : ℕ) (found : Option KnownLabel) → AreNames names → found ≡ label_at names offset → IfSome found (λ l. text names.file.now offset ≡ Some l.text.now)
@@ -37,19 +30,14 @@ found_known made names offset None known is = tt
 found_known made names offset (Some l) known is = known.each offset l (sym is)
 
 pub no_names : (names : LongNames) → IsEmpty names.labels → AreNames names
-no_names names empty = record { each = λ offset label is. let none = none_at names.labels offset empty in cc (none, is) }
+no_names names empty = record { each = λ offset label is. cc (rw empty at is) }
 
 pub none_known : (made : List LabelledClaim) (names : LongNames) → IsEmpty names.labels → AreKnownNames made names
-none_known made names empty = record { each = λ offset label is. let none = none_at names.labels offset empty in cc (none, is) }
+none_known made names empty = record { each = λ offset label is. cc (rw empty at is) }
 
 -- the same labels
-same_at : (old new : Labels) (offset : ℕ) → IsUnchanged old new → get nat_cmp new offset ≡ get nat_cmp old offset
-same_at old new offset same = rw same refl
-
 pub names_same : (old new : LongNames) → new.file.now ≡ old.file.now → IsUnchanged old.labels new.labels → AreNames old → AreNames new
-names_same old new file same names = record {
-  each = λ offset label is. rw file (names.each offset label (sym (same_at old.labels new.labels offset same) ∙ is));
-}
+names_same old new file same names = record { each = λ offset label is. rw file (names.each offset label (rw same at is)) }
 
 -- what holds of each label holds after one more, if it holds of that one
 each_put : (P : ℕ → KnownLabel → Type 0) (old new : Labels) (offset : ℕ) (label : KnownLabel) → Updates nat_cmp old new offset (Some label)

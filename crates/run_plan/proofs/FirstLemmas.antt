@@ -10,7 +10,7 @@ pub take-none : (names : List (List ℕ)) → take 0 names ≡ []
 take-none [] = refl
 take-none (n ∷ names) = refl
 
-pub take-next : (names : List (List ℕ)) (k : ℕ) (name : List ℕ) → slice_get names k ≡ Some name → take (k + 1) names ≡ take k names ++ name ∷ []
+pub take-next : {X : Type 0} (names : List X) (k : ℕ) (name : X) → slice_get names k ≡ Some name → take (k + 1) names ≡ take k names ++ name ∷ []
 take-next [] k name at = absurd (none-some name at)
 take-next (n ∷ names) zero name at = ap (λ m. m ∷ []) (same_Some n name at)
 take-next (n ∷ names) (suc k) name at =
@@ -53,3 +53,9 @@ module _ (before middle front rest : List (List ℕ)) (are : middle ≡ before +
 -- The same number of items.
 pub adds-as-many : (m n : ℕ) (before after names : List (List ℕ)) → n ≡ m → AddsFirst m before after names → AddsFirst n before after names
 adds-as-many m n before after names same reads = rw same reads
+
+-- The first of some items, among more items that begin with `front`.
+pub adds-within : (before middle after front part rest all : List (List ℕ)) (count many : ℕ) → all ≡ front ++ (part ++ rest) → middle ≡ before ++ front → many ≡ length front + count
+    → AddsFirst count middle after part → AddsFirst many before after all
+adds-within before middle after front part rest all count many whole are same built =
+    rw (whole, same) (adds-behind before middle front (part ++ rest) are count after (adds-more count middle after part rest built))

@@ -12,6 +12,7 @@ use size_core::{Names, Source};
 use std::alloc::Global;
 
 // The index of the first custom data source with this name.
+#[tactic(auto, using(crate::proofs::PlanLemmas::custom_here))]
 fn custom_place(custom: &[CustomSource], name: &[u8]) -> Option<usize>
     ensures { MatchOption result (custom_named custom.now name.now ≡ None)
         (IsCustomAt custom.now name.now) }

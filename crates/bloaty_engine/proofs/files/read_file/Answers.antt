@@ -21,30 +21,28 @@ returns-in-Ok g c = record {
 pub returns-in-Err-Failed : goal.returns-in-Err-Failed
 returns-in-Err-Failed g c =
     let h = held-some (g.F.Files.held c.args.files.now) c.args.name.now in
-    let failed = rw c.in-Err-Failed.field-0-is at c.in-Err-Failed.ensures.failed in
-    let told = rw c.in-Err-Failed.field-0-is at c.in-Err-Failed.ensures.told in
+    let fails = rw c.in-Err-Failed.field-0-is at c.in-Err-Failed.ensures in
     record {
       bytes = h.0;
       is = h.1;
       finds = refl;
       gives = gives-failed _ _ _ _ c.in-Err-Failed.ensures.ungiven;
       reads = one-read g.F.Files c.args.number c.args.name.now c.args.limit _ _ _ c.read.ensures.asked c.read.ensures.held c.read.ensures.later c.read.ensures.more c.read.ensures.most
-          (λ i e. (sym (read-number _ i (err-same _ _ e)), failed refl, told refl)) (λ e. absurd cc) (λ i e. absurd cc) tt (λ i late e. (sym e.0, e.1, c.in-Err-Failed.ensures.ungiven));
+          (λ i e. (sym (read-number _ i (err-same _ _ e)), fails.failed refl, fails.told refl)) (λ e. absurd cc) (λ i e. absurd cc) tt (λ i late e. (sym e.0, e.1, c.in-Err-Failed.ensures.ungiven));
       taken = tt;
     }
 
 pub returns-in-Err-TooLong : goal.returns-in-Err-TooLong
 returns-in-Err-TooLong g c =
-    let longer = rw c.in-Err-TooLong.field-0-is at c.in-Err-TooLong.ensures.too_long in
-    let uncounted = rw c.in-Err-TooLong.field-0-is at c.in-Err-TooLong.ensures.uncounted in
-    let h = held-long (g.F.Files.held c.args.files.now) c.args.name.now c.args.limit _ _ (longer refl) in
+    let fails = rw c.in-Err-TooLong.field-0-is at c.in-Err-TooLong.ensures in
+    let h = held-long (g.F.Files.held c.args.files.now) c.args.name.now c.args.limit _ _ (fails.too_long refl) in
     record {
       bytes = h.0;
       is = h.1.0;
       finds = (refl, h.1.1);
       gives = gives-failed _ _ _ _ c.in-Err-TooLong.ensures.ungiven;
       reads = one-read g.F.Files c.args.number c.args.name.now c.args.limit _ _ _ c.read.ensures.asked c.read.ensures.held c.read.ensures.later c.read.ensures.more c.read.ensures.most
-          (λ i e. absurd cc) (λ e. uncounted (λ q. cc)) (λ i e. (sym (long-number _ i (err-same _ _ e)), at-least-longer (g.F.Files.held c.args.files.now) c.args.name.now c.args.limit _ _ (longer refl)))
+          (λ i e. absurd cc) (λ e. fails.uncounted (λ q. cc)) (λ i e. (sym (long-number _ i (err-same _ _ e)), at-least-longer (g.F.Files.held c.args.files.now) c.args.name.now c.args.limit _ _ (fails.too_long refl)))
           tt (λ i late e. (sym e.0, e.1, c.in-Err-TooLong.ensures.ungiven));
       taken = tt;
     }

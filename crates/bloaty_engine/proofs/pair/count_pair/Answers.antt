@@ -1,98 +1,103 @@
 -- The file is read and opened, then its debug file is read, and then the two are counted.
-use Rattle.std.proofs.Common.{◌≡◌, ◌≤◌, ◌∷◌, [], length, Ok, Err, refl, ap, arith}
+use Rattle.std.proofs.Common.{◌≡◌, length, Ok, Err, refl, ap, subst, arith}
 use Rattle.std.proofs.lemmas.Result.{err_from_is_err_and}
 use Rattle.file_profile.specs.Counts.{filter_test}
-use Rattle.bloaty_engine.specs.Verdict.{first_name, total_limit}
-use Rattle.bloaty_engine.proofs.GivenLemmas.{given-all, gives-stops}
-use Rattle.bloaty_engine.proofs.HeldLemmas.{held-some}
-use Rattle.bloaty_engine.proofs.PairLemmas.{both, both-held, first-fits, first-held, pair-batch, pair-counted, pair-first, pair-gives, pair-limit, paired-within, second-read}
-use Rattle.bloaty_engine.specs.Steps.{batch_of, batch_reading}
-use Rattle.bloaty_engine.proofs.StepLemmas.{front-part, stops}
-use Rattle.bloaty_engine.proofs.CostLemmas.{costs-ended, costs-paired}
+use Rattle.bloaty_engine.specs.Reading.{files_to_read}
+use Rattle.bloaty_engine.specs.Steps.{Finds}
+use Rattle.bloaty_engine.specs.Verdict.{first_name, next_limit}
+use Rattle.bloaty_engine.proofs.CostLemmas.{costs-ended}
+use Rattle.bloaty_engine.proofs.InputLemmas.{all-same, inputs-alone, within-only}
+use Rattle.bloaty_engine.proofs.PairLemmas.{both-read, first-fault, first-read, pair-one-input, pair-own, second-read, sound-at, pair-profiled}
 use Rattle.bloaty_engine.proofs.pair.count_pair.Goals as goal
+
+pub only_file-requires : goal.only_file-requires
+only_file-requires g c = record { limits = c.requires.ready.limits; one = pair-one-input c.args.run.now.options (c.requires.ready.limits.debug _ c.requires.debug) }
 
 pub returns-in_err-file : goal.returns-in_err-file
 returns-in_err-file g c =
     let p = err_from_is_err_and c.from_residual.result c.from_residual.ensures.1 in
-    let held = g.F.Files.held c.args.files.now in
     let limits = c.args.run.now.limits in
-    let name = first_name c.args.run.now.options in
-    let debug = c.args.debug.now in
-    let first = c.in_err-file.ensures.batch in
-    let own = first.bytes 1 in
-    let other = held-some held debug in
+    let o = c.args.run.now.options in
+    let is = c.requires.ready.limits.debug _ c.requires.debug in
+    let end = c.in_err-file.field-0.0 in
+    let file = c.in_err-file.ensures.files in
     record {
-      batch = rw (p.1, p.2) (record {
-        bytes = both own other.0;
-        are = both-held held name debug own other.0 (first-held held name [] first.bytes first.are) other.1;
-        ends = pair-first limits c.args.plan.now.sources (filter_test c.args.plan.now.filter) name own other.0 c.in_err-file.field-0.0 first.ends;
-        gives = gives-stops _ _ _ ((name, own) ∷ []) ((debug, other.0) ∷ []) first.gives;
-        reads = stops g.F.Files (batch_reading limits (batch_of 0 0 (name ∷ []))) (batch_reading limits (batch_of 0 0 (name ∷ debug ∷ []))) (debug ∷ []) c.in_err-file.field-0.0 c.args.files.now c.read_first.new.files refl
-            (front-part limits 1 0 (name ∷ []) (debug ∷ [])) first.reads;
-      });
-      cost = costs-ended _ _ _ _ _ c.args.steps.now first.gives;
+      inputs = rw (p.1, p.2) (inputs-alone g.F.Files limits o _ _ (Err end) (Err end) _ _ file refl tt
+          (λ own others e. rw (pair-own o c.args.debug.now is c.requires.debug own others) (first-read limits c.args.plan.now.sources (filter_test c.args.plan.now.filter) (first_name o) (own 1) _ end e)));
+      cost = costs-ended _ _ _ _ _ c.args.steps.now file.all.gives;
+    }
+
+pub returns-in_err-check_format : goal.returns-in_err-check_format
+returns-in_err-check_format g c =
+    let p = err_from_is_err_and c.from_residual-in_err-check_format.result c.from_residual-in_err-check_format.ensures.1 in
+    let limits = c.args.run.now.limits in
+    let o = c.args.run.now.options in
+    let is = c.requires.ready.limits.debug _ c.requires.debug in
+    let end = c.in_err-check_format.field-0.0 in
+    let file = c.in_ok-file.ensures.files in
+    record {
+      inputs = rw (p.1, p.2) (inputs-alone g.F.Files limits o _ _ (Ok c.in_ok-file.file) (Err end) _ _ file
+          (λ i late e. let n = sound-at _ end i late c.in_err-check_format.ensures e in (n.1, rw n.0 (within-only limits o (files_to_read o) (pair-one-input o is)))) tt
+          (λ own others e. rw (pair-own o c.args.debug.now is c.requires.debug own others)
+          (first-fault limits c.args.plan.now.sources (filter_test c.args.plan.now.filter) (first_name o) (own 1) _ e.1 end (rw (c.deref.ensures.value, e.0) at c.in_err-check_format.ensures))));
+      cost = costs-ended _ _ _ _ _ c.args.steps.now file.all.gives;
     }
 
 pub returns-in_err-other : goal.returns-in_err-other
 returns-in_err-other g c =
     let p = err_from_is_err_and c.from_residual-in_err-other.result c.from_residual-in_err-other.ensures.1 in
     let limits = c.args.run.now.limits in
-    let name = first_name c.args.run.now.options in
+    let o = c.args.run.now.options in
     let file = c.in_ok-file.file in
-    let first = c.in_ok-file.ensures in
     let second = rw c.as_str.ensures at c.in_err-other.ensures in
     let len : c.len.result ≡ length file.items = omega (arith, c.len.ensures, file.ok) in
-    let limit = rw len at c.next_limit-limit.ensures in
     let end = c.in_err-other.field-0.0 in
-    let left = pair-limit g.F.Files limits name c.args.debug.now file _ (Err end) _ _ _ first second limit in
-    let ends = second-read limits c.args.plan.now.sources (filter_test c.args.plan.now.filter) name (first.batch.bytes 1) first.batch.ends.1 second.bytes c.next_limit-limit.result left end second.finds in
+    let both = both-read g.F.Files limits c.args.plan.now o c.args.debug.now file c.next_limit-limit.result (Err end) _ _ _ c.requires (rw len at c.next_limit-limit.ensures) c.in_ok-file.ensures second in
     record {
-      batch = rw (p.1, p.2) (pair-batch g.F.Files limits name c.args.debug.now file _ (Err end) _ _ _ first second limit _ (Err end) refl ends);
-      cost = costs-ended _ _ _ _ _ c.args.steps.now (pair-gives g.F.Files limits name c.args.debug.now file _ (Err end) _ _ _ first second limit);
-    }
-
-pub returns : goal.returns
-returns g c =
-    let limits = c.args.run.now.limits in
-    let sources = c.args.plan.now.sources in
-    let test = filter_test c.args.plan.now.filter in
-    let name = first_name c.args.run.now.options in
-    let file = c.in_ok-file.file in
-    let debug = c.in_ok-other.other in
-    let first = c.in_ok-file.ensures in
-    let own = first.batch.bytes 1 in
-    let second = rw c.as_str.ensures at c.in_ok-other.ensures in
-    let len : c.len.result ≡ length file.items = omega (arith, c.len.ensures, file.ok) in
-    let limit = rw len at c.next_limit-limit.ensures in
-    let left = pair-limit g.F.Files limits name c.args.debug.now file _ (Ok debug) _ _ _ first second limit in
-    let room : length own ≤ total_limit limits = omega (arith, first-fits limits own first.batch.ends.1) in
-    let paired = rw (c.deref.ensures.value, c.deref-2.ensures.value) at c.count_opened.ensures.ends in
-    let counted = rw (c.deref.ensures.value, c.deref-2.ensures.value, first.batch.ends.0, second.finds.0) at c.count_opened.ensures in
-    let ends = pair-counted limits sources test name own first.batch.ends.1 second.bytes c.next_limit-limit.result left second.finds.1 room c.count_opened.result counted.ends in
-    let gave = given-all debug _ _ _ (pair-gives g.F.Files limits name c.args.debug.now file _ (Ok debug) _ _ _ first second limit) in
-    record {
-      batch = pair-batch g.F.Files limits name c.args.debug.now file _ (Ok debug) _ _ _ first second limit _ c.count_opened.result
-          (paired-within limits sources test name file.items debug.items name c.args.debug.now c.count_opened.result paired) ends;
-      cost = costs-paired limits sources name own c.args.debug.now second.bytes _ _ c.args.steps.now c.count_opened.new.steps gave counted.cost;
+      inputs = rw (p.1, p.2) (all-same g.F.Files _ _ _ _ _ (Err end) (Err end) _ _ both refl
+          (λ bytes e. second-read limits c.args.plan.now.sources (filter_test c.args.plan.now.filter) (first_name o) (bytes 1) (bytes 2) e.0.1 (rw (c.deref.ensures.value, e.0.0) at c.in_ok-check_format.ensures) end
+          (subst (λ x. Finds 2 (next_limit limits (length x)) (bytes 2) (Err end)) e.0.0 e.1)));
+      cost = costs-ended _ _ _ _ _ c.args.steps.now both.gives;
     }
 
 pub next_limit-limit-requires : goal.next_limit-limit-requires
 next_limit-limit-requires g c =
-    let first = c.in_ok-file.ensures.batch in
-    omega (arith, first-fits c.args.run.now.limits (first.bytes 1) first.ends.1, ap length first.ends.0, c.len.ensures, c.in_ok-file.file.ok)
+    let first = c.in_ok-file.ensures.files.all in
+    omega (arith, first.ends.1, ap length first.ends.0, c.len.ensures, c.in_ok-file.file.ok)
 
 -- The file that was opened is within the limits, and so is its debug file.
-pub count_opened-requires-clause-fit : goal.count_opened-requires-clause-fit
-count_opened-requires-clause-fit g c =
-    let limits = c.args.run.now.limits in
-    let first = c.in_ok-file.ensures.batch in
-    let fits = first-fits limits (first.bytes 1) first.ends.1 in
-    let second = c.in_ok-other.ensures in
+pub profile_pair-requires-clause-file : goal.profile_pair-requires-clause-file
+profile_pair-requires-clause-file g c =
+    let first = c.in_ok-file.ensures.files.all in
     record {
-      fits = omega (arith, fits, ap length first.ends.0, ap length c.deref.ensures.value);
-      debug_fits = omega (arith, second.finds.1, ap length second.finds.0, ap length c.deref-2.ensures.value, c.next_limit-limit.ensures);
-      lengths = omega (arith, fits, ap length first.ends.0, ap length c.deref.ensures.value);
+      short = omega (arith, first.ends.1, ap length first.ends.0, ap length c.deref-2.ensures.value);
+      depth = rw c.new-total.ensures c.depth.ensures;
+      lengths = rw c.new-total.ensures (omega (arith, first.ends.1, ap length first.ends.0, ap length c.deref-2.ensures.value));
     }
 
-pub count_opened-requires-clause-can : goal.count_opened-requires-clause-can
-count_opened-requires-clause-can g c = c.requires
+pub profile_pair-requires-clause-debug : goal.profile_pair-requires-clause-debug
+profile_pair-requires-clause-debug g c =
+    let second = c.in_ok-other.ensures in
+    omega (arith, second.finds.1, ap length second.finds.0, ap length c.deref-3.ensures.value, c.next_limit-limit.ensures)
+
+pub returns-in-Ok : goal.returns-in-Ok
+returns-in-Ok g c =
+    let limits = c.args.run.now.limits in
+    let o = c.args.run.now.options in
+    let file = c.in_ok-file.file in
+    let debug = c.in_ok-other.other in
+    let len : c.len.result ≡ length file.items = omega (arith, c.len.ensures, file.ok) in
+    let both = both-read g.F.Files limits c.args.plan.now o c.args.debug.now file c.next_limit-limit.result (Ok debug) _ _ _ c.requires (rw len at c.next_limit-limit.ensures) c.in_ok-file.ensures (rw c.as_str.ensures at c.in_ok-other.ensures) in
+    let pair = rw (c.new-total.ensures, c.first_name-name.ensures, c.deref-2.ensures.value, c.deref-3.ensures.value) at c.in-Ok.ensures in
+    pair-profiled g.F.Files limits c.args.plan.now o c.args.debug.now file debug _ _ _ _ c.requires both (rw c.deref.ensures.value at c.in_ok-check_format.ensures) (Ok tt) c.depth.result c.profile_pair.new.total c.depth.ensures pair.answer pair.effect
+
+pub returns : goal.returns
+returns g c =
+    let limits = c.args.run.now.limits in
+    let o = c.args.run.now.options in
+    let file = c.in_ok-file.file in
+    let debug = c.in_ok-other.other in
+    let len : c.len.result ≡ length file.items = omega (arith, c.len.ensures, file.ok) in
+    let both = both-read g.F.Files limits c.args.plan.now o c.args.debug.now file c.next_limit-limit.result (Ok debug) _ _ _ c.requires (rw len at c.next_limit-limit.ensures) c.in_ok-file.ensures (rw c.as_str.ensures at c.in_ok-other.ensures) in
+    let pair = rw (c.new-total.ensures, c.first_name-name.ensures, c.deref-2.ensures.value, c.deref-3.ensures.value) at c.in-Err.ensures in
+    rw c.end_of_pair.ensures (pair-profiled g.F.Files limits c.args.plan.now o c.args.debug.now file debug _ _ _ _ c.requires both (rw c.deref.ensures.value at c.in_ok-check_format.ensures) (Err c.in-Err.answer) c.depth.result c.profile_pair.new.total c.depth.ensures pair.answer pair.effect)

@@ -1,15 +1,9 @@
 -- The pair is counted, and then there is the report of its sizes.
-use Rattle.std.proofs.Common.{Ok, Err, refl, arith}
+use Rattle.std.proofs.Common.{Ok, Err, refl}
 use Rattle.std.proofs.lemmas.Result.{err_from_is_err_and}
 use Rattle.run_outcome.specs.declared.outcome.Outcome.TheVariants.{NoMemory}
-use Rattle.bloaty_engine.proofs.PairLemmas.{pair-one-input, pair-reported}
+use Rattle.bloaty_engine.proofs.PairLemmas.{pair-reported}
 use Rattle.bloaty_engine.proofs.pair.pair_report.Goals as goal
-
-pub count_pair-requires : goal.count_pair-requires
-count_pair-requires g c = record {
-  one = pair-one-input c.args.run.now.options (c.requires.ready.limits.debug _ c.requires.debug);
-  few = omega (arith, c.requires.ready.limits.few_sources, c.requires.ready.planned.depth);
-}
 
 pub returns-in_err-total : goal.returns-in_err-total
 returns-in_err-total g c =

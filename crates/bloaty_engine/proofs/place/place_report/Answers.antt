@@ -1,19 +1,14 @@
 -- The only file is read, and then a location of it is explained.
-use Rattle.std.proofs.Common.{Ok, Err, refl, ap, subst, ◌∙◌, arith, rules}
-use Rattle.std.proofs.lemmas.Grind.{common_steps}
+use Rattle.std.proofs.Common.{Ok, Err, refl, ap}
 use Rattle.std.proofs.lemmas.Result.{err_from_is_err_and}
 use Rattle.run_outcome.specs.declared.outcome.Outcome.TheVariants.{NoMemory}
-use Rattle.bloaty_engine.specs.PlaceSteps.{EndsExplained, explained_within}
 use Rattle.bloaty_engine.specs.Reading.{files_to_read}
+use Rattle.bloaty_engine.specs.Verdict.{end_of_place}
 use Rattle.bloaty_engine.proofs.PlaceLemmas.{alone-reported, explained-at, only-ends, place-ends, place-found}
 use Rattle.bloaty_engine.proofs.place.place_report.Goals as goal
 
-pub explained-requires : goal.explained-requires
-explained-requires g c = record {
-  one = (c.requires.ready.limits.place _ c.requires.place).one_file;
-  planned = c.requires.ready.planned;
-  fits = first_of (search rules, grind (arith, common_steps));
-}
+pub only_file-requires : goal.only_file-requires
+only_file-requires g c = record { limits = c.requires.ready.limits; one = (c.requires.ready.limits.place _ c.requires.place).one_file }
 
 pub returns-in_err-file : goal.returns-in_err-file
 returns-in_err-file g c =
@@ -24,28 +19,24 @@ returns-in_err-file g c =
     let alone = c.requires.ready.limits.place _ c.requires.place in
     let end = c.in_err-file.field-0.0 in
     let file = c.in_err-file.ensures in
-    let ends = only-ends limits sources file.bytes o c.args.place.now c.requires.place end alone.no_debug alone.one_file (λ k is. file.unmade k (ap Err is)) file.ends in
-    rw (p.1, p.2) (alone-reported g.F.Files limits sources o alone _ (Err end) (Err end) _ _ file refl ends)
+    rw (p.1, p.2) (alone-reported g.F.Files limits sources o alone (Err end) (Err end) _ _ file refl
+    (λ files e. only-ends limits sources files o c.args.place.now c.requires.place end alone (λ k is. file.files.unmade k (ap Err is)) e))
 
-pub returns-in_err-sources : goal.returns-in_err-sources
-returns-in_err-sources g c =
-    let p = err_from_is_err_and c.from_residual-in_err-sources.result c.from_residual-in_err-sources.ensures.1 in
+pub returns-in_err-report_of_location-in-Ok : goal.returns-in_err-report_of_location-in-Ok
+returns-in_err-report_of_location-in-Ok g c =
+    let p = err_from_is_err_and c.from_residual-in_err-report_of_location-in-Ok.result c.from_residual-in_err-report_of_location-in-Ok.ensures.1 in
+    let alone = c.requires.ready.limits.place _ c.requires.place in
+    rw (p.1, p.2) (alone-reported g.F.Files c.args.run.now.limits c.args.plan.now.sources c.args.run.now.options alone (Ok c.in_ok-file.file) (Err NoMemory) _ _ c.in_ok-file.ensures (λ i late e. absurd e) (λ files e. (refl, tt)))
+
+pub returns-in-Ok : goal.returns-in-Ok
+returns-in-Ok g c =
     let limits = c.args.run.now.limits in
     let sources = c.args.plan.now.sources in
     let o = c.args.run.now.options in
     let alone = c.requires.ready.limits.place _ c.requires.place in
-    let end = c.in_err-sources.field-0.0 in
-    let file = c.in_ok-file.ensures in
-    let explained = subst (λ x. EndsExplained (explained_within limits sources o c.args.place.now x) (Err end)) (c.deref.ensures.value ∙ file.ends.0) c.in_err-sources.ensures in
-    let ends = place-ends limits sources file.bytes o c.args.place.now c.requires.place file.ends.1 end explained in
-    rw (p.1, p.2)
-    (alone-reported g.F.Files limits sources o alone _ (Ok c.in_ok-file.file) (Err end) _ _ file (explained-at limits o (files_to_read o) alone.one_file _ end c.in_err-sources.ensures) ends)
-
-pub returns-in_err-report_of_location : goal.returns-in_err-report_of_location
-returns-in_err-report_of_location g c =
-    let p = err_from_is_err_and c.from_residual-in_err-report_of_location.result c.from_residual-in_err-report_of_location.ensures.1 in
-    let alone = c.requires.ready.limits.place _ c.requires.place in
-    rw (p.1, p.2) (alone-reported g.F.Files c.args.run.now.limits c.args.plan.now.sources c.args.run.now.options alone _ (Ok c.in_ok-file.file) (Err NoMemory) _ _ c.in_ok-file.ensures (λ i late e. absurd e) tt)
+    alone-reported g.F.Files limits sources o alone (Ok c.in_ok-file.file) (Ok c.in_ok-report_of_location-in-Ok.field-0) _ _ c.in_ok-file.ensures (λ i late e. absurd e)
+    (λ files e. place-found limits sources files o c.args.place.now c.requires.place e.1 c.in-Ok.sources.items c.in_ok-report_of_location-in-Ok.field-0 (rw (c.first_name.ensures, c.deref.ensures.value, e.0) at c.in-Ok.ensures)
+    (rw c.deref-in-Ok.ensures.value at c.in_ok-report_of_location-in-Ok.ensures))
 
 pub returns : goal.returns
 returns g c =
@@ -53,7 +44,6 @@ returns g c =
     let sources = c.args.plan.now.sources in
     let o = c.args.run.now.options in
     let alone = c.requires.ready.limits.place _ c.requires.place in
-    let file = c.in_ok-file.ensures in
-    let ends = place-found limits sources file.bytes o c.args.place.now c.requires.place file.ends.1 c.in_ok-sources.sources.items c.in_ok-report_of_location.field-0 (rw (c.deref.ensures.value, file.ends.0) at c.in_ok-sources.ensures)
-    (rw c.deref-2.ensures.value at c.in_ok-report_of_location.ensures) in
-    alone-reported g.F.Files limits sources o alone _ (Ok c.in_ok-file.file) (Ok c.in_ok-report_of_location.field-0) _ _ file (λ i late e. absurd e) ends
+    rw c.end_of_place.ensures (alone-reported g.F.Files limits sources o alone (Ok c.in_ok-file.file) (Err (end_of_place c.in-Err.answer)) _ _ c.in_ok-file.ensures
+    (explained-at limits o (files_to_read o) alone.one_file c.in-Err.answer)
+    (λ files e. place-ends limits sources files o c.args.place.now c.requires.place e.1 c.in-Err.answer (rw (c.first_name.ensures, c.deref.ensures.value, e.0) at c.in-Err.ensures)))

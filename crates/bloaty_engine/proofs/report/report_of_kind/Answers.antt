@@ -1,8 +1,9 @@
 -- Without a location and a debug file all files are counted.
 use Rattle.std.proofs.Common.{arith, rules}
 use Rattle.std.proofs.lemmas.Grind.{common_steps}
-use Rattle.bloaty_engine.proofs.CostLemmas.{costs-alone}
-use Rattle.bloaty_engine.proofs.KindLemmas.{counting-found, no-debug-names}
+use Rattle.bloaty_engine.specs.Costs.{found_cost}
+use Rattle.bloaty_engine.proofs.CostLemmas.{costs-as}
+use Rattle.bloaty_engine.proofs.SidesLemmas.{counting-found}
 use Rattle.bloaty_engine.proofs.report.report_of_kind.Goals as goal
 
 pub place_report-requires : goal.place_report-requires
@@ -23,14 +24,13 @@ returns-in-None-None g c =
     let no_place = c.in-None-None.is-0 in
     let no_debug = c.in-None-None.is-1 in
     let made = c.report_of_files.ensures in
-    let none = no-debug-names o no_debug in
     record {
       report = record {
         bytes = made.inputs.bytes;
-        are = (made.inputs.are.0, rw none made.inputs.are.1);
+        are = made.inputs.are;
         ends = counting-found limits sources made.inputs.bytes o no_place no_debug c.report_of_files.result made.inputs.ends;
-        gives = rw none made.inputs.gives;
-        reads = rw none made.inputs.reads;
+        gives = made.inputs.gives;
+        reads = made.inputs.reads;
       };
-      cost = costs-alone limits sources o (g.F.Files.gave c.args.files.now) (g.F.Files.gave c.report_of_files.new.files) c.args.tally.now.steps c.report_of_files.new.tally.steps no_place no_debug made.cost;
+      cost = costs-as _ (found_cost limits sources o) _ _ c.args.tally.now.steps c.report_of_files.new.tally.steps (λ given. rw (no_place, no_debug) (omega arith)) made.cost;
     }

@@ -3,7 +3,7 @@ use Rattle.std.proofs.Common.{Err, Ok, refl, arith, rules}
 use Rattle.std.proofs.lemmas.Grind.{common_steps}
 use Rattle.bloaty_engine.specs.Given.{seen_files}
 use Rattle.bloaty_engine.specs.Reading.{run_reading}
-use Rattle.bloaty_engine.proofs.BuildLemmas.{asked-as, builds-ended, written-builds}
+use Rattle.bloaty_engine.proofs.BuildLemmas.{asked-as, build-stops, written-builds}
 use Rattle.bloaty_engine.proofs.ReadLemmas.{done-is-no-end}
 use Rattle.bloaty_engine.proofs.RunLemmas.{run-ends, run-writes}
 use Rattle.bloaty_engine.proofs.StepLemmas.{not-done, run-ended, written-reads}
@@ -11,7 +11,7 @@ use Rattle.bloaty_engine.proofs.run.answer.Goals as goal
 
 pub returns-in-Err : goal.returns-in-Err
 returns-in-Err g c =
-    let e = c.in-Err.ensures.text in
+    let e = c.in-Err.ensures in
     let limits = c.args.run.now.limits in
     let o = c.args.run.now.options in
     let seen = seen_files g.F.Files c.args.files.now c.report.new.files in
@@ -20,14 +20,14 @@ returns-in-Err g c =
       run = run-ends seen limits (g.P.Patterns.last_refused c.report.new.patterns) o e.contents e.are (g.O.Sink.written c.args.out.now) c.in-Err.end e.ends e.gives (λ plan. e.planned c.in-Err.end refl plan);
       files = run-ended g.F.Files (run_reading limits (Ok o)) c.in-Err.end c.args.files.now c.report.new.files ends e.files;
       patterns = asked-as g.P.Patterns seen limits (Ok o) (Err c.in-Err.end) _ c.args.patterns.now c.report.new.patterns
-          (λ b builds. builds-ended g.P.Patterns b c.in-Err.end c.args.patterns.now c.report.new.patterns ends builds) e.patterns;
+          (λ b builds. rw ends (build-stops g.P.Patterns b c.in-Err.end c.args.patterns.now c.report.new.patterns builds)) e.patterns;
       out = first_of (search rules, grind (arith, common_steps));
       parsed = first_of (search rules, grind (arith, common_steps));
     }
 
 pub returns : goal.returns
 returns g c =
-    let e = c.in-Ok.ensures.text in
+    let e = c.in-Ok.ensures in
     let limits = c.args.run.now.limits in
     let o = c.args.run.now.options in
     let seen = seen_files g.F.Files c.args.files.now c.report.new.files in

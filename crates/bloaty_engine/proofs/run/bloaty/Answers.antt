@@ -1,5 +1,5 @@
 -- A run is that of its options, or its arguments are misused.
-use Rattle.std.proofs.Common.{[], sym}
+use Rattle.std.proofs.Common.{[], sym, refl}
 use Rattle.std.proofs.lemmas.List.{append-nil}
 use Rattle.size_options.specs.Asked.{asked as options_of}
 use Rattle.size_options.specs.Words.{seen_words}
@@ -39,11 +39,11 @@ returns-in-Err-NoMemory-clause-files g c = unread-no-memory g.F.Files (run_readi
 
 pub returns-in-Err-Usage-clause-patterns : goal.returns-in-Err-Usage-clause-patterns
 returns-in-Err-Usage-clause-patterns g c =
-    asked-any g.P.Patterns (seen_files g.F.Files c.args.files.now c.args.files.now) _ _ _ c.args.patterns.now c.args.patterns.now [] (sym (append-nil _)) (λ b. unbuilt g.P.Patterns b _ c.args.patterns.now (λ e. cc) (λ i e. cc) (λ i e. cc))
+    asked-any g.P.Patterns (seen_files g.F.Files c.args.files.now c.args.files.now) _ _ _ c.args.patterns.now c.args.patterns.now [] (sym (append-nil _)) (λ b. unbuilt g.P.Patterns b _ c.args.patterns.now refl)
 
 pub returns-in-Err-NoMemory-clause-patterns : goal.returns-in-Err-NoMemory-clause-patterns
 returns-in-Err-NoMemory-clause-patterns g c =
-    asked-any g.P.Patterns (seen_files g.F.Files c.args.files.now c.args.files.now) _ _ _ c.args.patterns.now c.args.patterns.now [] (sym (append-nil _)) (λ b. unbuilt g.P.Patterns b _ c.args.patterns.now (λ e. cc) (λ i e. cc) (λ i e. cc))
+    asked-any g.P.Patterns (seen_files g.F.Files c.args.files.now c.args.files.now) _ _ _ c.args.patterns.now c.args.patterns.now [] (sym (append-nil _)) (λ b. unbuilt g.P.Patterns b _ c.args.patterns.now refl)
 
 pub returns-in-Ok-clause-err : goal.returns-in-Ok-clause-err
 returns-in-Ok-clause-err g c = rw c.in-Ok.ensures.asked (line-printed g.E.Sink c.tell.result _ c.answer-outcome.result c.args.err.now c.tell.new.err c.tell.ensures.writes c.tell.ensures.silent)

@@ -2,7 +2,7 @@
 use Rattle.std.proofs.Common.{sym, rules, Ok, Err}
 use Rattle.std.proofs.lemmas.List.Sorted.{answers_always}
 use Rattle.dwarf_claims.specs.declared.known.KnownUnit.{KnownUnit}
-use Rattle.dwarf_claims.proofs.KnownLemmas.{searched}
+use Rattle.dwarf_claims.proofs.Ascending.{searched}
 use Rattle.dwarf_claims.proofs.known.label_at.Goals as goal
 
 pub returns-in-Ok-clause-label : goal.returns-in-Ok-clause-label

@@ -1,12 +1,13 @@
-use Rattle.std.proofs.Common.{◌≡◌, None}
+use Rattle.std.proofs.Common.{◌≡◌}
 use Rattle.claim_sheet.specs.Sheets.{adding_read}
 use Rattle.dwarf_lines.specs.Rows.{line_rows}
 use Rattle.dwarf_claims.specs.RowSteps.{AreRowLabels, claims_from}
+use Rattle.dwarf_claims.specs.LineClaims.{rows_claims}
 use Rattle.dwarf_claims.proofs.row.add_rows.Given as goal
 
 abbrev pub invariant-loop-row : goal.invariant-loop-row
 invariant-loop-row l = record {
-  rest : adding_read l.sheet (claims_from l.program l.size l.before l.row-iterator) ≡ adding_read l.initial.sheet (claims_from l.program l.size None (line_rows l.program));
+  rest : adding_read l.sheet (claims_from l.program l.size l.before l.row-iterator) ≡ adding_read l.initial.sheet (rows_claims l.program l.size (line_rows l.program));
   labels : AreRowLabels l.sheet.made l.program l.labels;
   kept : l.sheet.pool ≡ l.initial.sheet.pool;
 }

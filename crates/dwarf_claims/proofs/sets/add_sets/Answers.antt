@@ -1,8 +1,7 @@
 -- A walk that stopped at a set has the fault of the set.
-use Rattle.dwarf_claims.specs.SetClaims.{set_claims}
-use Rattle.dwarf_claims.proofs.Lists.{list_stops}
+use Rattle.dwarf_claims.proofs.StopLemmas.{list_stops}
 use Rattle.dwarf_claims.proofs.sets.add_sets.Goals as goal
 
 pub returns-in_err-add_set : goal.returns-in_err-add_set
 returns-in_err-add_set c =
-    list_stops (set_claims _) _ _ _ _ _ _ _ _ _ c.loop-set.invariant.rest c.loop-set.invariant.kept c.in-Some.ensures.steps c.in_err-add_set.ensures c.from_residual.ensures.1
+    list_stops _ _ _ _ _ _ _ _ _ _ c.loop-set.invariant.rest c.loop-set.invariant.kept c.in-Some.ensures.steps c.in_err-add_set.ensures c.from_residual.ensures.1

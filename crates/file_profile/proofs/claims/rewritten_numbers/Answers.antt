@@ -1,6 +1,5 @@
 -- One more label has its new number.
-use Rattle.std.proofs.Common.{ℕ, List, ◌∙◌, arith}
-use Rattle.std.proofs.lemmas.List.{take_all}
+use Rattle.std.proofs.Common.{ℕ, List, ◌∙◌}
 use Rattle.claim_sheet.proofs.MadeLemmas.{kept-more}
 use Rattle.custom_rewrites.specs.Rewriting.{rewritten}
 use Rattle.file_profile.proofs.ClaimLemmas.{kept-label}
@@ -18,6 +17,3 @@ loop-k-preserved c =
       numbers = rw c.in_ok-push.ensures.items (renumbered-more f _ _ c.args.labels.now c.loop-k.numbers.items c.loop-k.k _ _ kept c.get.ensures number before.numbers);
       same = c.rewrite.ensures.same ∙ before.same;
     }
-
-pub returns-clause-numbers : goal.returns-clause-numbers
-returns-clause-numbers c = rw (take_all c.loop-k.k c.args.labels.now (omega (arith, c.len-k-end.ensures.count))) at c.loop-k.invariant.numbers

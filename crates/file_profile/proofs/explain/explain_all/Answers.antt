@@ -2,27 +2,15 @@
 use Rattle.std.proofs.Common.{refl, arith}
 use Rattle.size_model.proofs.Firsts.{item_at}
 use Rattle.file_profile.specs.Choices.{chosen_of}
-use Rattle.file_profile.specs.Claims.{claims_on}
-use Rattle.file_profile.specs.Explanations.{named_sources, sources_explained}
-use Rattle.file_profile.proofs.ClaimLemmas.{refused-as, within-ok, yields-made}
+use Rattle.file_profile.proofs.ClaimLemmas.{refused-as, yields-made}
 use Rattle.file_profile.proofs.PlaceLemmas.{places-end, places-more, places-refused}
-use Rattle.file_profile.proofs.WalkLemmas.{results-none}
 use Rattle.file_profile.proofs.explain.explain_all.Goals as goal
-
-pub loop-i-init : goal.loop-i-init
-loop-i-init c =
-    rw c.new-all.ensures.items (results-none (sources_explained c.args.limit c.args.request.now.place c.args.request.now.shown c.args.subject.now (named_sources c.args.names.now c.args.plan.now.sources)))
 
 pub returns-in_err-made : goal.returns-in_err-made
 returns-in_err-made c =
     let name = item_at c.args.names.now c.loop-i.i (omega (arith, c.loop-i-test.true, c.len-i-end.ensures, c.requires.names)) in
     refused-as _ (places-refused c.args.limit c.loop-i.left c.loop-i.i c.args.request.now.place c.args.request.now.shown c.args.subject.now c.args.names.now c.args.plan.now.sources c.loop-i.all.items
     c.loop-i.invariant name.0 (chosen_of c.source-chosen.result) name.1 c.source-chosen.ensures) c.from_residual.ensures.1 c.in_err-made.ensures
-
-pub overflow_sub-left : goal.overflow_sub-left
-overflow_sub-left c =
-    let is = c.in_ok-made.ensures.made in
-    omega (arith, is.shown.count, (within-ok c.loop-i.left (claims_on c.args.subject.now c.source-chosen.result.base) is.made is.are).1)
 
 pub loop-i-preserved : goal.loop-i-preserved
 loop-i-preserved c =

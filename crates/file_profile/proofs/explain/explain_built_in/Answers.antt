@@ -12,7 +12,7 @@ pub returns : goal.returns
 returns c =
     let is = c.in_ok-made.ensures.yields.made in
     let from : c.in_ok-explained.explained ≡ explained (length (bytes_of c.args.subject.now.binary)) (loads_of c.args.subject.now.binary) c.args.request.now.place c.args.request.now.shown
-    (numbered_view c.built_in_claims.new.pool c.in_ok-made.made.claims.items c.in_ok-made.made.unmapped) = rw (c.base.ensures, c.deref.ensures.value) at c.in_ok-explained.ensures in
+    (numbered_view c.claims_by.new.pool c.in_ok-made.made.claims.items c.in_ok-made.made.unmapped) = rw (c.base.ensures, c.deref.ensures.value) at c.in_ok-explained.ensures in
     yields-made (record {
       made = is.made;
       are = is.are;

@@ -5,14 +5,15 @@ use Rattle.run_plan.proofs.patterns.rewrites_from.Goals as goal
 
 pub returns-in-Err-PatternTooBig : goal.returns-in-Err-PatternTooBig
 returns-in-Err-PatternTooBig g c =
-    let why = rw c.in-Err-PatternTooBig.field-0-is at c.in-Err-PatternTooBig.ensures.answer in
-    let built = rw c.in-Err-PatternTooBig.field-0-is at c.in-Err-PatternTooBig.ensures.built in
+    let big = c.in-Err-PatternTooBig in
+    let fails = rw big.field-0-is at big.ensures in
+    let why = fails.answer in
     record {
       same = tt;
       read = tt;
-      cause = (c.in-Err-PatternTooBig.place, refl, why.0, why.1);
+      cause = (big.place, refl, why.0, why.1);
       patterns = record {
-        built = built-big c.args.first c.args.source.now.rewrites _ _ _ _ (g.P.Patterns.last_refused c.args.patterns.now) _ c.in-Err-PatternTooBig.place why built;
+        built = built-big c.args.first c.args.source.now.rewrites _ _ _ big.place why.0.0 why.0.1 why.0.2 fails.built;
         kept = tt;
         rises = c.build.ensures.rises;
         sound = λ q. cc;

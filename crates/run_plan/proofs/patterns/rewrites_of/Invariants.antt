@@ -1,7 +1,8 @@
-use Rattle.std.proofs.Common.{◌≡◌, ◌+◌, ◌++◌, length, take}
-use Rattle.custom_rewrites.specs.Rewriting.{patterns_in}
+use Rattle.std.proofs.Common.{◌≡◌, ◌+◌, Ok, length, take}
 use Rattle.file_profile.specs.Choices.{rewrite_lists}
 use Rattle.file_profile.specs.Patterns.{AreRead, rewrites_of}
+use Rattle.run_plan.specs.PatternLists.{rewrite_patterns}
+use Rattle.run_plan.specs.Planning.{Plans}
 use Rattle.run_plan.proofs.patterns.rewrites_of.Given as goal
 
 abbrev pub invariant-loop-source : goal.invariant-loop-source
@@ -9,7 +10,5 @@ invariant-loop-source g l = record {
   number : l.first ≡ 1 + length (rewrites_of (take l.source-index l.custom));
   same : l.all.items ≡ rewrite_lists (take l.source-index l.custom);
   read : AreRead (rewrites_of (take l.source-index l.custom));
-  last : g.P.Patterns.last_refused l.patterns ≡ g.P.Patterns.last_refused l.initial.patterns;
-  count : g.P.Patterns.refused l.patterns ≡ g.P.Patterns.refused l.initial.patterns;
-  built : g.P.Patterns.built l.patterns ≡ g.P.Patterns.built l.initial.patterns ++ patterns_in (rewrites_of (take l.source-index l.custom));
+  plans : Plans g.P.Patterns (rewrite_patterns 1 (rewrites_of (take l.source-index l.custom))) (Ok l.first) l.initial.patterns l.patterns;
 }
