@@ -3,27 +3,29 @@ use Rattle.bloaty_engine.proofs.TakenLemmas.{end-number}
 use Rattle.file_profile.specs.Views.{Answers, file_view, viewed}
 use Rattle.file_profile.specs.Profiles.{Profiles}
 use Rattle.file_profile.specs.declared.answer.ProfileAnswer.{ProfileAnswer}
-use Rattle.std.proofs.Common.{◌≡◌, ℕ, ◌+◌, ◌<◌, ◌≤◌, List, [], ◌∷◌, ◌++◌, length, take, drop, Some, Result, Ok, Err, refl, sym, ap, subst, ◌∙◌, arith}
+use Rattle.std.proofs.Common.{◌≡◌, ℕ, ◌+◌, ◌<◌, ◌≤◌, List, [], ◌∷◌, ◌++◌, length, take, drop, Some, Result, Ok, Err, codes, refl, sym, ap, subst, ◌∙◌, arith}
 use Rattle.std.specs.Prelude.{Vec, slice_get}
 use Rattle.std.specs.declared.alloc.Global.{Global}
 use Rattle.std.proofs.lemmas.List.{length-take, length-take-le, take-append-drop}
 use Rattle.std.proofs.lemmas.Option.{slice_get_within}
 use Rattle.size_core.specs.declared.limits.Limits.{Limits}
+use Rattle.elf_synth.specs.Made.{made}
 use Rattle.outside.specs.declared.files.Files.{Ghosts as FilesGhosts}
 use Rattle.outside.specs.Held.{IsTaken}
 use Rattle.rollup.specs.Totals.{Totals}
 use Rattle.file_profile.specs.Counts.{filter_test}
 use Rattle.file_profile.specs.Plans.{Plans}
+use Rattle.file_profile.proofs.MapLemmas.{err-same}
 use Rattle.run_outcome.specs.declared.outcome.Outcome.{Outcome}
 use Rattle.run_plan.proofs.FirstLemmas.{take-next}
 use Rattle.bloaty_engine.specs.declared.files.Tally.{Tally}
 use Rattle.bloaty_engine.specs.Costs.{CostsAtMost, files_cost}
 use Rattle.bloaty_engine.specs.FileReads.{ReadsBatch, ReadsFile}
-use Rattle.bloaty_engine.specs.FileSteps.{AddsFile}
+use Rattle.bloaty_engine.specs.FileSteps.{AddsFile, UsesMade}
 use Rattle.bloaty_engine.specs.Steps.{Batch, EndsFiles, Finds, batch_of}
 use Rattle.bloaty_engine.specs.Verdict.{next_limit, total_limit, end_at, file_limit}
 use Rattle.bloaty_engine.proofs.CostLemmas.{costs-one, costs-then, view-costs}
-use Rattle.bloaty_engine.proofs.FileLemmas.{count-next, count-stops, ends-front, read-stops, counted-one, counted-within, ends-viewed, ok-viewed, view-len, viewed-ok}
+use Rattle.bloaty_engine.proofs.FileLemmas.{count-next, count-stops, ends-front, none-yet, read-stops, counted-one, counted-within, ends-viewed, ok-viewed, view-len, viewed-ok}
 use Rattle.bloaty_engine.proofs.GivenLemmas.{given-all}
 use Rattle.bloaty_engine.proofs.InputLemmas.{all-same, batch-alone, batch-one, batch-then, beyond, beyond-behind, beyond-front}
 use Rattle.bloaty_engine.proofs.NextLemmas.{GoesOn, goes-as}
@@ -56,6 +58,35 @@ adds-file limits p i name bytes (Err why) old new before after fits answer effec
   lengths = tt;
   cost = view-costs (file_view limits.claims name bytes p.sources) before after effect.cost effect.free;
 }
+
+-- The result of counting the first file, by that of the step that adds it to this total.
+abbrev pub counted_to : Result (Unit {0}) Outcome → Totals → Result Totals Outcome
+counted_to (Ok u) t = Ok t
+counted_to (Err end) t = Err end
+
+-- The synthetic file is counted, or ends the run.
+pub made-counted : (limits : Limits) (p : Plans) (n depth : ℕ) (r : Result (Unit {0}) Outcome) (t : Totals) (before after : ℕ) → depth ≡ length p.sources → length (made n) ≤ next_limit limits 0
+    → AddsFile limits p 1 (codes "synth") (made n) r (record { depth = depth; rows = []; lengths = 0; mapped = 0 }) t before after
+    → UsesMade (EndsFiles limits p.sources (filter_test p.filter) (batch_of 0 0 (codes "synth" ∷ [])) (λ i. made n)) (counted_to r t)
+made-counted limits p n depth (Ok u) t before after is fits adds =
+    let room : 0 + length (made n) ≤ total_limit limits = omega (arith, fits) in
+    let batch = batch_of 0 0 (codes "synth" ∷ []) in
+    let none = none-yet limits p.sources (filter_test p.filter) batch (λ i. made n) depth is in
+    let f = ok-some _ (adds.ended 0 room) in
+    record {
+      ends = count-next limits p.sources (filter_test p.filter) batch (λ i. made n) 0 0 _ (codes "synth") refl none refl f.0 t f.1 (adds.counted 0 none.0 f.0 room f.1 none.2);
+      unread = λ i e. cc;
+      at = λ i late e. absurd e;
+    }
+made-counted limits p n depth (Err end) t before after is fits adds =
+    let batch = batch_of 0 0 (codes "synth" ∷ []) in
+    let none = none-yet limits p.sources (filter_test p.filter) batch (λ i. made n) depth is in
+    let ended = adds.ended 0 (omega (arith, fits)) in
+    record {
+      ends = count-stops limits p.sources (filter_test p.filter) batch (λ i. made n) 0 0 _ (codes "synth") refl none refl end ended;
+      unread = λ i e. absurd (rw (err-same _ _ e) at ended).1;
+      at = λ i late e. (adds.at i late e).0;
+    }
 
 -- The first k files of a batch were counted, and then file k is read.
 module _ {F L : Type 0} (f : FilesGhosts F) (limits : Limits) (p : Plans) (tally : Tally L) (names : List (List ℕ)) (k : ℕ) (name : List ℕ) (lengths limit : ℕ) (t : Totals) (s m u : F) (at : slice_get names k ≡ Some name)

@@ -27,8 +27,7 @@ use Rattle.bloaty_engine.specs.Steps.{Batch, EndsAs, EndsFiles, Finds, IsFileOf,
 use Rattle.bloaty_engine.specs.Verdict.{◌>>=◌, counted_file, counted_from, end_at, file_limit, if_viewed, next_limit, total_limit}
 use Rattle.file_profile.specs.Answers.{of_file_alone, refused_as}
 use Rattle.file_profile.specs.Views.{Answers, alone, if_opened, opened_viewed, viewed}
-use Rattle.file_profile.proofs.AloneLemmas.{ok-before}
-use Rattle.file_profile.proofs.LawLemmas.{of-viewed}
+use Rattle.file_profile.proofs.LawLemmas.{of-viewed, ok-before}
 use Rattle.bloaty_engine.proofs.EndLemmas.{ends-read, ends-so}
 use Rattle.run_plan.proofs.FirstLemmas.{take-next}
 use Rattle.bloaty_engine.proofs.ResultLemmas.{ok-is, short-long, short-next}

@@ -76,13 +76,13 @@ first-file o none one = by-files o.synth none o.files one
     by-files None none (n ∷ m ∷ files) one = absurd (omega (arith, one))
     by-files (Some n) none files one = cc
 
--- A step that ends the run at a file of it, after this many files were read.
+-- File k + 1 is a file of the run, and the names up to it are among the first `count` names that were read.
 within : (limits : Limits) (o : Options) (all : List (List ℕ)) (count k : ℕ) → k < length (all_names o) → read_upto o.synth (k + 1) ≤ count → IsWithin (reading_for limits o all) count (k + 1) 0
 within limits o all count k lt upto =
     let p : k + 1 ≡ suc k = omega arith in
     (get_or (all_names o) k [], rw p (slice_get-get_or (all_names o) k [] lt), omega (arith, upto))
 
--- After all files were read.
+-- The same if all files were read.
 pub within-run : (limits : Limits) (o : Options) (k : ℕ) → k < length (all_names o) → IsWithin (reading_for limits o (files_to_read o)) (length (files_to_read o)) (k + 1) 0
 within-run limits o k lt = within limits o (files_to_read o) (length (files_to_read o)) k lt (upto o.synth o.files (other_names o) k lt)
   where
@@ -90,7 +90,7 @@ within-run limits o k lt = within limits o (files_to_read o) (length (files_to_r
     upto None files others k lt = omega (arith, lt)
     upto (Some n) files others k lt = omega (arith, lt)
 
--- After the only file was read or made.
+-- The same for the only file, which was read or is synthetic.
 pub within-only : (limits : Limits) (o : Options) (all : List (List ℕ)) → IsOneInput o.synth o.files → IsWithin (reading_for limits o all) (length (unmade_names o.synth o.files)) 1 0
 within-only limits o all one = within limits o all (length (unmade_names o.synth o.files)) 0 (omega (arith, (sizes o.synth o.files one).0, length-append (file_names o) (other_names o))) (sizes o.synth o.files one).1
   where

@@ -1,16 +1,16 @@
 -- A file with its debug file, read and counted.
-use Rattle.std.proofs.Common.{◌≡◌, ℕ, ◌+◌, ◌-◌, ◌<◌, ◌≤◌, Bool, List, [], ◌∷◌, ◌++◌, length, Option, None, Some, Result, Ok, Err, inl, inr, refl, sym, ap, subst, ◌∙◌, arith}
+use Rattle.std.proofs.Common.{◌≡◌, ℕ, ◌+◌, ◌-◌, ◌<◌, ◌≤◌, Bool, List, [], ◌∷◌, ◌++◌, length, Option, None, Some, Result, Ok, Err, refl, sym, ap, subst, ◌∙◌, arith}
 use Rattle.std.specs.Prelude.{IsOk, Vec}
 use Rattle.std.specs.declared.alloc.Global.{Global}
 use Rattle.std.proofs.lemmas.List.{length-append}
 use Rattle.size_core.specs.declared.fault.BadFile.{BadFile}
 use Rattle.size_core.specs.declared.limits.Limits.{Limits}
-use Rattle.size_model.specs.declared.view.FileView.{FileView}
 use Rattle.data_sources.specs.declared.binary.Binary.{Binary}
 use Rattle.data_sources.specs.Opened.{opened}
 use Rattle.outside.specs.declared.files.Files.{Ghosts as FilesGhosts}
 use Rattle.file_profile.specs.declared.answer.PairAnswer.{PairAnswer}
 use Rattle.file_profile.specs.declared.answer.PairAnswer.TheVariants as pair
+use Rattle.file_profile.specs.declared.answer.PairFile.TheVariants as pair_file
 use Rattle.file_profile.specs.PairViews.{PairAnswers, pair_view, pair_viewed}
 use Rattle.file_profile.specs.Plans.{Plans}
 use Rattle.file_profile.specs.Sources.{Chosen}
@@ -27,19 +27,18 @@ use Rattle.bloaty_engine.specs.Devices.{EndsAt, IsEndAt}
 use Rattle.bloaty_engine.specs.FileReads.{ReadsFile, ReadsInputs, ReadsOnly}
 use Rattle.bloaty_engine.specs.Given.{input_pairs, pairs_from}
 use Rattle.bloaty_engine.specs.PairSteps.{CountsPair, EndsPair, EndsPaired, IsOfPair}
-use Rattle.bloaty_engine.specs.Steps.{EndsAs, EndsBy, Finds, Nowhere}
+use Rattle.bloaty_engine.specs.Steps.{EndsAs, EndsFilesWith, Finds, Nowhere}
 use Rattle.bloaty_engine.specs.Reading.{files_to_read, made_len, reading_for, unmade_names}
 use Rattle.bloaty_engine.specs.Reports.{AsksPair, EndsFinding, IsReadFile, IsReportFor, Reports}
 use Rattle.bloaty_engine.specs.Verdict.{◌>>=◌, Counted, Sides, as_counted, counted_pair, end_of_pair, first_name, found, found_by, if_paired, if_short, if_sound, next_limit, one_file, opened_first}
 use Rattle.file_profile.proofs.LawLemmas.{of-file}
 use Rattle.file_profile.specs.Profiles.{Profiles}
-use Rattle.bloaty_engine.proofs.CostLemmas.{costs-as, view-costs}
+use Rattle.bloaty_engine.proofs.CostLemmas.{costs-as, costs-ended, view-costs}
 use Rattle.bloaty_engine.proofs.FileLemmas.{counted-one, none-counted}
 use Rattle.bloaty_engine.proofs.EndLemmas.{ends-at, ends-read, ends-so}
 use Rattle.bloaty_engine.proofs.GivenLemmas.{given-all}
-use Rattle.bloaty_engine.proofs.InputLemmas.{all-same, batch-one, beyond, beyond-behind, beyond-front, first-file, inputs-next, within-run}
-use Rattle.bloaty_engine.proofs.NextLemmas.{PrintsTotal, Shows, shows-next}
-use Rattle.file_profile.proofs.FaultLemmas.{IsNumbered, IsOneOrTwo, numbered-pair}
+use Rattle.bloaty_engine.proofs.InputLemmas.{all-same, batch-one, beyond, beyond-behind, beyond-front, first-file, inputs-alone, inputs-next, within-run}
+use Rattle.bloaty_engine.proofs.NextLemmas.{GoesOn, PrintsTotal, Shows, shows-next}
 use Rattle.bloaty_engine.proofs.SidesLemmas.{counted-as}
 use Rattle.bloaty_engine.proofs.ResultLemmas.{ok-some, short-long, short-next}
 use Rattle.bloaty_engine.proofs.StepLemmas.{IsWithin}
@@ -110,23 +109,17 @@ ends-paired limits sources filter name file debug pair.NoMemory e = (refl, tt)
 ends-paired limits sources filter name file debug why e = (refl, ap if_paired e)
 
 -- A fault of the format ends the run at file 1.
-pub sound-at : (decided : Result Binary BadFile) (end : Outcome) (i late : ℕ) → EndsBy Nowhere (if_sound decided) end → IsEndAt i late end → (i ≡ 1) × (late ≡ 0)
+pub sound-at : (decided : Result Binary BadFile) (end : Outcome) (i late : ℕ) → EndsFilesWith Nowhere (if_sound decided) end → IsEndAt i late end → (i ≡ 1) × (late ≡ 0)
 sound-at decided end i late e at = ends-at (if_sound decided) end i late _ (λ is. by-fault decided is) e at
   where
     by-fault : (decided : Result Binary BadFile) → if_sound decided ≡ Err end → (i ≡ 1) × (late ≡ 0)
     by-fault (Ok binary) is = let wrong : ⊥ = cc in absurd wrong
     by-fault (Err bad) is = let b = rw (← err-same _ _ is) at at in (sym b.0, b.1)
 
--- An answer about the pair ends the run at one of the two files, which were read.
-paired-at : (decided : Result FileView PairAnswer) (end : Outcome) (i late : ℕ) → IsNumbered decided → if_paired decided ≡ Err end → IsEndAt i late end → (late ≡ 0) × IsOneOrTwo i
-paired-at (Ok f) end i late numbered is at = let wrong : ⊥ = cc in absurd wrong
-paired-at (Err why) end i late numbered is at = by-answer why numbered (rw (← err-same _ _ is) at at)
-  where
-    by-answer : (why : PairAnswer) → IsNumbered {X = FileView} (Err why) → IsEndAt i late (end_of_pair why) → (late ≡ 0) × IsOneOrTwo i
-    by-answer (pair.Bad k bad) numbered at = (at.1, rw at.0 at numbered)
-    by-answer pair.NoMatch numbered at = (at.1, inr (sym at.0))
-    by-answer pair.TooManyClaims numbered at = (at.1, inl (sym at.0))
-    by-answer why numbered at = absurd at
+-- The result of the run by that of counting them.
+abbrev pub paired_result : Result (Unit {0}) PairAnswer → Totals → Result Totals Outcome
+paired_result (Ok u) t = Ok t
+paired_result (Err why) t = Err (end_of_pair why)
 
 -- The options of a pair.
 
@@ -158,18 +151,17 @@ module _ (o : Options) (debug : List ℕ) (is : IsPair o) (asked : o.debug ≡ S
   pair-other own others = beyond-behind (length (file_names o)) own others 2 (omega (arith, pair-count))
 
   module _ (limits : Limits) where
-    -- A step that ends the run at one of the two, after both were read.
-    pub paired-within : (sources : List Chosen) (filter : Option (List ℕ → Bool)) (name own other : List ℕ) (r : Result Totals Outcome) → EndsPaired limits sources filter name own other r
-        → (i late : ℕ) → EndsAt i late r → (late ≡ 0) × IsWithin (reading_for limits o (files_to_read o)) (length (files_to_read o)) i 0
-    paired-within sources filter name own other (Ok t) e i late at = absurd at
-    paired-within sources filter name own other (Err end) e i late at =
-        let decided = pair_viewed 0 limits.claims name own other sources in
-        let n = ends-at (if_paired decided) end i late _ (λ so. paired-at decided end i late (numbered-pair 0 limits.claims name own other sources) so at) e at in
-        (n.0, either i n.1)
-      where
-        either : (i : ℕ) → IsOneOrTwo i → IsWithin (reading_for limits o (files_to_read o)) (length (files_to_read o)) i 0
-        either i (inl one) = rw one (within-run limits o 0 (omega (arith, pair-all)))
-        either i (inr two) = rw two (within-run limits o 1 (omega (arith, pair-all)))
+    file-within : (k i : ℕ) → k < 2 → k + 1 ≡ i → IsWithin (reading_for limits o (files_to_read o)) (length (files_to_read o)) i 0
+    file-within k i lt is = rw (← is) (within-run limits o k (omega (arith, lt, pair-all)))
+
+    -- If counting them ends the run at a file, it is one of the two, after both were read.
+    pub paired-within : (r : Result (Unit {0}) PairAnswer) (t : Totals) (i late : ℕ) → EndsAt i late (paired_result r t) → (late ≡ 0) × IsWithin (reading_for limits o (files_to_read o)) (length (files_to_read o)) i 0
+    paired-within (Ok u) t i late at = absurd at
+    paired-within (Err (pair.Bad pair_file.Own bad)) t i late at = (at.1, file-within 0 i (omega arith) at.0)
+    paired-within (Err (pair.Bad pair_file.Debug bad)) t i late at = (at.1, file-within 1 i (omega arith) at.0)
+    paired-within (Err pair.NoMatch) t i late at = (at.1, file-within 1 i (omega arith) at.0)
+    paired-within (Err pair.TooManyClaims) t i late at = (at.1, file-within 0 i (omega arith) at.0)
+    paired-within (Err why) t i late at = absurd at
 
     module _ (sources : List Chosen) (filter : Option (List ℕ)) (same : filter ≡ o.filter) (depth : length o.sources ≡ length sources) (no_place : o.place ≡ None) (files : ℕ → List ℕ) where
       found-pair : (r : Result Sides Outcome) → counted_pair limits sources (first_name o) (files 1) (files 2) ≡ r → found limits sources files o ≡ as_counted r
@@ -213,34 +205,34 @@ both-read f limits p o debug file limit read s t u asks is first second =
     (batch-one f limits 1 (length file.items) limit debug read t u (omega (arith, fits)) is second)
     (λ own others a b. rw (pair-own o debug pair asks.debug own others, pair-other o debug pair asks.debug own others) (a, rw (← is) b))
 
--- Then they are counted.
-pub pair-done : {F : Type 0} (f : FilesGhosts F) (limits : Limits) (p : Plans) (o : Options) (name : List ℕ) (file debug : Vec ℕ Global) (s u : F) (old new : ℕ) → AsksPair o p name → ReadsInputs f limits o (λ bytes. AreBothRead limits file bytes) (Ok debug) s u
-    → IsOk (if_sound (opened file.items)) → (r : Result Totals Outcome) → EndsPaired limits p.sources (filter_test p.filter) (first_name o) file.items debug.items r
-    → new ≤ old + view_cost (pair_view limits.claims (first_name o) file.items debug.items p.sources) → CountsPair f limits p o r s u old new
-pair-done f limits p o name file debug s u old new asks both sound r ends cost =
-    let is = asks.ready.limits.debug _ asks.debug in
-    let test = filter_test p.filter in
-    record {
-      inputs = all-same f _ _ _ _ _ (Ok debug) r s u both (paired-within o name is asks.debug limits p.sources test (first_name o) _ _ r ends)
-          (λ bytes e. pair-counted limits p.sources test (first_name o) (bytes 1) (bytes 2) e.0.1 (rw e.0.0 at sound) (omega (arith, e.1.1, ap length e.0.0)) r (rw (e.0.0, e.1.0) at ends));
-      cost = record {
-        given = (first_name o, both.bytes 1) ∷ (name, both.bytes 2) ∷ [];
-        are = given-all debug _ _ _ both.gives ∙ ap (λ ps. f.gave s ++ ps) (pair-pairs o name is asks.debug both.bytes);
-        most = subst (λ x. new ≤ old + view_cost (pair_view limits.claims (first_name o) x (both.bytes 2) p.sources)) both.ends.0.0 (subst (λ x. new ≤ old + view_cost (pair_view limits.claims (first_name o) file.items x p.sources)) both.ends.1.0 cost);
-      };
-    }
+-- The run ends at the file, and the debug file isn't read.
+pub pair-stopped : {F : Type 0} (f : FilesGhosts F) (limits : Limits) (p : Plans) (o : Options) (name : List ℕ) (a : Result (Vec ℕ Global) Outcome) (end : Outcome) (s t : F) (steps : ℕ) → AsksPair o p name → ReadsOnly f limits o a s t
+    → GoesOn {Y = Totals} (λ i. IsWithin (reading_for limits o (files_to_read o)) (length (unmade_names o.synth o.files)) i 0) a (Err end)
+    → ((own other : List ℕ) → Finds 1 (next_limit limits 0) own a → EndsPair limits p.sources (filter_test p.filter) (first_name o) own other (Err end)) → CountsPair f limits p o (Err end) s t steps steps
+pair-stopped f limits p o name a end s t steps asks first next ends = record {
+  inputs = inputs-alone f limits o _ _ a (Err end) s t first.files next tt (λ own others e. rw (pair-own o name (asks.ready.limits.debug _ asks.debug) asks.debug own others) (ends (own 1) _ e));
+  cost = costs-ended _ _ _ _ _ steps first.files.all.gives;
+}
 
--- The result of the run by that of counting them.
-abbrev pub paired_result : Result (Unit {0}) PairAnswer → Totals → Result Totals Outcome
-paired_result (Ok u) t = Ok t
-paired_result (Err why) t = Err (end_of_pair why)
-
+-- The two are counted, or the run ends at one of them.
 pub pair-profiled : {F : Type 0} (f : FilesGhosts F) (limits : Limits) (p : Plans) (o : Options) (name : List ℕ) (file debug : Vec ℕ Global) (s u : F) (old new : ℕ) → AsksPair o p name → ReadsInputs f limits o (λ bytes. AreBothRead limits file bytes) (Ok debug) s u
     → IsOk (if_sound (opened file.items)) → (r : Result (Unit {0}) PairAnswer) (depth : ℕ) (t : Totals) → depth ≡ length p.sources → PairAnswers r (pair_viewed 0 limits.claims (first_name o) file.items debug.items p.sources)
     → Profiles r (pair_viewed 0 limits.claims (first_name o) file.items debug.items p.sources) (pair_view limits.claims (first_name o) file.items debug.items p.sources) p.filter (length file.items) (record { depth = depth; rows = []; lengths = 0; mapped = 0 }) t old new
     → CountsPair f limits p o (paired_result r t) s u old new
 pair-profiled f limits p o name file debug s u old new asks both sound r depth t is answer effect =
-    pair-done f limits p o name file debug s u old new asks both sound (paired_result r t) (ends r answer effect) (view-costs (pair_view limits.claims (first_name o) file.items debug.items p.sources) old new effect.cost effect.free)
+    let pair = asks.ready.limits.debug _ asks.debug in
+    let test = filter_test p.filter in
+    let counted = ends r answer effect in
+    let cost = view-costs (pair_view limits.claims (first_name o) file.items debug.items p.sources) old new effect.cost effect.free in
+    record {
+      inputs = all-same f _ _ _ _ _ (Ok debug) (paired_result r t) s u both (paired-within o name pair asks.debug limits r t)
+          (λ bytes e. pair-counted limits p.sources test (first_name o) (bytes 1) (bytes 2) e.0.1 (rw e.0.0 at sound) (omega (arith, e.1.1, ap length e.0.0)) (paired_result r t) (rw (e.0.0, e.1.0) at counted));
+      cost = record {
+        given = (first_name o, both.bytes 1) ∷ (name, both.bytes 2) ∷ [];
+        are = given-all debug _ _ _ both.gives ∙ ap (λ ps. f.gave s ++ ps) (pair-pairs o name pair asks.debug both.bytes);
+        most = subst (λ x. new ≤ old + view_cost (pair_view limits.claims (first_name o) x (both.bytes 2) p.sources)) both.ends.0.0 (subst (λ x. new ≤ old + view_cost (pair_view limits.claims (first_name o) file.items x p.sources)) both.ends.1.0 cost);
+      };
+    }
   where
     ends : (r : Result (Unit {0}) PairAnswer) → PairAnswers r (pair_viewed 0 limits.claims (first_name o) file.items debug.items p.sources)
         → Profiles r (pair_viewed 0 limits.claims (first_name o) file.items debug.items p.sources) (pair_view limits.claims (first_name o) file.items debug.items p.sources) p.filter (length file.items) (record { depth = depth; rows = []; lengths = 0; mapped = 0 }) t old new

@@ -90,7 +90,7 @@ gave-behind : (front : List (List ℕ)) (p q : Reading) (taken spent : ℕ) → 
 gave-behind front p q taken spent names part i late name at old mid new are (n, le, gave) =
     (length front + n, omega (arith, le, (part.each i name at).1), rw names (adds-behind (names_given old) (names_given mid) front p.names are n (names_given new) gave))
 
--- A step that ends the run at a file, after all files of a reading returned their bytes.
+-- File i is one of a reading, and the names up to it are at most `count`, or one more if its own read returned no bytes (`late` is 1).
 abbrev pub IsWithin : Reading → ℕ → ℕ → ℕ → Type 0
 IsWithin q count i late = (name : List ℕ) × (q.name_of i ≡ Some name) × (q.upto i ≤ count + late)
 

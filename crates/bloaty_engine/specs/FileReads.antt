@@ -31,17 +31,17 @@ pub record ReadsFile {F : Type 0} (f : FilesGhosts F) (number : ℕ) (name : Lis
   pub reads : Reads f (file_reading number name limit) result before after
   pub taken : IfOk result (λ v. IsTaken (f.held before) (length v.items) (f.taken before) (f.taken after))
 
--- The effect of a step that reads the files of a reading. `Are` says which bytes these files have, `pairs` which names are read, with
+-- The effect of a step that reads the files of a reading. `HaveBytes` says which bytes these files have, `pairs` which names are read, with
 -- their bytes, and `P` which result the step has over them. `before` and `after` are the files before and after it.
 --
 -- bytes, are: The files have these bytes, by their numbers.
 -- ends: The step has its result over them.
 -- gives: Its reads returned these bytes.
 -- reads: It read these files, one after the other.
-pub record ReadsAll {F X : Type 0} (f : FilesGhosts F) (reading : Reading) (Are : Option Pairs → (ℕ → List ℕ) → Type 0)
+pub record ReadsAll {F X : Type 0} (f : FilesGhosts F) (reading : Reading) (HaveBytes : Option Pairs → (ℕ → List ℕ) → Type 0)
     (pairs : (ℕ → List ℕ) → Pairs) (P : (ℕ → List ℕ) → Result X Outcome → Type 0) (result : Result X Outcome) (before after : F) : Type 0 where
   pub bytes : ℕ → List ℕ
-  pub are : Are (f.held before) bytes
+  pub are : HaveBytes (f.held before) bytes
   pub ends : P bytes result
   pub gives : Gives result (f.gave before) (f.gave after) (pairs bytes)
   pub reads : Reads f reading result before after

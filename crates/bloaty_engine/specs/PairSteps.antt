@@ -13,7 +13,7 @@ use Rattle.run_outcome.specs.declared.outcome.Outcome.{Outcome}
 use Rattle.bloaty_engine.specs.Costs.{CostsAtMost, pair_cost}
 use Rattle.file_reports.specs.SizeReport.{HasCounted}
 use Rattle.bloaty_engine.specs.FileReads.{ReadsInputs}
-use Rattle.bloaty_engine.specs.Steps.{EndsBy, Nowhere}
+use Rattle.bloaty_engine.specs.Steps.{EndsFilesWith, Nowhere}
 use Rattle.bloaty_engine.specs.Verdict.{IsPairRead, counted_pair, first_name, if_paired, one_file}
 
 -- A file and its debug file were counted, or the run ended at one of them.
@@ -21,7 +21,7 @@ abbrev pub EndsPaired : Limits → List Chosen → Option (List ℕ → Bool) �
 EndsPaired limits sources filter name file debug (Ok t) =
     (f : FileView) × (pair_viewed 0 limits.claims name file debug sources ≡ Ok f) × HasCounted filter (length sources) (f ∷ []) t
 EndsPaired limits sources filter name file debug (Err end) =
-    EndsBy Nowhere (if_paired (pair_viewed 0 limits.claims name file debug sources)) end
+    EndsFilesWith Nowhere (if_paired (pair_viewed 0 limits.claims name file debug sources)) end
 
 -- File i is one of the two, and the run gets as far as reading it.
 abbrev pub IsOfPair : Limits → List ℕ → ℕ → Type 0
@@ -32,7 +32,7 @@ IsOfPair limits file i = (k : ℕ) × (i ≡ k + 1) × (k < 2) × IsPairRead lim
 abbrev pub EndsPair : Limits → List Chosen → Option (List ℕ → Bool) → List ℕ → List ℕ → List ℕ → Result Totals Outcome → Type 0
 EndsPair limits sources filter name file debug (Ok t) =
     (f : FileView) × (counted_pair limits sources name file debug ≡ Ok (one_file f)) × HasCounted filter (length sources) (f ∷ []) t
-EndsPair limits sources filter name file debug (Err end) = EndsBy (IsOfPair limits file) (counted_pair limits sources name file debug) end
+EndsPair limits sources filter name file debug (Err end) = EndsFilesWith (IsOfPair limits file) (counted_pair limits sources name file debug) end
 
 -- The effect of a step that reads and counts the file with its debug file. `before` and `after` are the files before and after it,
 -- `old` and `new` the counts of steps.

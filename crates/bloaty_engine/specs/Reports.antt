@@ -16,7 +16,7 @@ use Rattle.run_outcome.specs.Names.{all_names, file_names, side_names}
 use Rattle.file_reports.specs.SizeReport.{IsSizeReport}
 use Rattle.file_profile.specs.Plans.{Plans}
 use Rattle.file_profile.specs.Sources.{Chosen}
-use Rattle.bloaty_engine.specs.Steps.{EndsBy}
+use Rattle.bloaty_engine.specs.Steps.{EndsFilesWith}
 use Rattle.bloaty_engine.specs.Verdict.{Finding, Counted, Explained, IsReadAt, Sides, counted_files, counted_sides, found}
 use Rattle.report_text.specs.Places.{place_report_text}
 
@@ -51,13 +51,13 @@ abbrev pub EndsCounting : Limits → List Chosen → (ℕ → List ℕ) → Opti
 EndsCounting limits sources files o (Ok text) =
     (s : Sides) × (counted_sides limits sources files (file_names o) o.bases ≡ Ok s) × IsReportFor o.bases o s text.items
 EndsCounting limits sources files o (Err end) =
-    EndsBy (IsCountedFile limits sources files o) (counted_sides limits sources files (file_names o) o.bases) end
+    EndsFilesWith (IsCountedFile limits sources files o) (counted_sides limits sources files (file_names o) o.bases) end
 
 -- What the options ask for was found in files with these bytes, and the text is its report. Or the run ended at one of
 -- these files, or at a failed read that the run got to.
 abbrev pub EndsFinding : Limits → List Chosen → (ℕ → List ℕ) → Options → Result (Vec ℕ Global) Outcome → Type 0
 EndsFinding limits sources files o (Ok text) = (f : Finding) × (found limits sources files o ≡ Ok f) × IsReport o f text.items
-EndsFinding limits sources files o (Err end) = EndsBy (IsReadFile limits sources files o) (found limits sources files o) end
+EndsFinding limits sources files o (Err end) = EndsFilesWith (IsReadFile limits sources files o) (found limits sources files o) end
 
 -- The options keep their limits, and the plan is theirs.
 pub record IsReady (o : Options) (p : Plans) : Type 0 where

@@ -40,9 +40,9 @@ is_file_end PlaceOutside = true
 is_file_end NoMemory = true
 is_file_end end = false
 
--- The same for a step over files. It has no other outcomes.
-abbrev pub EndsBy : {X : Type 0} → (ℕ → Type 0) → Result X Outcome → Outcome → Type 0
-EndsBy may_fail decided end = (is_file_end end ≡ true) × EndsWith may_fail decided end
+-- The same for a step over files, which has no other outcomes than these.
+abbrev pub EndsFilesWith : {X : Type 0} → (ℕ → Type 0) → Result X Outcome → Outcome → Type 0
+EndsFilesWith may_fail decided end = (is_file_end end ≡ true) × EndsWith may_fail decided end
 
 -- No read can fail.
 abbrev pub Nowhere : ℕ → Type 0
@@ -57,7 +57,7 @@ EndsConfig limits name text (Err end) =
 -- A step that reads no file has this result, or runs out of memory.
 abbrev pub EndsAs : {X : Type 0} → Result (Unit {0}) Outcome → Result X Outcome → Type 0
 EndsAs (Ok u) decided = IsOk decided
-EndsAs (Err end) decided = EndsBy Nowhere decided end
+EndsAs (Err end) decided = EndsFilesWith Nowhere decided end
 
 -- Files that are counted together: their names, the number of the first of them, and the sum of the lengths of the
 -- files before it.
@@ -89,7 +89,7 @@ IsFileOf limits sources b files i = (k : ℕ) × (i ≡ b.first + k) × (k < len
 abbrev pub EndsFiles : Limits → List Chosen → Option (List ℕ → Bool) → Batch → (ℕ → List ℕ) → Result Totals Outcome → Type 0
 EndsFiles limits sources filter b files (Ok t) =
     (fs : List FileView) × (counted_batch limits sources files b ≡ Ok fs) × HasCounted filter (length sources) fs t
-EndsFiles limits sources filter b files (Err end) = EndsBy (IsFileOf limits sources b files) (counted_batch limits sources files b) end
+EndsFiles limits sources filter b files (Err end) = EndsFilesWith (IsFileOf limits sources b files) (counted_batch limits sources files b) end
 
 -- The outcome of a run that has no plan.
 abbrev pub EndsPlan : List (List ℕ) → Option (List ℕ) → List CustomSource → List ℕ → Outcome → Type 0

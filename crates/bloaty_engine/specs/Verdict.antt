@@ -23,6 +23,8 @@ use Rattle.bloaty_engine.specs.Named.{Contents}
 use Rattle.run_outcome.specs.Names.{file_names}
 use Rattle.file_profile.specs.declared.answer.PairAnswer.{PairAnswer}
 use Rattle.file_profile.specs.declared.answer.PairAnswer.TheVariants as pair
+use Rattle.file_profile.specs.declared.answer.PairFile.{PairFile}
+use Rattle.file_profile.specs.declared.answer.PairFile.TheVariants as pair_file
 use Rattle.file_profile.specs.declared.answer.PlaceAnswer.{PlaceAnswer}
 use Rattle.file_profile.specs.declared.answer.PlaceAnswer.TheVariants as explaining
 use Rattle.file_profile.specs.PairViews.{pair_viewed}
@@ -146,9 +148,14 @@ if_sound (Err bad) = Err (outcome.Bad 1 bad.fault bad.offset)
 unfoldable pub opened_first : Limits → List ℕ → Result Binary Outcome
 opened_first limits file = if_short limits 1 0 file (if_sound (opened file))
 
+-- The number of a file of a pair.
+abbrev pub pair_number : PairFile → ℕ
+pair_number pair_file.Own = 1
+pair_number pair_file.Debug = 2
+
 -- The outcome of a run in which a file and its debug file, which are files 1 and 2, can't be counted.
 abbrev pub end_of_pair : PairAnswer → Outcome
-end_of_pair (pair.Bad i bad) = outcome.Bad i bad.fault bad.offset
+end_of_pair (pair.Bad which bad) = outcome.Bad (pair_number which) bad.fault bad.offset
 end_of_pair pair.NoMatch = outcome.NoMatch
 end_of_pair pair.TooManyClaims = outcome.TooManyClaims 1
 end_of_pair pair.MappedTooLarge = outcome.MappedTooLarge

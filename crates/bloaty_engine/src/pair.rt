@@ -10,7 +10,7 @@ ghost use Rattle.bloaty_engine.specs.Verdict.{end_of_pair, if_sound};
 use crate::files::{first_name, only_file, read_file};
 use crate::request::Run;
 use data_sources::open_binary;
-use file_profile::{PairAnswer, Plan, profile_pair};
+use file_profile::{PairAnswer, PairFile, Plan, profile_pair};
 use file_reports::report_of_sizes;
 use outside::Files;
 use rollup::Rollup;
@@ -23,8 +23,13 @@ fn end_of_pair(answer: PairAnswer) -> Outcome
     ensures { result ≡ end_of_pair answer }
 {
     match answer {
-        PairAnswer::Bad(number, BadFile { fault, offset }) => Outcome::Bad {
-            file: number as usize,
+        PairAnswer::Bad(PairFile::Own, BadFile { fault, offset }) => Outcome::Bad {
+            file: 1,
+            fault,
+            offset,
+        },
+        PairAnswer::Bad(PairFile::Debug, BadFile { fault, offset }) => Outcome::Bad {
+            file: 2,
             fault,
             offset,
         },

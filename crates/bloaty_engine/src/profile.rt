@@ -25,6 +25,7 @@ use std::sync::ledger::Ledger;
 /// - `MappedTooLarge`: the mapped sizes of this file and of those in `total` exceed 2^63 - 1.
 ///
 /// `NoMemory` may come at any step. After an error `total` is as before.
+#[tactic(auto, unfolding(file_profile::specs::Views::viewed))]
 pub fn profile_file<L: Ledger>(
     alloc: Global,
     plan: &Plan,

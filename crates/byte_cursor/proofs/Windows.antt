@@ -1,10 +1,10 @@
 -- The bytes of a window are the bytes of the file at the window's offset.
-use Rattle.std.proofs.Common.{◌≡◌, ℕ, zero, suc, ◌+◌, ◌-◌, ◌*◌, ◌%◌, ◌<◌, ◌≤◌, ◌==◌, Bool, true, false, List, [], ◌∷◌, length, get_or, take, drop, Option, Some, None, refl, sym, ap, ◌∙◌, arith}
+use Rattle.std.proofs.Common.{◌≡◌, ℕ, zero, suc, ◌+◌, ◌-◌, ◌<◌, ◌≤◌, ◌==◌, Bool, true, false, List, length, get_or, take, drop, Option, Some, None, refl, sym, ap, ◌∙◌, arith}
 use Rattle.std.proofs.lemmas.List.{get_or-take, get_or-drop, drop-drop, drop-take}
 use Rattle.std.proofs.lemmas.List.Quantifiers.{position-Some}
 use Rattle.std.proofs.lemmas.List.Sums.{position_or_len_is}
 use Rattle.std.proofs.lemmas.Grind.{common_steps}
-use Rattle.std.specs.Prelude.{ℤ, position, if◌then◌else◌}
+use Rattle.std.specs.Prelude.{position}
 use Rattle.std.specs.Option.{option_map}
 use Rattle.byte_cursor.proofs.Zeros.{at_place}
 use Rattle.std.specs.Int.{Width, byte_len, byte_worth, sum_through}

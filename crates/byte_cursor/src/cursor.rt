@@ -10,7 +10,7 @@ ghost use Rattle.byte_cursor.specs.Numbers.{num, uleb, sleb, text};
 ghost use Rattle.byte_cursor.specs.Reads.{whole, unsigned_value, signed_value, leb_len, sub_window, skipped};
 
 use crate::leb::{last_digit, signed, unsigned};
-use crate::numbers::{text_at, u8_at, u16_at, u32_at, u64_at};
+use crate::numbers::{text_at, u16_at, u32_at, u64_at};
 use crate::order::Order;
 use size_core::{BadFile, Fault};
 use std::marker::Model;
@@ -132,6 +132,7 @@ impl<'a> Cursor<'a> {
     }
 
     /// Reads one byte. Truncated if none is left.
+    #[tactic(auto, unfolding(crate::specs::Numbers::field))]
     pub fn u8(&mut self) -> Result<u8, BadFile>
         ensures value { result
             ≡ whole (num self.old.bytes self.old.at w8 Little) (place_of self.old) }
@@ -140,7 +141,8 @@ impl<'a> Cursor<'a> {
         if self.left() < 1 {
             return Err(self.fault(Fault::Truncated));
         }
-        let value = u8_at(self.bytes, self.at as usize);
+        let rest = self.rest();
+        let value = rest[0];
         self.at += 1;
         Ok(value)
     }

@@ -10,5 +10,5 @@ mod order;
 
 pub use cursor::Cursor;
 pub use encoding::{ByClass, Encoding};
-pub use numbers::{text_at, u8_at, u16_at, u32_at, u64_at};
+pub use numbers::{text_at, u16_at, u32_at, u64_at};
 pub use order::Order;

@@ -1,23 +1,12 @@
 //! Reads numbers and texts from bytes that are known to hold them.
 
 ghost use Rattle.std.specs.Prelude.{◌≡◌, ◌+◌, ◌≤◌, length, ◌==◌, position};
-ghost use Rattle.std.specs.Int.{w8, w16, w32, w64};
+ghost use Rattle.std.specs.Int.{w16, w32, w64};
 ghost use Rattle.std.specs.Option.{option_copied};
 ghost use Rattle.byte_cursor.specs.Numbers.{field, text};
-ghost use Rattle.byte_cursor.specs.declared.order.Order.TheVariants.{Little};
 
 use crate::order::Order;
 use memchr::memchr;
-
-/// Returns the byte at an index.
-#[tactic(auto, unfolding(crate::specs::Numbers::field))]
-pub fn u8_at(bytes: &[u8], at: usize) -> u8
-    requires { at + 1 ≤ length bytes.now }
-    ensures { result ≡ field bytes.now at w8 Little }
-{
-    let rest = &bytes[at..];
-    rest[0]
-}
 
 /// Returns the number in the two bytes from an index on.
 #[tactic(auto, unfolding(crate::specs::Numbers::field))]

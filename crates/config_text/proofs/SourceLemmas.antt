@@ -1,5 +1,5 @@
 -- Each step of the reading keeps the rules of a configuration.
-use Rattle.std.proofs.Common.{◌≡◌, ◌∙◌, ◌<◌, ◌≤◌, ◌+◌, ◌==◌, ◌⊎◌, inl, inr, ℕ, zero, suc, subst, List, [], ◌∷◌, ◌++◌, true, Option, Some, None, Result, Ok, Err, All, IfSome, length, take, slice_get, sum_by, nat_lt, is_some, codes, refl, ap, arith, if◌then◌else◌, length-append}
+use Rattle.std.proofs.Common.{Bool, ◌≡◌, ◌∙◌, ◌<◌, ◌≤◌, ◌+◌, ◌==◌, ◌⊎◌, inl, inr, ℕ, zero, suc, subst, List, [], ◌∷◌, ◌++◌, true, Option, Some, None, Result, Ok, Err, All, IfSome, length, take, slice_get, sum_by, nat_lt, is_some, codes, refl, ap, arith, if◌then◌else◌, length-append}
 use Rattle.std.proofs.lemmas.Bool.Decides.{nat_tests}
 use Rattle.std.proofs.lemmas.List.{take-append-le}
 use Rattle.std.proofs.Math.Seq.{take-append_seam}
@@ -114,19 +114,19 @@ begins_rewrite d at s =
     })
     (λ _. tt)
 
-stands_once : {X : Type 0} (given : Option X) (field : Field) (d : Draft) (at : ℕ) → Sound (level_of field) d → Keeps (once given field d at)
-stands_once given field d at s = chosen Keeps (is_some given) _ _ (λ _. tt) (λ _. s)
+stands_once : (given : Bool) (field : Field) (d : Draft) (at : ℕ) → Sound (level_of field) d → Keeps (once given field d at)
+stands_once given field d at s = chosen Keeps given _ _ (λ _. tt) (λ _. s)
 
 begins_field : (d : Draft) (at : ℕ) (name : List ℕ) → Sound InSource d → Keeps (field_begun d at name)
 begins_field d at name s =
-    chosen Keeps (bytes_eq name (codes "name")) _ _ (λ _. stands_once d.source.name Name d at s)
-    (λ _. chosen Keeps (bytes_eq name (codes "base_data_source")) _ _ (λ _. stands_once d.source.base Base d at s)
+    chosen Keeps (bytes_eq name (codes "name")) _ _ (λ _. stands_once (is_some d.source.name) Name d at s)
+    (λ _. chosen Keeps (bytes_eq name (codes "base_data_source")) _ _ (λ _. stands_once (is_some d.source.base) Base d at s)
     (λ _. chosen Keeps (bytes_eq name (codes "rewrite")) _ _ (λ _. begins_rewrite d at s) (λ _. tt)))
 
 begins_part : (d : Draft) (at : ℕ) (name : List ℕ) → Sound InRewrite d → Keeps (part_begun d at name)
 begins_part d at name s =
-    chosen Keeps (bytes_eq name (codes "pattern")) _ _ (λ _. stands_once d.rewrite.pattern Pattern d at s)
-    (λ _. chosen Keeps (bytes_eq name (codes "replacement")) _ _ (λ _. stands_once d.rewrite.replacement Replacement d at s) (λ _. tt))
+    chosen Keeps (bytes_eq name (codes "pattern")) _ _ (λ _. stands_once (is_some d.rewrite.pattern) Pattern d at s)
+    (λ _. chosen Keeps (bytes_eq name (codes "replacement")) _ _ (λ _. stands_once (is_some d.rewrite.replacement) Replacement d at s) (λ _. tt))
 
 ends_source : (d : Draft) (at : ℕ) → Sound InSource d → (name : Option (List ℕ)) (base : Option Source) → IfSome name (λ n. is_free d.sources n ≡ true)
     → Keeps (source_made at name base d.source.rewrites >>= λ made. Ok (Separated InFile, source_closed d made))

@@ -5,8 +5,9 @@ use Rattle.config_text.specs.declared.config.ConfigAnswer.{ConfigAnswer}
 use Rattle.config_text.specs.declared.draft.SourceParts.{SourceParts}
 use Rattle.config_text.specs.declared.draft.RewriteParts.{RewriteParts}
 use Rattle.config_text.specs.Tokens.{Placed, Place, ahead, Word, Mark, End}
-use Rattle.config_text.specs.Grammar.{Fault, Draft, no_source, no_rewrite, Opening, InSource}
-use Rattle.config_text.specs.Config.{sources_from}
+use Rattle.config_text.specs.Grammar.{Fault, State, Level, Draft, no_source, no_rewrite, Opening, Separated, InSource}
+use Rattle.config_text.specs.Config.{sources_from, sources_after}
+use Rattle.config_text.specs.Outcomes.{Carries}
 use Rattle.config_text.specs.Reads.{IsAhead, is_other}
 use Rattle.config_text.specs.declared.reader.Next.{Next}
 use Rattle.config_text.specs.declared.reader.Next.TheVariants as next
@@ -26,6 +27,11 @@ in_rewrite d parts = record d { rewrite = parts }
 -- The sources with those of the rest if another source begins, or else the sources that were read.
 abbrev pub goes_on : List Placed → Draft → Bool → Result (List CustomSource) Fault
 goes_on ts d begins = (if begins then sources_from ts (Opening InSource) d else Ok d.sources)
+
+-- A field was read. `begun` is the state after its name, and `d` the draft after its value.
+abbrev pub ReadsField : {X : Type 0} → Result X ConfigAnswer → Place → Place → Result State Fault → Level → Draft → Type 0
+ReadsField result old new begun level d = Carries result (sources_after (ahead old) begun)
+    (λ _. sources_from (ahead new) (Separated level) d)
 
 -- The next token is the one that was found.
 abbrev pub Shows : Next → Place → Place → Type 0

@@ -152,9 +152,9 @@ source_begun d at name =
     (if nat_lt (length d.sources) 64 then Ok (Opening InSource, d) else bad TooMany at)
     else bad UnknownField at
 
--- The state after the name of a field that can be given once. The option is its earlier value.
-abbrev pub once : {X : Type 0} → Option X → Field → Draft → ℕ → Result State Fault
-once given field d at = if is_some given then bad RepeatedField at else Ok (Colon field, d)
+-- The state after the name of a field that can be given once. `given` is whether it has an earlier value.
+abbrev pub once : Bool → Field → Draft → ℕ → Result State Fault
+once given field d at = if given then bad RepeatedField at else Ok (Colon field, d)
 
 -- The state after the name of a rewrite.
 abbrev pub rewrite_begun : Draft → ℕ → Result State Fault
@@ -163,16 +163,16 @@ rewrite_begun d at = if nat_lt d.begun 64 then Ok (Opening InRewrite, record d {
 -- The state after a name in a source.
 abbrev pub field_begun : Draft → ℕ → List ℕ → Result State Fault
 field_begun d at name =
-    if bytes_eq name (codes "name") then once d.source.name Name d at
-    else if bytes_eq name (codes "base_data_source") then once d.source.base Base d at
+    if bytes_eq name (codes "name") then once (is_some d.source.name) Name d at
+    else if bytes_eq name (codes "base_data_source") then once (is_some d.source.base) Base d at
     else if bytes_eq name (codes "rewrite") then rewrite_begun d at
     else bad UnknownField at
 
 -- The state after a name in a rewrite.
 abbrev pub part_begun : Draft → ℕ → List ℕ → Result State Fault
 part_begun d at name =
-    if bytes_eq name (codes "pattern") then once d.rewrite.pattern Pattern d at
-    else if bytes_eq name (codes "replacement") then once d.rewrite.replacement Replacement d at
+    if bytes_eq name (codes "pattern") then once (is_some d.rewrite.pattern) Pattern d at
+    else if bytes_eq name (codes "replacement") then once (is_some d.rewrite.replacement) Replacement d at
     else bad UnknownField at
 
 -- ENDS OF BLOCKS

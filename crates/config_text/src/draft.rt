@@ -23,13 +23,6 @@ pub(crate) struct RewriteParts {
     pub(crate) replacement: Option<Bytes>,
 }
 
-/// Returns the fault MissingField at the closing brace, which is at offset `at`.
-fn missing_field(at: usize) -> ConfigAnswer
-    ensures { result ≡ ConfigAnswer.Bad ConfigKind.MissingField at }
-{
-    ConfigAnswer::Bad(ConfigKind::MissingField, at as u64)
-}
-
 /// Returns a source without fields.
 pub(crate) fn no_source(alloc: Global) -> SourceParts
     ensures { result ≡ no_source }
@@ -52,7 +45,7 @@ pub(crate) fn no_rewrite() -> RewriteParts
 }
 
 /// Returns the source whose closing brace is at offset `at`. MissingField if a field is missing.
-pub(crate) fn close_source(parts: SourceParts, at: usize) -> Result<CustomSource, ConfigAnswer>
+pub(crate) fn close_source(parts: SourceParts, at: u64) -> Result<CustomSource, ConfigAnswer>
     ensures { Gives (λ s. s) result (source_made at parts.name parts.base parts.rewrites) }
 {
     let SourceParts {
@@ -66,12 +59,12 @@ pub(crate) fn close_source(parts: SourceParts, at: usize) -> Result<CustomSource
             base,
             rewrites,
         }),
-        _ => Err(missing_field(at)),
+        _ => Err(ConfigAnswer::Bad(ConfigKind::MissingField, at)),
     }
 }
 
 /// Returns the rewrite whose closing brace is at offset `at`. MissingField if a field is missing.
-pub(crate) fn close_rewrite(parts: RewriteParts, at: usize) -> Result<Rewrite, ConfigAnswer>
+pub(crate) fn close_rewrite(parts: RewriteParts, at: u64) -> Result<Rewrite, ConfigAnswer>
     ensures { Gives (λ r. r) result (rewrite_made at parts.pattern parts.replacement) }
 {
     let RewriteParts {
@@ -83,6 +76,6 @@ pub(crate) fn close_rewrite(parts: RewriteParts, at: usize) -> Result<Rewrite, C
             pattern,
             replacement,
         }),
-        _ => Err(missing_field(at)),
+        _ => Err(ConfigAnswer::Bad(ConfigKind::MissingField, at)),
     }
 }

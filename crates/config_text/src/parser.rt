@@ -1,12 +1,12 @@
 //! Parses a configuration.
 
-ghost use Rattle.std.specs.Prelude.{◌≡◌, ◌≤◌, ◌∷◌, ◌++◌, [], ℕ, List, length, IfOk, OnOk};
+ghost use Rattle.std.specs.Prelude.{◌≤◌, ◌∷◌, ◌++◌, [], ℕ, List, length, IfOk, OnOk};
 ghost use Rattle.config_text.specs.declared.config.CustomSource.{CustomSource as Source};
 ghost use Rattle.config_text.specs.Tokens.{ahead};
-ghost use Rattle.config_text.specs.Grammar.{Draft, Separated, Item, Opening, InFile, InSource, InRewrite, Name, Base, Pattern, Replacement, once, field_begun, rewrite_begun, part_begun, no_rewrite, rewrite_closed};
-ghost use Rattle.config_text.specs.Config.{config, sources_from, sources_after};
+ghost use Rattle.config_text.specs.Grammar.{Draft, Separated, Item, Opening, InFile, InSource, InRewrite, field_begun, rewrite_begun, part_begun, no_rewrite, rewrite_closed};
+ghost use Rattle.config_text.specs.Config.{config, sources_from};
 ghost use Rattle.config_text.specs.Sources.{AreSources};
-ghost use Rattle.config_text.specs.Drafts.{in_file, in_source, in_rewrite, goes_on, PassesName};
+ghost use Rattle.config_text.specs.Drafts.{in_file, in_source, in_rewrite, goes_on, PassesName, ReadsField};
 ghost use Rattle.config_text.specs.Outcomes.{Gives, Carries};
 
 use crate::config::{ConfigAnswer, ConfigKind, CustomSource, Rewrite};
@@ -21,72 +21,26 @@ const MOST_SOURCES: usize = 64;
 /// The maximum number of rewrites in a configuration, over all sources.
 const MOST_REWRITES: usize = 64;
 
-/// Returns a fault at an offset.
-fn fault_at(kind: ConfigKind, at: usize) -> ConfigAnswer
-    ensures { result ≡ ConfigAnswer.Bad kind at }
-{
-    ConfigAnswer::Bad(kind, at as u64)
-}
-
-/// Reads the pattern of a rewrite, after its name at offset `at`.
-fn read_pattern(
-    reader: &mut Reader<'_>,
-    at: usize,
-    parts: &mut RewriteParts,
-) -> Result<(), ConfigAnswer>
-    ensures carries { (d : Draft) → Carries result
-        (sources_after (ahead reader.old)
-        (once parts.old.pattern Pattern (in_rewrite d parts.old) at))
-        (λ _. sources_from (ahead reader.new) (Separated InRewrite) (in_rewrite d parts.new)) }
-    ensures left { OnOk result (length reader.new.rest ≤ length reader.old.rest) }
-{
-    if parts.pattern.is_some() {
-        return Err(fault_at(ConfigKind::RepeatedField, at));
+impl RewriteParts {
+    /// Reads a field of a rewrite, after its name.
+    fn read_part(&mut self, reader: &mut Reader<'_>, field: NameAt<'_>) -> Result<(), ConfigAnswer>
+        ensures carries { (d : Draft) → ReadsField result reader.old reader.new
+            (part_begun (in_rewrite d self.old) field.entry.at field.entry.name.now)
+            InRewrite (in_rewrite d self.new) }
+        ensures left { OnOk result (length reader.new.rest ≤ length reader.old.rest) }
+    {
+        if field.name == b"pattern".as_slice() {
+            let value = reader.value(field.at, self.pattern.is_some())?;
+            self.pattern = Some(text_of(reader.alloc(), &value)?);
+            return Ok(());
+        }
+        if field.name == b"replacement".as_slice() {
+            let value = reader.value(field.at, self.replacement.is_some())?;
+            self.replacement = Some(replacement_of(reader.alloc(), &value)?);
+            return Ok(());
+        }
+        Err(ConfigAnswer::Bad(ConfigKind::UnknownField, field.at))
     }
-    let value = reader.value()?;
-    parts.pattern = Some(text_of(reader.alloc(), &value)?);
-    Ok(())
-}
-
-/// Reads the replacement of a rewrite, after its name at offset `at`.
-fn read_replacement(
-    reader: &mut Reader<'_>,
-    at: usize,
-    parts: &mut RewriteParts,
-) -> Result<(), ConfigAnswer>
-    ensures carries { (d : Draft) → Carries result
-        (sources_after (ahead reader.old)
-        (once parts.old.replacement Replacement (in_rewrite d parts.old) at))
-        (λ _. sources_from (ahead reader.new) (Separated InRewrite) (in_rewrite d parts.new)) }
-    ensures left { OnOk result (length reader.new.rest ≤ length reader.old.rest) }
-{
-    if parts.replacement.is_some() {
-        return Err(fault_at(ConfigKind::RepeatedField, at));
-    }
-    let value = reader.value()?;
-    parts.replacement = Some(replacement_of(reader.alloc(), &value)?);
-    Ok(())
-}
-
-/// Reads a field of a rewrite, after its name.
-fn read_part(
-    reader: &mut Reader<'_>,
-    field: NameAt<'_>,
-    parts: &mut RewriteParts,
-) -> Result<(), ConfigAnswer>
-    ensures carries { (d : Draft) → Carries result
-        (sources_after (ahead reader.old)
-        (part_begun (in_rewrite d parts.old) field.entry.at field.entry.name.now))
-        (λ _. sources_from (ahead reader.new) (Separated InRewrite) (in_rewrite d parts.new)) }
-    ensures left { OnOk result (length reader.new.rest ≤ length reader.old.rest) }
-{
-    if field.name == b"pattern".as_slice() {
-        return read_pattern(reader, field.at, parts);
-    }
-    if field.name == b"replacement".as_slice() {
-        return read_replacement(reader, field.at, parts);
-    }
-    Err(fault_at(ConfigKind::UnknownField, field.at))
 }
 
 /// Reads the block of a rewrite.
@@ -100,108 +54,67 @@ fn read_rewrite(reader: &mut Reader<'_>) -> Result<Rewrite, ConfigAnswer>
     let mut parts = no_rewrite();
     'parts: loop {
         match reader.next() {
-            Next::Word(field) => read_part(reader, field, &mut parts)?,
+            Next::Word(field) => parts.read_part(reader, field)?,
             Next::Mark(at, b'}') => return close_rewrite(parts, at),
             Next::Mark(at, _) | Next::End(at) | Next::Other(at) => {
-                return Err(fault_at(ConfigKind::Syntax, at));
+                return Err(ConfigAnswer::Bad(ConfigKind::Syntax, at));
             }
         }
         reader.skip_separator();
     }
 }
 
-/// Reads a rewrite of a source, after its name at offset `at`.
-fn add_rewrite(
-    reader: &mut Reader<'_>,
-    at: usize,
-    begun: &mut usize,
-    parts: &mut SourceParts,
-) -> Result<(), ConfigAnswer>
-    ensures carries { (sources : List Source) → Carries result
-        (sources_after (ahead reader.old)
-        (rewrite_begun (in_source sources begun.old parts.old) at))
-        (λ _. sources_from (ahead reader.new) (Separated InSource)
-        (in_source sources begun.new parts.new)) }
-    ensures left { OnOk result (length reader.new.rest ≤ length reader.old.rest) }
-{
-    if *begun >= MOST_REWRITES {
-        return Err(fault_at(ConfigKind::TooMany, at));
+impl SourceParts {
+    /// Reads a rewrite of a source, after its name at offset `at`.
+    fn add_rewrite(
+        &mut self,
+        reader: &mut Reader<'_>,
+        at: u64,
+        begun: &mut usize,
+    ) -> Result<(), ConfigAnswer>
+        ensures carries { (sources : List Source) → ReadsField result reader.old reader.new
+            (rewrite_begun (in_source sources begun.old self.old) at)
+            InSource (in_source sources begun.new self.new) }
+        ensures left { OnOk result (length reader.new.rest ≤ length reader.old.rest) }
+    {
+        if *begun >= MOST_REWRITES {
+            return Err(ConfigAnswer::Bad(ConfigKind::TooMany, at));
+        }
+        *begun += 1;
+        let made = read_rewrite(reader)?;
+        self.rewrites.push(made)?;
+        Ok(())
     }
-    *begun += 1;
-    let made = read_rewrite(reader)?;
-    parts.rewrites.push(made)?;
-    Ok(())
-}
 
-/// Reads the name of a source, after the field's name at offset `at`.
-fn read_name(
-    reader: &mut Reader<'_>,
-    at: usize,
-    sources: &[CustomSource],
-    parts: &mut SourceParts,
-) -> Result<(), ConfigAnswer>
-    ensures carries { (begun : ℕ) → Carries result
-        (sources_after (ahead reader.old)
-        (once parts.old.name Name (in_source sources.now begun parts.old) at))
-        (λ _. sources_from (ahead reader.new) (Separated InSource)
-        (in_source sources.now begun parts.new)) }
-    ensures left { OnOk result (length reader.new.rest ≤ length reader.old.rest) }
-{
-    if parts.name.is_some() {
-        return Err(fault_at(ConfigKind::RepeatedField, at));
+    /// Reads a field of a source, after its name.
+    fn read_field(
+        &mut self,
+        reader: &mut Reader<'_>,
+        field: NameAt<'_>,
+        sources: &[CustomSource],
+        begun: &mut usize,
+    ) -> Result<(), ConfigAnswer>
+        ensures carries { ReadsField result reader.old reader.new
+            (field_begun (in_source sources.now begun.old self.old)
+            field.entry.at field.entry.name.now)
+            InSource (in_source sources.now begun.new self.new) }
+        ensures left { OnOk result (length reader.new.rest ≤ length reader.old.rest) }
+    {
+        if field.name == b"name".as_slice() {
+            let value = reader.value(field.at, self.name.is_some())?;
+            self.name = Some(name_of(reader.alloc(), sources, &value)?);
+            return Ok(());
+        }
+        if field.name == b"base_data_source".as_slice() {
+            let value = reader.value(field.at, self.base.is_some())?;
+            self.base = Some(base_of(&value)?);
+            return Ok(());
+        }
+        if field.name == b"rewrite".as_slice() {
+            return self.add_rewrite(reader, field.at, begun);
+        }
+        Err(ConfigAnswer::Bad(ConfigKind::UnknownField, field.at))
     }
-    let value = reader.value()?;
-    parts.name = Some(name_of(reader.alloc(), sources, &value)?);
-    Ok(())
-}
-
-/// Reads the base of a source, after the field's name at offset `at`.
-fn read_base(
-    reader: &mut Reader<'_>,
-    at: usize,
-    parts: &mut SourceParts,
-) -> Result<(), ConfigAnswer>
-    ensures carries { (sources : List Source) (begun : ℕ) → Carries result
-        (sources_after (ahead reader.old)
-        (once parts.old.base Base (in_source sources begun parts.old) at))
-        (λ _. sources_from (ahead reader.new) (Separated InSource)
-        (in_source sources begun parts.new)) }
-    ensures left { OnOk result (length reader.new.rest ≤ length reader.old.rest) }
-{
-    if parts.base.is_some() {
-        return Err(fault_at(ConfigKind::RepeatedField, at));
-    }
-    let value = reader.value()?;
-    parts.base = Some(base_of(&value)?);
-    Ok(())
-}
-
-/// Reads a field of a source, after its name.
-fn read_field(
-    reader: &mut Reader<'_>,
-    field: NameAt<'_>,
-    sources: &[CustomSource],
-    begun: &mut usize,
-    parts: &mut SourceParts,
-) -> Result<(), ConfigAnswer>
-    ensures carries { Carries result
-        (sources_after (ahead reader.old)
-        (field_begun (in_source sources.now begun.old parts.old)
-        field.entry.at field.entry.name.now))
-        (λ _. sources_from (ahead reader.new) (Separated InSource)
-        (in_source sources.now begun.new parts.new)) }
-    ensures left { OnOk result (length reader.new.rest ≤ length reader.old.rest) }
-{
-    if field.name == b"name".as_slice() {
-        return read_name(reader, field.at, sources, parts);
-    }
-    if field.name == b"base_data_source".as_slice() {
-        return read_base(reader, field.at, parts);
-    }
-    if field.name == b"rewrite".as_slice() {
-        return add_rewrite(reader, field.at, begun, parts);
-    }
-    Err(fault_at(ConfigKind::UnknownField, field.at))
 }
 
 /// Reads the block of a source.
@@ -220,10 +133,10 @@ fn read_source(
     let mut parts = no_source(reader.alloc());
     'fields: loop {
         match reader.next() {
-            Next::Word(field) => read_field(reader, field, sources, begun, &mut parts)?,
+            Next::Word(field) => parts.read_field(reader, field, sources, begun)?,
             Next::Mark(at, b'}') => return close_source(parts, at),
             Next::Mark(at, _) | Next::End(at) | Next::Other(at) => {
-                return Err(fault_at(ConfigKind::Syntax, at));
+                return Err(ConfigAnswer::Bad(ConfigKind::Syntax, at));
             }
         }
         reader.skip_separator();
@@ -240,13 +153,13 @@ fn begins_source(reader: &mut Reader<'_>, sources: &[CustomSource]) -> Result<bo
     match reader.next() {
         Next::Word(word) if word.name == b"custom_data_source".as_slice() => {
             if sources.len() >= MOST_SOURCES {
-                return Err(fault_at(ConfigKind::TooMany, word.at));
+                return Err(ConfigAnswer::Bad(ConfigKind::TooMany, word.at));
             }
             Ok(true)
         }
-        Next::Word(word) => Err(fault_at(ConfigKind::UnknownField, word.at)),
+        Next::Word(word) => Err(ConfigAnswer::Bad(ConfigKind::UnknownField, word.at)),
         Next::End(_) => Ok(false),
-        Next::Mark(at, _) | Next::Other(at) => Err(fault_at(ConfigKind::Syntax, at)),
+        Next::Mark(at, _) | Next::Other(at) => Err(ConfigAnswer::Bad(ConfigKind::Syntax, at)),
     }
 }
 

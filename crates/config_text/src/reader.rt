@@ -2,9 +2,9 @@
 
 ghost use Rattle.std.specs.Prelude.{◌≡◌, ◌+◌, ◌<◌, ◌≤◌, ◌^◌, [], ◌∷◌, ℕ, true, false, length, slice_index, IfOk, IfErr, OnOk};
 ghost use Rattle.config_text.specs.declared.config.ConfigKind.TheVariants.{BadString, Syntax};
-ghost use Rattle.config_text.specs.Tokens.{ahead, escaped, is_blank, is_in_word, begins_word, is_mark, is_quote, spelled, Between, InString, Word, Quoted};
-ghost use Rattle.config_text.specs.Grammar.{Draft, Field, Level, Item, Separated, Opening, Colon, level_of, with_value};
-ghost use Rattle.config_text.specs.Config.{sources_from, sources_after_value};
+ghost use Rattle.config_text.specs.Tokens.{ahead, escaped, is_in_word, begins_word, is_mark, is_quote, spelled, Between, InString, Word, Quoted};
+ghost use Rattle.config_text.specs.Grammar.{Draft, Field, Level, Item, Separated, Opening, once, with_value};
+ghost use Rattle.config_text.specs.Config.{sources_from, sources_after, sources_after_value};
 ghost use Rattle.config_text.specs.Outcomes.{Carries};
 ghost use Rattle.config_text.specs.Drafts.{Shows, LeavesLess};
 ghost use Rattle.config_text.specs.Reads.{begins_token, begins_name, begins_string, gap_after, Passes, IsBroken, IsRead};
@@ -16,7 +16,7 @@ use std::marker::Model;
 /// A name in a text, with its offset in bytes.
 #[derive(Clone, Copy)]
 pub(crate) struct NameAt<'a> {
-    pub(crate) at: usize,
+    pub(crate) at: u64,
     pub(crate) name: &'a [u8],
 }
 
@@ -26,11 +26,11 @@ pub(crate) enum Next<'a> {
     /// A name.
     Word(NameAt<'a>),
     /// One of `: { } , ;`.
-    Mark(usize, u8),
+    Mark(u64, u8),
     /// The end of the text.
-    End(usize),
+    End(u64),
     /// A quote, or a byte that begins no token.
-    Other(usize),
+    Other(u64),
 }
 
 /// The value of a field, with the offset of its first quote.
@@ -44,7 +44,7 @@ pub(crate) struct Value {
 #[derive(Drop)]
 pub(crate) struct Reader<'a> {
     alloc: Global,
-    at: usize,
+    at: u64,
     rest: &'a [u8],
 }
 
@@ -59,25 +59,11 @@ impl<'a> Model for Reader<'a> {
     ghost invariant = { λ r. r.at + length r.rest.now < 2 ^ 64 };
 }
 
-/// Returns whether the byte can be between tokens: space, tab, carriage return or line feed.
-fn is_blank(byte: u8) -> bool
-    ensures { result ≡ is_blank byte }
-{
-    byte == b' ' || byte == b'\t' || byte == b'\r' || byte == b'\n'
-}
-
 /// Returns whether a name can begin with the byte.
 fn begins_word(byte: u8) -> bool
     ensures { result ≡ begins_word byte }
 {
     byte.is_ascii_alphabetic() || byte == b'_'
-}
-
-/// Returns whether a name can contain the byte.
-fn is_in_word(byte: u8) -> bool
-    ensures { result ≡ is_in_word byte }
-{
-    begins_word(byte) || byte.is_ascii_digit()
 }
 
 /// Returns whether the byte is one of `: { } , ;`.
@@ -87,27 +73,16 @@ fn is_mark(byte: u8) -> bool
     byte == b':' || byte == b'{' || byte == b'}' || byte == b',' || byte == b';'
 }
 
-/// Returns whether the byte is a quote, which begins a string.
-fn is_quote(byte: u8) -> bool
-    ensures { result ≡ is_quote byte }
-{
-    byte == b'"' || byte == b'\''
-}
-
 /// Returns the byte that an escape is replaced by. `byte` is the one after the backslash.
 fn unescape(byte: u8) -> Option<u8>
     ensures { result ≡ escaped byte }
 {
-    if byte == b'n' {
-        Some(b'\n')
-    } else if byte == b'r' {
-        Some(b'\r')
-    } else if byte == b't' {
-        Some(b'\t')
-    } else if byte == b'\\' || is_quote(byte) {
-        Some(byte)
-    } else {
-        None
+    match byte {
+        b'n' => Some(b'\n'),
+        b'r' => Some(b'\r'),
+        b't' => Some(b'\t'),
+        b'\\' | b'"' | b'\'' => Some(byte),
+        _ => None,
     }
 }
 
@@ -116,13 +91,12 @@ fn gap_after(in_comment: bool, byte: u8) -> Option<bool>
     ensures { result ≡ gap_after in_comment byte }
 {
     if in_comment {
-        Some(byte != b'\n')
-    } else if byte == b'#' {
-        Some(true)
-    } else if is_blank(byte) {
-        Some(false)
-    } else {
-        None
+        return Some(byte != b'\n');
+    }
+    match byte {
+        b'#' => Some(true),
+        b' ' | b'\t' | b'\r' | b'\n' => Some(false),
+        _ => None,
     }
 }
 
@@ -133,18 +107,11 @@ fn word_len(bytes: &[u8]) -> usize
     ensures end { result < length bytes.now → is_in_word (slice_index bytes.now result) ≡ false }
 {
     for (i, byte) in bytes.iter().enumerate() {
-        if !is_in_word(*byte) {
+        if !begins_word(*byte) && !byte.is_ascii_digit() {
             return i;
         }
     }
     bytes.len()
-}
-
-/// Returns the fault BadString of the string at offset `start`.
-fn bad_string(start: usize) -> ConfigAnswer
-    ensures { result ≡ ConfigAnswer.Bad BadString start }
-{
-    ConfigAnswer::Bad(ConfigKind::BadString, start as u64)
 }
 
 /// Reads the string at offset `start`, from the byte after its quote on. Returns its value, and the reader
@@ -152,9 +119,9 @@ fn bad_string(start: usize) -> ConfigAnswer
 fn parse_string(
     alloc: Global,
     quote: u8,
-    start: usize,
+    start: u64,
     bytes: &[u8],
-) -> Result<(Vec<u8>, usize, &[u8]), ConfigAnswer>
+) -> Result<(Vec<u8>, u64, &[u8]), ConfigAnswer>
     requires fits { start + 1 + length bytes.now < 2 ^ 64 }
     requires quote { is_quote quote ≡ true }
     ensures ok { IfOk result (λ r. IsRead quote start bytes.now r.0.items r.1 r.2.now) }
@@ -169,13 +136,16 @@ fn parse_string(
             [byte, after @ ..] if *byte == quote => return Ok((value, at + 1, after)),
             [b'\\', code, after @ ..] => {
                 let Some(byte) = unescape(*code) else {
-                    return Err(bad_string(start));
+                    return Err(ConfigAnswer::Bad(ConfigKind::BadString, start));
                 };
                 value.push(byte)?;
                 rest = after;
                 at += 2;
             }
-            [] | [b'\\'] | [b'\n', ..] => return Err(bad_string(start)),
+            [] | [b'\\'] | [b'\n', ..] => return Err(ConfigAnswer::Bad(
+                ConfigKind::BadString,
+                start,
+            )),
             [byte, after @ ..] => {
                 value.push(*byte)?;
                 rest = after;
@@ -200,13 +170,6 @@ impl<'a> Reader<'a> {
     /// Returns the allocator with which values are made.
     pub(crate) fn alloc(&self) -> Global {
         self.alloc
-    }
-
-    /// Returns the fault Syntax at the next token.
-    fn syntax_error(&self) -> ConfigAnswer
-        ensures { result ≡ ConfigAnswer.Bad Syntax self.now.at }
-    {
-        ConfigAnswer::Bad(ConfigKind::Syntax, self.at as u64)
     }
 
     /// Skips blanks and comments.
@@ -269,7 +232,7 @@ impl<'a> Reader<'a> {
     {
         self.mark(b':');
         if !self.mark(b'{') {
-            return Err(self.syntax_error());
+            return Err(ConfigAnswer::Bad(ConfigKind::Syntax, self.at));
         }
         Ok(())
     }
@@ -282,7 +245,7 @@ impl<'a> Reader<'a> {
     {
         let len = word_len(self.rest);
         let (name, rest) = self.rest.split_at(len);
-        self.at += len;
+        self.at += len as u64;
         self.rest = rest;
         name
     }
@@ -327,7 +290,7 @@ impl<'a> Reader<'a> {
                 self.rest = rest;
                 Ok(value)
             }
-            [] => Err(bad_string(start)),
+            [] => Err(ConfigAnswer::Bad(ConfigKind::BadString, start)),
         }
     }
 
@@ -336,7 +299,7 @@ impl<'a> Reader<'a> {
         ensures { result ≡ begins_string self.now.rest }
     {
         match self.rest {
-            [byte, ..] => is_quote(*byte),
+            [byte, ..] => *byte == b'"' || *byte == b'\'',
             [] => false,
         }
     }
@@ -359,22 +322,26 @@ impl<'a> Reader<'a> {
         Ok(value)
     }
 
-    /// Reads the colon and the value of a field.
-    pub(crate) fn value(&mut self) -> Result<Value, ConfigAnswer>
+    /// Reads the colon and the value of a field, after its name at offset `at`. RepeatedField if the field
+    /// is given already.
+    pub(crate) fn value(&mut self, at: u64, is_given: bool) -> Result<Value, ConfigAnswer>
         ensures value { (field : Field) (d : Draft) → Carries result
-            (sources_from (ahead self.old) (Colon field) d)
+            (sources_after (ahead self.old) (once is_given field d at))
             (λ v. sources_after_value (ahead self.new) field
             (with_value field d v.at v.bytes.items)) }
         ensures left { OnOk result (length self.new.rest ≤ length self.old.rest) }
     {
+        if is_given {
+            return Err(ConfigAnswer::Bad(ConfigKind::RepeatedField, at));
+        }
         if !self.mark(b':') {
-            return Err(self.syntax_error());
+            return Err(ConfigAnswer::Bad(ConfigKind::Syntax, self.at));
         }
         self.skip_gap();
+        let at = self.at;
         if !self.is_at_quote() {
-            return Err(self.syntax_error());
+            return Err(ConfigAnswer::Bad(ConfigKind::Syntax, at));
         }
-        let at = self.at as u64;
         let bytes = self.strings()?;
         Ok(Value { at, bytes })
     }

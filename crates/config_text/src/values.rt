@@ -12,20 +12,13 @@ use size_core::{Bytes, Source, Text};
 use std::alloc::Global;
 use std::str;
 
-/// Returns the fault of a value, at its first quote.
-fn fault(kind: ConfigKind, value: &Value) -> ConfigAnswer
-    ensures { result ≡ ConfigAnswer.Bad kind value.now.at }
-{
-    ConfigAnswer::Bad(kind, value.at)
-}
-
 /// Returns the value as text. NotUtf8 if it isn't UTF-8.
 fn utf8(value: &Value) -> Result<&str, ConfigAnswer>
     ensures { Gives (λ s. s.now) result (text_read value.now.at value.now.bytes.items) }
 {
     match str::from_utf8(value.bytes.as_slice()) {
         Ok(text) => Ok(text),
-        Err(_) => Err(fault(ConfigKind::NotUtf8, value)),
+        Err(_) => Err(ConfigAnswer::Bad(ConfigKind::NotUtf8, value.at)),
     }
 }
 
@@ -35,13 +28,6 @@ pub(crate) fn text_of(alloc: Global, value: &Value) -> Result<Text, ConfigAnswer
 {
     let text = Text::of(alloc, utf8(value)?)?;
     Ok(text)
-}
-
-/// Returns whether the name has a comma.
-fn has_comma(name: &[u8]) -> bool
-    ensures { result ≡ list_any (λ c. c == 44) name.now }
-{
-    name.iter().any(|byte| *byte == b',')
 }
 
 /// Returns whether one of the sources has the name.
@@ -56,7 +42,7 @@ fn is_used(sources: &[CustomSource], name: &[u8]) -> bool
 fn is_free(sources: &[CustomSource], name: &[u8]) -> bool
     ensures { result ≡ is_free sources.now name.now }
 {
-    if name.is_empty() || has_comma(name) {
+    if name.is_empty() || name.contains(&b',') {
         return false;
     }
     if Source::named(name).is_some() {
@@ -76,7 +62,7 @@ pub(crate) fn name_of(
 {
     let name = utf8(value)?;
     if !is_free(sources, name.as_bytes()) {
-        return Err(fault(ConfigKind::BadName, value));
+        return Err(ConfigAnswer::Bad(ConfigKind::BadName, value.at));
     }
     let name = Text::of(alloc, name)?;
     Ok(name)
@@ -90,7 +76,7 @@ pub(crate) fn base_of(value: &Value) -> Result<Source, ConfigAnswer>
     let name = utf8(value)?;
     match Source::named(name.as_bytes()) {
         Some(base) => Ok(base),
-        None => Err(fault(ConfigKind::BadBase, value)),
+        None => Err(ConfigAnswer::Bad(ConfigKind::BadBase, value.at)),
     }
 }
 
@@ -116,7 +102,7 @@ pub(crate) fn replacement_of(alloc: Global, value: &Value) -> Result<Bytes, Conf
 {
     let text = utf8(value)?;
     if !is_replacement(text.as_bytes()) {
-        return Err(fault(ConfigKind::BadReplacement, value));
+        return Err(ConfigAnswer::Bad(ConfigKind::BadReplacement, value.at));
     }
     let bytes = Bytes::of(alloc, text.as_bytes())?;
     Ok(bytes)

@@ -2,7 +2,7 @@
 
 ghost use Rattle.std.specs.Prelude.{◌≡◌, ◌^◌, ◌<◌, ◌||◌, nat_eq, length, IfOk};
 ghost use Rattle.data_sources.specs.Groups.{bytes_of, groups_of};
-ghost use Rattle.data_sources.specs.Kind.{begins_with, is_archive, is_elf, is_macho, is_universal, is_wasm};
+ghost use Rattle.data_sources.specs.Kind.{is_macho};
 ghost use Rattle.data_sources.specs.Opened.{opened};
 
 use elf_file::ElfFile;
@@ -34,24 +34,6 @@ impl<'a> Binary<'a> {
     }
 }
 
-fn is_archive(file: &[u8]) -> bool
-    ensures { result ≡ is_archive file.now }
-{
-    file.starts_with(b"!<arch>\n") || file.starts_with(b"!<thin>\n")
-}
-
-fn is_universal(file: &[u8]) -> bool
-    ensures { result ≡ is_universal file.now }
-{
-    file.starts_with(&[0xca, 0xfe, 0xba, 0xbe]) || file.starts_with(&[0xca, 0xfe, 0xba, 0xbf])
-}
-
-fn is_elf(file: &[u8]) -> bool
-    ensures { result ≡ is_elf file.now }
-{
-    file.starts_with(b"\x7fELF")
-}
-
 fn is_macho(file: &[u8]) -> bool
     ensures { result ≡ is_macho file.now }
 {
@@ -59,12 +41,6 @@ fn is_macho(file: &[u8]) -> bool
         || file.starts_with(&[0xcf, 0xfa, 0xed, 0xfe])
         || file.starts_with(&[0xfe, 0xed, 0xfa, 0xce])
         || file.starts_with(&[0xfe, 0xed, 0xfa, 0xcf])
-}
-
-fn is_wasm(file: &[u8]) -> bool
-    ensures { result ≡ is_wasm file.now }
-{
-    file.starts_with(b"\0asm")
 }
 
 /// Opens a file. Its first bytes decide its format. Archive, Universal and UnknownFormat are at offset 0. All other
@@ -75,15 +51,17 @@ pub fn open_binary<'a>(file: &'a [u8]) -> Result<Binary<'a>, BadFile>
     ensures opened { result ≡ opened file.now }
     ensures bytes { IfOk result (λ binary. bytes_of binary ≡ file.now) }
 {
-    let fault = if is_archive(file) {
+    let fault = if file.starts_with(b"!<arch>\n") || file.starts_with(b"!<thin>\n") {
         Fault::Archive
-    } else if is_universal(file) {
+    } else if file.starts_with(&[0xca, 0xfe, 0xba, 0xbe])
+        || file.starts_with(&[0xca, 0xfe, 0xba, 0xbf])
+    {
         Fault::Universal
-    } else if is_elf(file) {
+    } else if file.starts_with(b"\x7fELF") {
         return Ok(Binary::Elf(ElfFile::parse(file)?));
     } else if is_macho(file) {
         return Ok(Binary::Macho(MachoFile::parse(file)?));
-    } else if is_wasm(file) {
+    } else if file.starts_with(b"\0asm") {
         return Ok(Binary::Wasm(WasmFile::parse(file)?));
     } else {
         Fault::UnknownFormat

@@ -9,25 +9,23 @@ ghost use Rattle.data_sources.specs.Sources.{debug_claims_of, debug_records};
 
 use crate::answer::ClaimAnswer;
 use crate::binary::Binary;
-use crate::listing::add_records;
+use crate::groups::FileClaims;
 use claim_sheet::{ClaimSheet, Stop};
 use size_core::{Claim, LabelPool, Source};
 use std::alloc::Global;
 
-// Adds the claims of the records of a data source on a debug file. Bad is their first fault.
-#[tactic(auto, using(claim_sheet::proofs::SheetLemmas::adding_none))]
-fn add_debug_records(
-    alloc: Global,
-    binary: &Binary<'_>,
-    source: Source,
-    sheet: &mut ClaimSheet,
-) -> Result<(), Stop>
-    ensures { AddsRead result sheet.old sheet.new (debug_records source (groups_of binary.now)) }
-{
-    match source {
-        Source::Segments | Source::Sections | Source::InputFiles => Ok(()),
-        Source::Symbols | Source::RawSymbols | Source::CompileUnits | Source::Inlines => {
-            add_records(alloc, binary, source, sheet)
+impl FileClaims<'_, '_> {
+    // Adds the claims of the records of a data source on a debug file. Bad is their first fault.
+    #[tactic(auto, using(claim_sheet::proofs::SheetLemmas::adding_none))]
+    fn add_debug_records(&self, source: Source, sheet: &mut ClaimSheet) -> Result<(), Stop>
+        ensures { AddsRead result sheet.old sheet.new
+            (debug_records source (groups_of self.now.file.now)) }
+    {
+        match source {
+            Source::Segments | Source::Sections | Source::InputFiles => Ok(()),
+            Source::Symbols | Source::RawSymbols | Source::CompileUnits | Source::Inlines => {
+                self.add_records(source, sheet)
+            }
         }
     }
 }
@@ -58,7 +56,11 @@ pub fn debug_claims(
     ensures kept { KeepsLabels pool.old pool.new }
 {
     let mut sheet = ClaimSheet::begin_on_addresses(alloc, pool, limit);
-    let answer = add_debug_records(alloc, binary, source, &mut sheet);
+    let answer = FileClaims {
+        alloc,
+        file: binary,
+    }
+    .add_debug_records(source, &mut sheet);
     let made = sheet.finish(pool);
     answer?;
     Ok(made?)

@@ -9,96 +9,72 @@ ghost use Rattle.data_sources.specs.Sources.{claims_of, parts_claims, records_of
 
 use crate::answer::ClaimAnswer;
 use crate::binary::Binary;
-use crate::groups::{
-    add_headers, add_lines, add_link_edit, add_loads, add_sections, add_segments, add_symbols,
-    add_units,
-};
-use crate::whole::add_whole;
+use crate::groups::FileClaims;
 use claim_sheet::{ClaimSheet, Stop, Wrap};
 use size_core::{Claim, LabelPool, NoMemory, Source};
 use std::alloc::Global;
 
-// Adds the claims of the group that `segments` shows, and then those of the headers.
-#[tactic(auto, using(claim_sheet::proofs::SheetLemmas::adding_more), unfolding(crate::specs::Sources::segments_claims))]
-fn add_segments_and_headers(
-    alloc: Global,
-    binary: &Binary<'_>,
-    sheet: &mut ClaimSheet,
-) -> Result<(), NoMemory>
-    ensures { Adds result sheet.old sheet.new (segments_claims (groups_of binary.now)) }
-{
-    add_segments(alloc, binary, sheet)?;
-    add_headers(binary, sheet)
-}
-
-// Adds the claims of the sections, the link-edit parts and the headers, and then those of the loads in brackets.
-#[tactic(auto, using(claim_sheet::proofs::SheetLemmas::adding_more), unfolding(crate::specs::Sources::parts_claims))]
-fn add_parts(
-    alloc: Global,
-    binary: &Binary<'_>,
-    wrap: Wrap,
-    sheet: &mut ClaimSheet,
-) -> Result<(), NoMemory>
-    ensures { Adds result sheet.old sheet.new (parts_claims wrap (groups_of binary.now)) }
-{
-    add_sections(alloc, binary, wrap, sheet)?;
-    add_link_edit(binary, sheet)?;
-    add_headers(binary, sheet)?;
-    add_loads(alloc, binary, Wrap::Brackets, sheet)
-}
-
-/// Adds the claims of the records of a data source: units, lines or symbols. Bad is their first fault.
-pub fn add_records(
-    alloc: Global,
-    binary: &Binary<'_>,
-    source: Source,
-    sheet: &mut ClaimSheet,
-) -> Result<(), Stop>
-    ensures { AddsRead result sheet.old sheet.new (records_of source (groups_of binary.now)) }
-{
-    match source {
-        Source::CompileUnits => add_units(alloc, binary, sheet),
-        Source::Inlines => add_lines(alloc, binary, sheet),
-        _ => add_symbols(alloc, binary, sheet),
+impl FileClaims<'_, '_> {
+    // Adds the claims of the group that `segments` shows, and then those of the headers.
+    #[tactic(auto, using(claim_sheet::proofs::SheetLemmas::adding_more), unfolding(crate::specs::Sources::segments_claims))]
+    fn add_segments_and_headers(&self, sheet: &mut ClaimSheet) -> Result<(), NoMemory>
+        ensures { Adds result sheet.old sheet.new (segments_claims (groups_of self.now.file.now)) }
+    {
+        self.add_segments(sheet)?;
+        self.add_headers(sheet)
     }
-}
 
-// Adds the claims of the records, and then those of the parts of the file. So a byte that no record claims has the
-// label of its section or load.
-#[tactic(auto, using(claim_sheet::proofs::LoopLemmas::joined_front, claim_sheet::proofs::LoopLemmas::joined_claims), unfolding(crate::specs::Sources::with_tail))]
-fn add_with_tail(
-    alloc: Global,
-    binary: &Binary<'_>,
-    source: Source,
-    sheet: &mut ClaimSheet,
-) -> Result<(), Stop>
-    ensures { AddsRead result sheet.old sheet.new
-        (with_tail (records_of source (groups_of binary.now)) (groups_of binary.now)) }
-{
-    add_records(alloc, binary, source, sheet)?;
-    add_parts(alloc, binary, Wrap::Section, sheet)?;
-    Ok(())
-}
+    // Adds the claims of the sections, the link-edit parts and the headers, and then those of the loads in brackets.
+    #[tactic(auto, using(claim_sheet::proofs::SheetLemmas::adding_more), unfolding(crate::specs::Sources::parts_claims))]
+    fn add_parts(&self, wrap: Wrap, sheet: &mut ClaimSheet) -> Result<(), NoMemory>
+        ensures { Adds result sheet.old sheet.new
+            (parts_claims wrap (groups_of self.now.file.now)) }
+    {
+        self.add_sections(wrap, sheet)?;
+        self.add_link_edit(sheet)?;
+        self.add_headers(sheet)?;
+        self.add_loads(Wrap::Brackets, sheet)
+    }
 
-// Adds the claims of a data source. Bad is its first fault.
-fn add_source(
-    alloc: Global,
-    binary: &Binary<'_>,
-    source: Source,
-    name: &[u8],
-    sheet: &mut ClaimSheet,
-) -> Result<(), Stop>
-    ensures { AddsRead result sheet.old sheet.new (claims_of source name.now binary.now) }
-{
-    match source {
-        Source::Segments => add_segments_and_headers(alloc, binary, sheet)?,
-        Source::Sections => add_parts(alloc, binary, Wrap::Plain, sheet)?,
-        Source::InputFiles => add_whole(alloc, binary, name, sheet)?,
-        Source::Symbols | Source::RawSymbols | Source::CompileUnits | Source::Inlines => {
-            add_with_tail(alloc, binary, source, sheet)?
+    /// Adds the claims of the records of a data source: units, lines or symbols. Bad is their first fault.
+    pub fn add_records(&self, source: Source, sheet: &mut ClaimSheet) -> Result<(), Stop>
+        ensures { AddsRead result sheet.old sheet.new
+            (records_of source (groups_of self.now.file.now)) }
+    {
+        match source {
+            Source::CompileUnits => self.add_units(sheet),
+            Source::Inlines => self.add_lines(sheet),
+            _ => self.add_symbols(sheet),
         }
     }
-    Ok(())
+
+    // Adds the claims of the records, and then those of the parts of the file. So a byte that no record claims has the
+    // label of its section or load.
+    #[tactic(auto, using(claim_sheet::proofs::LoopLemmas::joined_front, claim_sheet::proofs::LoopLemmas::joined_claims), unfolding(crate::specs::Sources::with_tail))]
+    fn add_with_tail(&self, source: Source, sheet: &mut ClaimSheet) -> Result<(), Stop>
+        ensures { let g = groups_of self.now.file.now in
+            AddsRead result sheet.old sheet.new (with_tail (records_of source g) g) }
+    {
+        self.add_records(source, sheet)?;
+        self.add_parts(Wrap::Section, sheet)?;
+        Ok(())
+    }
+
+    // Adds the claims of a data source. Bad is its first fault.
+    fn add_source(&self, source: Source, name: &[u8], sheet: &mut ClaimSheet) -> Result<(), Stop>
+        ensures { AddsRead result sheet.old sheet.new
+            (claims_of source name.now self.now.file.now) }
+    {
+        match source {
+            Source::Segments => self.add_segments_and_headers(sheet)?,
+            Source::Sections => self.add_parts(Wrap::Plain, sheet)?,
+            Source::InputFiles => self.add_whole(name, sheet)?,
+            Source::Symbols | Source::RawSymbols | Source::CompileUnits | Source::Inlines => {
+                self.add_with_tail(source, sheet)?
+            }
+        }
+        Ok(())
+    }
 }
 
 /// Returns the claims of a data source on a file, in order. Labels are numbers in the pool; `name` is the name of the
@@ -126,7 +102,11 @@ pub fn claims(
     ensures kept { KeepsLabels pool.old pool.new }
 {
     let mut sheet = ClaimSheet::begin(alloc, pool, limit);
-    let answer = add_source(alloc, binary, source, name, &mut sheet);
+    let answer = FileClaims {
+        alloc,
+        file: binary,
+    }
+    .add_source(source, name, &mut sheet);
     let made = sheet.finish(pool);
     answer?;
     Ok(made?)

@@ -13,7 +13,7 @@ use byte_cursor::Order;
 pub fn notes<'a>(area: &'a [u8], order: Order) -> Notes<'a>
     ensures { result ≡ notes order area.now }
 {
-    Notes::new(area, order)
+    Notes { rest: area, order }
 }
 
 /// Returns the descriptor of the first build ID note of an area. `None` if it has no such note.

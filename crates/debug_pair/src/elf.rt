@@ -1,10 +1,10 @@
 //! The build ID of an ELF file.
 
-ghost use Rattle.std.specs.Prelude.{◌≡◌, ◌<◌, None};
+ghost use Rattle.std.specs.Prelude.{◌≡◌, ◌<◌};
 ghost use Rattle.std.specs.Option.{option_copied};
 ghost use Rattle.elf_file.specs.Layout.{encoding_of};
 ghost use Rattle.elf_file.specs.Tables.{section_count, segment_count};
-ghost use Rattle.debug_pair.specs.Areas.{HasNoId};
+ghost use Rattle.debug_pair.specs.Areas.{Finds, HasNoId};
 ghost use Rattle.debug_pair.specs.Identities.{build_id, elf_identity, section_area, section_areas, segment_area, segment_areas};
 
 use crate::searched::Searched;
@@ -15,15 +15,13 @@ use elf_file::{ElfFile, PT_NOTE, SHT_NOTE};
 fn section_build_id<'a>(file: &ElfFile<'a>, i: u32, last: &mut Searched) -> Option<&'a [u8]>
     requires index { i < section_count file.now }
     requires last { HasNoId file.now last.old }
-    ensures id { option_copied result
-        ≡ build_id (encoding_of file.now).order (section_area file.now i) }
-    ensures last { result ≡ None → HasNoId file.now last.new }
+    ensures { Finds file.now (section_area file.now i) (option_copied result) last.new }
 {
     let section = file.section(i);
     if section.kind != SHT_NOTE {
         return None;
     }
-    last.build_id(file, section.offset, file.section_bytes(i))
+    last.find(file, section.offset, file.section_bytes(i))
 }
 
 /// Returns the build ID in segment `i`, if it has notes.
@@ -31,15 +29,13 @@ fn section_build_id<'a>(file: &ElfFile<'a>, i: u32, last: &mut Searched) -> Opti
 fn segment_build_id<'a>(file: &ElfFile<'a>, i: u32, last: &mut Searched) -> Option<&'a [u8]>
     requires index { i < segment_count file.now }
     requires last { HasNoId file.now last.old }
-    ensures id { option_copied result
-        ≡ build_id (encoding_of file.now).order (segment_area file.now i) }
-    ensures last { result ≡ None → HasNoId file.now last.new }
+    ensures { Finds file.now (segment_area file.now i) (option_copied result) last.new }
 {
     let segment = file.segment(i);
     if segment.kind != PT_NOTE {
         return None;
     }
-    last.build_id(file, segment.offset, file.segment_bytes(i))
+    last.find(file, segment.offset, file.segment_bytes(i))
 }
 
 /// Returns the first build ID in the notes of sections.

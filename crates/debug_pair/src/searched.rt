@@ -1,10 +1,8 @@
 //! The notes that were searched last. Many sections and segments may have notes in the same bytes.
 
-ghost use Rattle.std.specs.Prelude.{◌≡◌, ◌≤◌, ◌∷◌, [], List, ℕ, None, length, true};
+ghost use Rattle.std.specs.Prelude.{◌∷◌, [], List, ℕ};
 ghost use Rattle.std.specs.Option.{option_copied};
-ghost use Rattle.elf_file.specs.Layout.{encoding_of};
-ghost use Rattle.debug_pair.specs.Identities.{build_id};
-ghost use Rattle.debug_pair.specs.Areas.{HasNoId, IsArea};
+ghost use Rattle.debug_pair.specs.Areas.{Finds, HasNoId, IsArea};
 
 use crate::area::build_id;
 use elf_file::ElfFile;
@@ -27,30 +25,16 @@ impl Searched {
         Searched { offset: 0, len: 0 }
     }
 
-    // Returns true only if an area begins where this one does, and isn't longer.
-    fn begins_with(&self, offset: u64, len: u64) -> bool
-        ensures { result ≡ true → (offset ≡ self.now.offset) × (len ≤ self.now.len) }
-    {
-        offset == self.offset && len <= self.len
-    }
-
     /// Returns the descriptor of the first build ID note of an area, which begins at this file offset. The area is
     /// searched only if it isn't the beginning of the area that was searched last.
     #[tactic(auto, using(crate::proofs::AreaLemmas::none_in_beginning, crate::proofs::AreaLemmas::none_in_area))]
-    pub fn build_id<'a>(
-        &mut self,
-        file: &ElfFile<'a>,
-        offset: u64,
-        area: &'a [u8],
-    ) -> Option<&'a [u8]>
+    pub fn find<'a>(&mut self, file: &ElfFile<'a>, offset: u64, area: &'a [u8]) -> Option<&'a [u8]>
         requires last { HasNoId file.now self.old }
         requires area { IsArea file.now offset area.now }
-        ensures id { option_copied result
-            ≡ build_id (encoding_of file.now).order (area.now ∷ []) }
-        ensures last { result ≡ None → HasNoId file.now self.new }
+        ensures { Finds file.now (area.now ∷ []) (option_copied result) self.new }
     {
         let len = area.len() as u64;
-        if self.begins_with(offset, len) {
+        if offset == self.offset && len <= self.len {
             return None;
         }
         *self = Searched { offset, len };

@@ -12,8 +12,8 @@ use std::marker::Model;
 /// The notes of an area that `next` has not returned yet, in order.
 #[derive(Drop)]
 pub struct Notes<'a> {
-    rest: &'a [u8],
-    order: Order,
+    pub(crate) rest: &'a [u8],
+    pub(crate) order: Order,
 }
 
 impl<'a> Model for Notes<'a> {
@@ -23,14 +23,6 @@ impl<'a> Model for Notes<'a> {
     ghost Value = { List NoteRecord };
 
     ghost view = { λ n. notes n.order n.rest.now };
-}
-
-impl<'a> Notes<'a> {
-    pub(crate) fn new(area: &'a [u8], order: Order) -> Notes<'a>
-        ensures { result ≡ notes order area.now }
-    {
-        Notes { rest: area, order }
-    }
 }
 
 impl<'a> Iterator for Notes<'a> {

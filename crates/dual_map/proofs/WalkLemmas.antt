@@ -16,7 +16,7 @@ use Rattle.dual_map.specs.declared.layers.Layer.{Layer}
 use Rattle.dual_map.specs.declared.layers.Layers.{Layers}
 use Rattle.dual_map.specs.declared.stretch.Stretch.{Stretch}
 use Rattle.dual_map.specs.Layout.{load_of_offset, load_of_position}
-use Rattle.dual_map.specs.Paint.{label_of, offset_labels, position_labels, Paints, IsLabelled}
+use Rattle.dual_map.specs.Paint.{label_of, offset_labels, position_labels, Paints}
 use Rattle.dual_map.specs.Runs.{IsPast}
 use Rattle.dual_map.specs.Way.{Way, ToFile, ToMemory, IsPieceOf, LiesIn, IsSmall, position_if_any, gap_of, stretch_of, load_of, no_load}
 use Rattle.dual_map.proofs.Carrying.{has_target-in, target_bounds}
@@ -65,6 +65,11 @@ up_to_later labelling from to ps l u h = record {
   labels = λ x m.
       elim (cases_lt x from) [ inl a ↦ u.labels x a | inr a ↦ label_past ps from x u.ends a ∙ sym (h x a m) ];
 }
+
+-- Pieces of a map that label exactly as a labelling does.
+pub record IsLabelled (labelling : ℕ → Option ℕ) (ps : List Piece) : Type 0 where
+  pub pieces : IsMap ps
+  pub labels : (x : ℕ) → label_in ps x ≡ labelling x
 
 pub up_to_all : (labelling : ℕ → Option ℕ) (to : ℕ) (ps : List Piece) → UpTo labelling to ps → ((x : ℕ) → to ≤ x → labelling x ≡ None) → IsLabelled labelling ps
 up_to_all labelling to ps u h = record {

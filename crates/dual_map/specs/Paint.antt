@@ -53,8 +53,3 @@ pub record Paints (s : Stretch) (label : ℕ → ℕ → ℕ) (old new : List Pi
   pub pieces : IsMap new
   pub before : (x : ℕ) → x < s.target → label_in new x ≡ label_in old x
   pub filled : (k : ℕ) → k < s.len → label_in new (s.target + k) ≡ Some (label (s.target + k) (s.source + k))
-
--- Pieces of a map that label exactly as a labelling does.
-pub record IsLabelled (labelling : ℕ → Option ℕ) (ps : List Piece) : Type 0 where
-  pub pieces : IsMap ps
-  pub labels : (x : ℕ) → label_in ps x ≡ labelling x

@@ -51,10 +51,6 @@ no_load = record { space = 0; vaddr = 0; memsz = 0; offset = 0; filesz = 0 }
 abbrev pub gap_of : ℕ → ℕ → Stretch
 gap_of from to = record { source = 0; target = from; len = to - from }
 
--- An empty stretch.
-abbrev pub no_stretch : Stretch
-no_stretch = record { source = 0; target = 0; len = 0 }
-
 -- The load that is a piece's label.
 abbrev pub load_of : List Load → Piece → Load
 load_of loads p = get_or loads p.label no_load

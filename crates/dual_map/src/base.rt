@@ -6,11 +6,11 @@ ghost use Rattle.size_model.specs.Loads.{addr, mapped, mapped_count, place, plac
 ghost use Rattle.range_map.specs.Ranges.{IsRange};
 ghost use Rattle.dual_map.specs.Layout.{HasPieces, IsLayout};
 ghost use Rattle.dual_map.specs.Loads.{file_ranges, address_ranges};
-ghost use Rattle.dual_map.specs.Paint.{offset_labels, position_labels, IsLabelled, HasNumbers};
+ghost use Rattle.dual_map.specs.Paint.{offset_labels, position_labels, HasNumbers};
 
 use crate::layers::Layers;
 use crate::paint::paint;
-use crate::position::{position, position_of};
+use crate::position::position;
 use crate::reads::{label_of, piece_of};
 use crate::stretch::{Stretch, to_file, to_memory};
 use range_map::{Piece, RangeMap};
@@ -66,7 +66,7 @@ fn positions_of(alloc: Global, loads: &[Load]) -> Result<Vec<Piece>, AllocError>
     let mut ranges = Vec::new(alloc);
     for (i, load) in loads.iter().enumerate() {
         ranges.push(Piece {
-            start: position_of(load),
+            start: position(load.space, load.vaddr),
             len: u128::from(load.memsz),
             label: i,
         })?;
@@ -163,11 +163,10 @@ impl Base {
         self.offsets.len().max(self.positions.len())
     }
 
-    // The label of each offset, as the pieces of a map.
-    fn painted_offsets(&self, alloc: Global, layers: &Layers) -> Result<Vec<Piece>, AllocError>
+    // The label of each offset, by the first claim that covers it.
+    pub(crate) fn file_map(&self, alloc: Global, layers: &Layers) -> Result<RangeMap, NoMemory>
         requires { HasNumbers layers.now.labels.items layers.now.file }
-        ensures labels { IfOk result
-            (λ v. IsLabelled (offset_labels self.now.len self.now.loads layers.now) v.items) }
+        ensures cut { IfOk result (IsCut (offset_labels self.now.len self.now.loads layers.now)) }
         ensures layout { OnOk result (IsLayout self.now) }
     {
         let labels = layers.labels.as_slice();
@@ -190,14 +189,13 @@ impl Base {
         }
         let after = Stretch::gap(from, u128::from(self.file_len));
         paint(&mut out, &layers.file, &nothing, labels, &after)?;
-        Ok(out)
+        Ok(RangeMap::of_pieces(alloc, out))
     }
 
-    // The label of each mapped position, as the pieces of a map.
-    fn painted_positions(&self, alloc: Global, layers: &Layers) -> Result<Vec<Piece>, AllocError>
+    // The label of each mapped position, by the first claim that covers it.
+    pub(crate) fn vm_map(&self, alloc: Global, layers: &Layers) -> Result<RangeMap, NoMemory>
         requires { HasNumbers layers.now.labels.items layers.now.memory }
-        ensures { IfOk result
-            (λ v. IsLabelled (position_labels self.now.len self.now.loads layers.now) v.items) }
+        ensures { IfOk result (IsCut (position_labels self.now.len self.now.loads layers.now)) }
     {
         let labels = layers.labels.as_slice();
         let nothing = RangeMap::new(alloc);
@@ -215,25 +213,6 @@ impl Base {
             let rest = Stretch::gap(piece.start + stretch.len, piece.start + piece.len);
             paint(&mut out, &layers.memory, &nothing, labels, &rest)?;
         }
-        Ok(out)
-    }
-
-    // The label of each offset, by the first claim that covers it.
-    pub(crate) fn file_map(&self, alloc: Global, layers: &Layers) -> Result<RangeMap, NoMemory>
-        requires { HasNumbers layers.now.labels.items layers.now.file }
-        ensures cut { IfOk result (IsCut (offset_labels self.now.len self.now.loads layers.now)) }
-        ensures layout { OnOk result (IsLayout self.now) }
-    {
-        let pieces = self.painted_offsets(alloc, layers)?;
-        Ok(RangeMap::of_pieces(alloc, pieces))
-    }
-
-    // The label of each mapped position, by the first claim that covers it.
-    pub(crate) fn vm_map(&self, alloc: Global, layers: &Layers) -> Result<RangeMap, NoMemory>
-        requires { HasNumbers layers.now.labels.items layers.now.memory }
-        ensures { IfOk result (IsCut (position_labels self.now.len self.now.loads layers.now)) }
-    {
-        let pieces = self.painted_positions(alloc, layers)?;
-        Ok(RangeMap::of_pieces(alloc, pieces))
+        Ok(RangeMap::of_pieces(alloc, out))
     }
 }

@@ -1,9 +1,9 @@
 //! The claims of a data source by their numbers: for each offset and each position the first claim on it.
 
-ghost use Rattle.std.specs.Prelude.{◌≡◌, ◌++◌, IfOk, OnOk, All};
+ghost use Rattle.std.specs.Prelude.{◌≡◌, IfOk};
 ghost use Rattle.size_model.specs.Cut.{IsLaid};
 ghost use Rattle.range_map.specs.Ranges.{IsRange};
-ghost use Rattle.dual_map.specs.Layers.{is_side, wanted, offset_range, position_range, claim_ranges};
+ghost use Rattle.dual_map.specs.Layers.{is_side, offset_range, position_range, claim_ranges};
 ghost use Rattle.dual_map.specs.Layers.{labels_of, IsFileLayer, IsMemoryLayer, AreLayers};
 
 use crate::position::position;
@@ -43,19 +43,6 @@ fn is_side(side: Side, other: Side) -> bool
     }
 }
 
-// Appends a range, if it is wanted.
-fn push_if(out: &mut Vec<Piece>, wants: bool, range: Piece) -> Result<(), AllocError>
-    requires ranges { All IsRange out.old.items }
-    requires fits { IsRange range }
-    ensures value { OnOk result (out.new.items ≡ out.old.items ++ wanted wants range) }
-    ensures fits { OnOk result (All IsRange out.new.items) }
-{
-    if wants {
-        out.push(range)?;
-    }
-    Ok(())
-}
-
 // The offsets that a claim names, labelled with the claim's number.
 fn offset_range(claim: &Claim, number: usize) -> Piece
     ensures value { result ≡ offset_range number claim.now }
@@ -86,11 +73,9 @@ fn offsets_of(alloc: Global, claims: &[Claim], side: Side) -> Result<RangeMap, N
 {
     let mut ranges = Vec::new(alloc);
     for (i, claim) in claims.iter().enumerate() {
-        push_if(
-            &mut ranges,
-            is_side(claim.side, side),
-            offset_range(claim, i),
-        )?;
+        if is_side(claim.side, side) {
+            ranges.push(offset_range(claim, i))?;
+        }
     }
     RangeMap::build(alloc, ranges.as_slice())
 }
@@ -101,11 +86,9 @@ fn positions_of(alloc: Global, claims: &[Claim], side: Side) -> Result<RangeMap,
 {
     let mut ranges = Vec::new(alloc);
     for (i, claim) in claims.iter().enumerate() {
-        push_if(
-            &mut ranges,
-            is_side(claim.side, side),
-            position_range(claim, i),
-        )?;
+        if is_side(claim.side, side) {
+            ranges.push(position_range(claim, i))?;
+        }
     }
     RangeMap::build(alloc, ranges.as_slice())
 }

@@ -1,7 +1,7 @@
 //! Positions: the virtual addresses of all address spaces as one range of numbers.
 
-ghost use Rattle.std.specs.Prelude.{◌≡◌, ◌+◌, ◌^◌, ◌<◌, ◌≤◌};
-ghost use Rattle.dual_map.specs.Way.{position_at, position_of_load};
+ghost use Rattle.std.specs.Prelude.{◌≡◌, ◌^◌, ◌<◌};
+ghost use Rattle.dual_map.specs.Way.{position_at};
 
 use size_core::Load;
 
@@ -11,14 +11,4 @@ pub fn position(space: u32, address: u64) -> u128
     ensures fits { result < 2 ^ 96 }
 {
     u128::from(space) * (1 << 64) + u128::from(address)
-}
-
-/// The position of a load's first address.
-pub fn position_of(load: &Load) -> u128
-    requires { load.now.vaddr + load.now.memsz ≤ 2 ^ 64 }
-    ensures value { result ≡ position_of_load load.now }
-    ensures fits { result < 2 ^ 96 }
-    ensures ends { result + load.now.memsz ≤ 2 ^ 96 }
-{
-    position(load.space, load.vaddr)
 }

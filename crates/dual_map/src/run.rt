@@ -1,8 +1,6 @@
 //! Runs of positions that have the same number in a map.
 
-ghost use Rattle.std.specs.Prelude.{◌≡◌, ◌+◌, ◌<◌, ◌≤◌, length};
-ghost use Rattle.size_model.specs.Cut.{end_of, IsTidy};
-ghost use Rattle.range_map.specs.Sweep.{at};
+ghost use Rattle.std.specs.Prelude.{◌≡◌, ◌+◌};
 ghost use Rattle.dual_map.specs.Runs.{number_in, IsAt, IsPast, IsSteady, least};
 
 use crate::reads::piece_of;
@@ -17,31 +15,22 @@ pub struct Run {
     pub len: u128,
 }
 
-// The first piece, from index `low` up to `high`, that ends after a position.
-fn find_in(map: &RangeMap, x: u128, low: usize, high: usize) -> usize
-    requires tidy { IsTidy map.now }
-    requires order { low ≤ high }
-    requires within { high ≤ length map.now }
-    requires past { IsPast map.now low x }
-    requires ahead { high < length map.now → x < end_of (at map.now high) }
-    ensures { IsAt map.now result x }
-{
-    if low == high {
-        return low;
-    }
-    let middle = low + (high - low) / 2;
-    let piece = piece_of(map, middle);
-    if piece.start + piece.len <= x {
-        return find_in(map, x, middle + 1, high);
-    }
-    find_in(map, x, low, middle)
-}
-
 /// The index of the first piece that ends after a position, by a binary search.
 pub fn find(map: &RangeMap, x: u128) -> usize
     ensures { IsAt map.now result x }
 {
-    find_in(map, x, 0, map.len())
+    let mut low = 0;
+    let mut high = map.len();
+    while low < high {
+        let middle = low + (high - low) / 2;
+        let piece = piece_of(map, middle);
+        if x < piece.start + piece.len {
+            high = middle;
+        } else {
+            low = middle + 1;
+        }
+    }
+    low
 }
 
 /// The index of the first piece that ends after a position, from the index `from` on.

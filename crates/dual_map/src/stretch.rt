@@ -3,7 +3,7 @@
 ghost use Rattle.std.specs.Prelude.{◌≡◌, ◌+◌, ◌^◌, ◌<◌, ◌≤◌};
 ghost use Rattle.dual_map.specs.Way.{gap_of, stretch_of, LiesIn, IsSmall, ToFile, ToMemory};
 
-use crate::position::position_of;
+use crate::position::position;
 use range_map::Piece;
 use size_core::Load;
 
@@ -41,7 +41,7 @@ pub fn to_file(load: &Load, piece: &Piece) -> Stretch
     ensures small { IsSmall result }
 {
     Stretch {
-        source: position_of(load) + (piece.start - u128::from(load.offset)),
+        source: position(load.space, load.vaddr) + (piece.start - u128::from(load.offset)),
         target: piece.start,
         len: piece.len,
     }
@@ -56,7 +56,7 @@ pub fn to_memory(file_len: u64, load: &Load, piece: &Piece) -> Stretch
     ensures small { IsSmall result }
     ensures len_fits { piece.now.len < 2 ^ 64 }
 {
-    let past = piece.start - position_of(load);
+    let past = piece.start - position(load.space, load.vaddr);
     let in_file = file_len.saturating_sub(load.offset);
     let held = u128::from(load.filesz.min(load.memsz).min(in_file));
     Stretch {

@@ -3,10 +3,10 @@
 
 /// The least reserved value of a length's first four bytes. All values from here to 0xffffffff are reserved, and the
 /// greatest of them, `WIDE_LENGTH`, begins a length of the 64-bit format.
-pub const FIRST_RESERVED_LENGTH: u32 = 0xffff_fff0;
+pub const FIRST_RESERVED_LENGTH: u64 = 0xffff_fff0;
 
 /// The first four bytes of a length in the 64-bit format. The length follows in eight bytes.
-pub const WIDE_LENGTH: u32 = 0xffff_ffff;
+pub const WIDE_LENGTH: u64 = 0xffff_ffff;
 
 /// `DW_FORM_addr`
 pub const DW_FORM_ADDR: u64 = 0x01;

@@ -3,10 +3,9 @@
 ghost use Rattle.std.specs.Prelude.{◌≡◌, ◌≤◌, OnOk, ◌∷◌, []};
 ghost use Rattle.dwarf_abbrev.specs.Reads.{Reads};
 ghost use Rattle.dwarf_abbrev.specs.Listing.{Reaches, left};
-ghost use Rattle.dwarf_abbrev.specs.Declarations.{constant_from, is_end, rest_of_spec, spec_from, specs_from, rest_of_head, head_from};
+ghost use Rattle.dwarf_abbrev.specs.Declarations.{constant_from, rest_of_spec, spec_from, specs_from, rest_of_head, head_from};
 
 use crate::constants::DW_FORM_IMPLICIT_CONST;
-use crate::reads::{sleb_from, u8_from, uleb_from};
 use crate::spec::Spec;
 use byte_cursor::Cursor;
 use size_core::BadFile;
@@ -21,22 +20,15 @@ pub struct Head {
 }
 
 /// The constant after a form. Only `DW_FORM_implicit_const` has one; it is 0 for any other form.
-#[tactic(auto, unfolding(crate::specs::Declarations::constant_from))]
+#[tactic(auto, unfolding(crate::specs::Declarations::constant_from, crate::specs::Reads::sleb_from))]
 fn constant_from(cursor: &mut Cursor, form: u64) -> Result<i64, BadFile>
     ensures { Reads (λ x. x) result cursor.new (constant_from form cursor.old) }
 {
     if form == DW_FORM_IMPLICIT_CONST {
-        sleb_from(cursor)
+        cursor.sleb()
     } else {
         Ok(0)
     }
-}
-
-/// Whether this pair of numbers ends the list of attributes.
-fn is_end(attribute: u64, form: u64) -> bool
-    ensures { result ≡ is_end attribute form }
-{
-    attribute == 0 && form == 0
 }
 
 /// The rest of an attribute specification, after its number and its form. `None` at the end of the list.
@@ -44,7 +36,7 @@ fn is_end(attribute: u64, form: u64) -> bool
 fn rest_of_spec(cursor: &mut Cursor, attribute: u64, form: u64) -> Result<Option<Spec>, BadFile>
     ensures { Reads (λ x. x) result cursor.new (rest_of_spec attribute form cursor.old) }
 {
-    if is_end(attribute, form) {
+    if attribute == 0 && form == 0 {
         return Ok(None);
     }
     let constant = constant_from(cursor, form)?;
@@ -57,12 +49,12 @@ fn rest_of_spec(cursor: &mut Cursor, attribute: u64, form: u64) -> Result<Option
 
 /// Reads an attribute specification. `None` at the end of the list. Truncated or BadLeb at a number that can't be
 /// read.
-#[tactic(auto, unfolding(crate::specs::Declarations::spec_from))]
+#[tactic(auto, unfolding(crate::specs::Declarations::spec_from, crate::specs::Reads::uleb_from))]
 pub fn spec_from(cursor: &mut Cursor) -> Result<Option<Spec>, BadFile>
     ensures { Reads (λ x. x) result cursor.new (spec_from cursor.old) }
 {
-    let attribute = uleb_from(cursor)?;
-    let form = uleb_from(cursor)?;
+    let attribute = cursor.uleb()?;
+    let form = cursor.uleb()?;
     rest_of_spec(cursor, attribute, form)
 }
 
@@ -77,27 +69,27 @@ pub fn pass_specs(cursor: &mut Cursor) -> Result<(), BadFile>
 
 /// The rest of a declaration's head, after its code: the tag, and the byte `DW_CHILDREN_*`, which is skipped. `None`
 /// if the code is 0, the end of the table.
-#[tactic(auto, unfolding(crate::specs::Declarations::rest_of_head))]
+#[tactic(auto, unfolding(crate::specs::Declarations::rest_of_head, crate::specs::Reads::uleb_from, crate::specs::Reads::num_from))]
 fn rest_of_head(cursor: &mut Cursor, code: u64) -> Result<Option<Head>, BadFile>
     ensures { Reads (λ x. x) result cursor.new (rest_of_head code cursor.old) }
 {
     if code == 0 {
         return Ok(None);
     }
-    let tag = uleb_from(cursor)?;
-    u8_from(cursor)?;
+    let tag = cursor.uleb()?;
+    cursor.u8()?;
     Ok(Some(Head { code, tag }))
 }
 
 /// Reads the head of a declaration. `None` at the end of the table: a code of 0, or the end of the section. Truncated
 /// or BadLeb at a number that can't be read.
-#[tactic(auto, unfolding(crate::specs::Declarations::head_from))]
+#[tactic(auto, unfolding(crate::specs::Declarations::head_from, crate::specs::Reads::uleb_from))]
 pub fn head_from(cursor: &mut Cursor) -> Result<Option<Head>, BadFile>
     ensures { Reads (λ x. x) result cursor.new (head_from cursor.old) }
 {
     if cursor.left() == 0 {
         return Ok(None);
     }
-    let code = uleb_from(cursor)?;
+    let code = cursor.uleb()?;
     rest_of_head(cursor, code)
 }

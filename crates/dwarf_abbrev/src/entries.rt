@@ -12,7 +12,7 @@ use std::marker::Model;
 /// The declarations of a table that `next` has not returned yet, in order.
 #[derive(Drop)]
 pub struct Entries<'a> {
-    cursor: Cursor<'a>,
+    pub(crate) cursor: Cursor<'a>,
 }
 
 impl<'a> Model for Entries<'a> {
@@ -24,16 +24,6 @@ impl<'a> Model for Entries<'a> {
     ghost view = { λ e. (declarations_from e.cursor).items };
 
     ghost invariant = { λ e. IsWhole e.cursor };
-}
-
-impl<'a> Entries<'a> {
-    /// The declarations from the cursor on.
-    pub(crate) fn new(cursor: Cursor<'a>) -> Entries<'a>
-        requires { IsWhole cursor }
-        ensures { result ≡ (declarations_from cursor.entry).items }
-    {
-        Entries { cursor }
-    }
 }
 
 impl<'a> Iterator for Entries<'a> {
@@ -49,7 +39,10 @@ impl<'a> Iterator for Entries<'a> {
         let Ok(Some(head)) = head_from(&mut ahead) else {
             return None;
         };
-        let entry = Entry::new(head, ahead.fork());
+        let entry = Entry {
+            head,
+            cursor: ahead.fork(),
+        };
         if pass_specs(&mut ahead).is_err() {
             return None;
         }

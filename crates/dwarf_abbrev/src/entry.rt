@@ -13,8 +13,8 @@ use std::marker::Model;
 /// an iterator over the attribute specifications, in order.
 #[derive(Drop)]
 pub struct Entry<'a> {
-    head: Head,
-    cursor: Cursor<'a>,
+    pub(crate) head: Head,
+    pub(crate) cursor: Cursor<'a>,
 }
 
 impl<'a> Model for Entry<'a> {
@@ -27,14 +27,6 @@ impl<'a> Model for Entry<'a> {
 }
 
 impl<'a> Entry<'a> {
-    /// The declaration with this head. The cursor is at its first attribute specification.
-    pub(crate) fn new(head: Head, cursor: Cursor<'a>) -> Entry<'a>
-        ensures { result
-            ≡ record { code = head.code; tag = head.tag; specs = (specs_from cursor.entry).items } }
-    {
-        Entry { head, cursor }
-    }
-
     /// A copy of the declaration with the attribute specifications that remain.
     pub fn fork(&self) -> Entry<'a>
         ensures { result ≡ self.now }

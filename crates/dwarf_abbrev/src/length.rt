@@ -3,11 +3,12 @@
 ghost use Rattle.std.specs.Prelude.{◌≡◌};
 ghost use Rattle.size_core.specs.Checks.{bad};
 ghost use Rattle.size_core.specs.declared.fault.Fault.TheVariants.{BadUnit};
-ghost use Rattle.dwarf_abbrev.specs.Lengths.{checked_length, contents_from, initial_length_from, is_reserved, length_len, rest_of_length};
+ghost use Rattle.dwarf_abbrev.specs.Lengths.{checked_length, initial_length_from, rest_of_length};
 ghost use Rattle.dwarf_abbrev.specs.Reads.{Reads, Takes};
 
 use crate::constants::{FIRST_RESERVED_LENGTH, WIDE_LENGTH};
-use crate::reads::{u32_from, u64_from};
+use crate::form::Digits;
+use crate::reads::number_from;
 use byte_cursor::{Cursor, Order};
 use size_core::{BadFile, Fault};
 
@@ -21,25 +22,19 @@ pub struct InitialLength {
 }
 
 /// The rest of a length, after its first four bytes.
-fn rest_of_length(cursor: &mut Cursor, first: u32, order: Order) -> Result<InitialLength, BadFile>
+#[tactic(auto, unfolding(crate::specs::Reads::number_from))]
+fn rest_of_length(cursor: &mut Cursor, first: u64, order: Order) -> Result<InitialLength, BadFile>
     ensures { Reads (λ x. x) result cursor.new (rest_of_length order (first, cursor.old)) }
 {
     if first == WIDE_LENGTH {
-        let len = u64_from(cursor, order)?;
+        let len = number_from(cursor, order, Digits::Eight)?;
         Ok(InitialLength { len, wide: true })
     } else {
         Ok(InitialLength {
-            len: first as u64,
+            len: first,
             wide: false,
         })
     }
-}
-
-/// Whether these first four bytes of a length are reserved.
-fn is_reserved(first: u32) -> bool
-    ensures { result ≡ is_reserved first }
-{
-    first >= FIRST_RESERVED_LENGTH && first != WIDE_LENGTH
 }
 
 /// The fault of a length at this file offset.
@@ -53,13 +48,13 @@ fn bad_unit(place: u64) -> Result<InitialLength, BadFile>
 }
 
 /// Reads an initial length and checks it.
-#[tactic(auto, unfolding(crate::specs::Lengths::checked_length))]
+#[tactic(auto, unfolding(crate::specs::Lengths::checked_length, crate::specs::Reads::number_from))]
 fn checked_length(cursor: &mut Cursor, order: Order) -> Result<InitialLength, BadFile>
     ensures { Reads (λ x. x) result cursor.new (checked_length order cursor.old) }
 {
     let place = cursor.place();
-    let first = u32_from(cursor, order)?;
-    if is_reserved(first) {
+    let first = number_from(cursor, order, Digits::Four)?;
+    if first >= FIRST_RESERVED_LENGTH && first != WIDE_LENGTH {
         return bad_unit(place);
     }
     let initial = rest_of_length(cursor, first, order)?;
@@ -87,19 +82,4 @@ pub fn initial_length(cursor: &mut Cursor, order: Order) -> Result<InitialLength
             offset: place,
         }),
     }
-}
-
-/// The size of an initial length in bytes.
-pub fn length_len(wide: bool) -> u64
-    ensures { result ≡ length_len wide }
-{
-    if wide { 12 } else { 4 }
-}
-
-/// The next `len` bytes as a window of their own. The cursor moves past them. Truncated if fewer are left.
-#[tactic(auto, unfolding(crate::specs::Lengths::contents_from))]
-pub fn contents_from<'a>(cursor: &mut Cursor<'a>, len: u64) -> Result<Cursor<'a>, BadFile>
-    ensures { Takes (λ x. x) result cursor.old cursor.new (contents_from len cursor.old) }
-{
-    cursor.take(len)
 }

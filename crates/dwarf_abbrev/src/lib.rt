@@ -8,6 +8,7 @@ mod declaration;
 mod entries;
 mod entry;
 mod form;
+mod format;
 mod laws;
 mod length;
 mod reads;
@@ -19,13 +20,11 @@ mod value;
 pub use constants::DW_FORM_IMPLICIT_CONST;
 pub use entries::Entries;
 pub use entry::Entry;
+pub use format::{ByFormat, LENGTH_LEN, OFFSET_LEN};
 pub use laws::{one_after_another, standard_numbers};
-pub use length::{InitialLength, contents_from, initial_length, length_len};
-pub use reads::{
-    address_from, inside, offset_from, offset_size, skip_from, sleb_from, text_from, u8_from,
-    u16_from, uleb_from,
-};
-pub use shape::{UnitShape, is_address_size, is_version};
+pub use length::{InitialLength, initial_length};
+pub use reads::{address_from, inside, offset_from};
+pub use shape::UnitShape;
 pub use spec::Spec;
 pub use table::Abbrevs;
 pub use value::{Content, Value, read_form};

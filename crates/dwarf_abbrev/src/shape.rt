@@ -1,8 +1,5 @@
 //! The properties of a unit that decide how its values are encoded.
 
-ghost use Rattle.std.specs.Prelude.{◌≡◌};
-ghost use Rattle.dwarf_abbrev.specs.Shapes.{is_address_size, is_version};
-
 use byte_cursor::Order;
 
 /// The format of a unit's values, from the unit's header (DWARF 5, section 7.5.1).
@@ -16,18 +13,4 @@ pub struct UnitShape {
     pub address: u8,
     /// The byte order.
     pub order: Order,
-}
-
-/// Whether this version of DWARF is supported.
-pub fn is_version(version: u16) -> bool
-    ensures { result ≡ is_version version }
-{
-    2 <= version && version <= 5
-}
-
-/// Whether an address may have this size in bytes: 2, 4 or 8.
-pub fn is_address_size(size: u8) -> bool
-    ensures { result ≡ is_address_size size }
-{
-    size == 2 || size == 4 || size == 8
 }

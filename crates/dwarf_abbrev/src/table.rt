@@ -73,7 +73,9 @@ impl<'a> Abbrevs<'a> {
     pub fn entries(&self) -> Entries<'a>
         ensures { result ≡ self.now.declarations }
     {
-        Entries::new(self.cursor.fork())
+        Entries {
+            cursor: self.cursor.fork(),
+        }
     }
 
     /// The first declaration with this code. `None` if the table has none.

@@ -9,7 +9,7 @@ ghost use Rattle.dwarf_abbrev.specs.Reads.{Reads, Takes};
 ghost use Rattle.dwarf_abbrev.specs.Values.{meaning, number_content, shown, plain_from, known_from, layout_of_number, content_by, value_from};
 
 use crate::form::{Layout, Sense, form_of, layout_of};
-use crate::reads::{number_from, skip_from, sleb_from, text_from, uleb_from};
+use crate::reads::number_from;
 use crate::shape::UnitShape;
 use crate::spec::Spec;
 use byte_cursor::{Cursor, Order};
@@ -79,7 +79,7 @@ fn unknown_form<'a>(cursor: &Cursor) -> Result<Content<'a>, BadFile>
 }
 
 /// Reads a value in this encoding. UnknownForm for an implicit or indirect one.
-#[tactic(auto, unfolding(crate::specs::Values::plain_from))]
+#[tactic(auto, unfolding(crate::specs::Values::plain_from, crate::specs::Reads::sleb_from, crate::specs::Reads::text_from, crate::specs::Reads::skip_from))]
 fn plain_content<'a>(
     cursor: &mut Cursor<'a>,
     order: Order,
@@ -93,20 +93,20 @@ fn plain_content<'a>(
             Ok(number_content(sense, number))
         }
         Layout::Signed => {
-            let number = sleb_from(cursor)?;
+            let number = cursor.sleb()?;
             Ok(Content::Signed(number))
         }
         Layout::Text => {
-            let text = text_from(cursor)?;
+            let text = cursor.cstr()?;
             Ok(Content::Text(text))
         }
         Layout::Counted(digits) => {
             let count = number_from(cursor, order, digits)?;
-            skip_from(cursor, count)?;
+            cursor.skip(count)?;
             Ok(Content::Other)
         }
         Layout::Bytes(count) => {
-            skip_from(cursor, count)?;
+            cursor.skip(count)?;
             Ok(Content::Other)
         }
         Layout::Implicit | Layout::Indirect => unknown_form(cursor),
@@ -123,35 +123,33 @@ fn layout_of_number(shape: &UnitShape, number: u64) -> Option<Layout>
     }
 }
 
-/// Reads an indirect value: the number of a form, and then a value of that form.
-#[tactic(auto, unfolding(crate::specs::Values::content_by))]
-fn indirect_content<'a>(cursor: &mut Cursor<'a>, shape: &UnitShape) -> Result<Content<'a>, BadFile>
-    ensures { Reads meaning result cursor.new
-        (content_by shape.now (pos 0) (Some Indirect) cursor.old) }
-{
-    let form = uleb_from(cursor)?;
-    match layout_of_number(shape, form) {
-        Some(layout) => plain_content(cursor, shape.order, layout),
-        None => unknown_form(cursor),
+impl UnitShape {
+    /// Reads an indirect value: the number of a form, and then a value of that form.
+    #[tactic(auto, unfolding(crate::specs::Values::content_by, crate::specs::Reads::uleb_from))]
+    fn indirect_content<'a>(&self, cursor: &mut Cursor<'a>) -> Result<Content<'a>, BadFile>
+        ensures { Reads meaning result cursor.new
+            (content_by self.now (pos 0) (Some Indirect) cursor.old) }
+    {
+        let form = cursor.uleb()?;
+        match layout_of_number(self, form) {
+            Some(layout) => plain_content(cursor, self.order, layout),
+            None => unknown_form(cursor),
+        }
     }
-}
 
-/// Reads the content of an attribute's value.
-#[tactic(auto, unfolding(crate::specs::Values::content_by))]
-fn content_by<'a>(
-    cursor: &mut Cursor<'a>,
-    spec: &Spec,
-    shape: &UnitShape,
-) -> Result<Content<'a>, BadFile>
-    ensures { Reads meaning result cursor.new
-        (content_by shape.now spec.now.constant (layout_of_number shape.now spec.now.form)
-        cursor.old) }
-{
-    match layout_of_number(shape, spec.form) {
-        None => unknown_form(cursor),
-        Some(Layout::Implicit) => Ok(Content::Signed(spec.constant)),
-        Some(Layout::Indirect) => indirect_content(cursor, shape),
-        Some(layout) => plain_content(cursor, shape.order, layout),
+    /// Reads the content of an attribute's value.
+    #[tactic(auto, unfolding(crate::specs::Values::content_by))]
+    fn content<'a>(&self, cursor: &mut Cursor<'a>, spec: &Spec) -> Result<Content<'a>, BadFile>
+        ensures { Reads meaning result cursor.new
+            (content_by self.now spec.now.constant (layout_of_number self.now spec.now.form)
+            cursor.old) }
+    {
+        match layout_of_number(self, spec.form) {
+            None => unknown_form(cursor),
+            Some(Layout::Implicit) => Ok(Content::Signed(spec.constant)),
+            Some(Layout::Indirect) => self.indirect_content(cursor),
+            Some(layout) => plain_content(cursor, self.order, layout),
+        }
     }
 }
 
@@ -168,7 +166,7 @@ pub fn read_form<'a>(
 {
     let place = cursor.place();
     let mut ahead = cursor.fork();
-    match content_by(&mut ahead, spec, shape) {
+    match shape.content(&mut ahead, spec) {
         Ok(content) => {
             *cursor = ahead;
             Ok(Value { place, content })

@@ -15,7 +15,8 @@ use Rattle.claim_sheet.proofs.KnownLemmas.{added_after, added_now}
 use Rattle.dwarf_abbrev.specs.declared.shape.UnitShape.{UnitShape}
 use Rattle.dwarf_abbrev.specs.Declarations.{Table, table_at, table_in}
 use Rattle.dwarf_abbrev.specs.Reads.{inside}
-use Rattle.dwarf_line_header.specs.Programs.{program_in}
+use Rattle.dwarf_line_header.specs.Header.{LineHeader}
+use Rattle.dwarf_line_header.specs.Programs.{program_at, program_in}
 use Rattle.dwarf_lines.specs.Rows.{line_rows}
 use Rattle.dwarf_ranges.specs.declared.ranges.RangeKey.{RangeKey}
 use Rattle.dwarf_ranges.specs.Hollow.{IsHollowKey}
@@ -93,16 +94,14 @@ same_program s shape offset p q claims = by_window (inside s.lines offset)
     by_window None e = cc e
     by_window (Some w) e = e
 
-pub program_new : (s : Sections) (shape : UnitShape) (offset place : ℕ) (u t : Sheet) → adding_read u (reading_at s shape offset place) ≡ Ok t
+pub program_new : (s : Sections) (shape : UnitShape) (offset place : ℕ) (u t : Sheet) (h : LineHeader) → program_at s offset place shape ≡ Ok h → adding_read u (rows_claims h shape.address (line_rows h)) ≡ Ok t
     → IsAddedProgram s t (record { offset = offset; shape = shape; first = length u.made; end = length t.made })
-program_new s shape offset place u t made = by_reading (reading_at s shape offset place) refl made
+program_new s shape offset place u t h at made = by_claims (rows_claims h shape.address (line_rows h)) refl made
   where
-    by_reading : (r : Result (List LabelledClaim) BadFile) → reading_at s shape offset place ≡ r → adding_read u r ≡ Ok t
+    by_claims : (r : Result (List LabelledClaim) BadFile) → rows_claims h shape.address (line_rows h) ≡ r → adding_read u r ≡ Ok t
         → IsAddedProgram s t (record { offset = offset; shape = shape; first = length u.made; end = length t.made })
-    by_reading (Ok claims) is made =
-        let same : t ≡ adding u claims = cc in
-        record { claims = claims; read = λ q. same_program s shape offset place q claims is; added = added_now u t claims same }
-    by_reading (Err b) is made = cc made
+    by_claims (Ok claims) is made = record { claims = claims; read = λ q. same_program s shape offset place q claims (rw at is); added = added_now u t claims cc }
+    by_claims (Err b) is made = cc made
 
 pub program_again : {X : Type 0} (s : Sections) (u t : Sheet) (known : LastProgram) (root : RootRecord) (given : Option (ℕ × ℕ)) (named : ℕ × ℕ) (q : Result X Stop) → IsAddedProgram s u known → given ≡ Some named → known.offset ≡ named.0 → known.shape ≡ root.shape
     → ((claims : List LabelledClaim) → AreAdded u known.first known.end claims → AddsRead q u t (Ok claims)) → AddsRead q u t (program_claims s root given)

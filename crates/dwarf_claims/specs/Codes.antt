@@ -1,5 +1,5 @@
 -- What is known of the declarations of a table of abbreviations.
-use Rattle.std.specs.Prelude.{ℕ, ◌==◌, Bool, true, false, List, Some}
+use Rattle.std.specs.Prelude.{List, Some}
 use Rattle.dwarf_abbrev.specs.Declarations.{Declaration, declared}
 use Rattle.dwarf_units.specs.Filling.{AreRootsOf, IsIndexOf}
 use Rattle.dwarf_claims.specs.declared.known_codes.KnownCodes.{KnownCodes}
@@ -10,9 +10,3 @@ abbrev pub IsKnownOf : List Declaration → KnownCodes → Type 0
 IsKnownOf declarations Nothing = Unit {0}
 IsKnownOf declarations (One known) = AreRootsOf (declared declarations known.code) (Some known.specs.items)
 IsKnownOf declarations (Index index) = IsIndexOf declarations index
-
--- Whether the declaration of a code is known.
-abbrev pub is_known : KnownCodes → ℕ → Bool
-is_known Nothing code = false
-is_known (One known) code = known.code == code
-is_known (Index index) code = true

@@ -1,10 +1,10 @@
 //! What is known of a table of abbreviations that units have used again. Most units of a table have roots of one code,
 //! which needs no index of the table.
 
-ghost use Rattle.std.specs.Prelude.{◌≡◌, true, Some, IfOk};
-ghost use Rattle.dwarf_claims.specs.Codes.{IsKnownOf, is_known};
+ghost use Rattle.std.specs.Prelude.{IfOk};
+ghost use Rattle.dwarf_claims.specs.Codes.{IsKnownOf};
 
-use crate::index::{index_of, needed_specs};
+use crate::index::needed_specs;
 use dwarf_abbrev::{Abbrevs, Spec};
 use size_core::NoMemory;
 use std::alloc::Global;
@@ -28,18 +28,8 @@ pub enum KnownCodes {
     Index(BTreeMap<u64, Vec<Spec>>),
 }
 
-/// Returns whether there is a code and it is this one.
-pub fn is_code(code: Option<u64>, known: u64) -> bool
-    ensures { result ≡ true → code ≡ Some known }
-{
-    match code {
-        Some(code) => code == known,
-        None => false,
-    }
-}
-
-// Returns what is known of one code: nothing if the table doesn't declare it.
-fn one_code(alloc: Global, table: &Abbrevs<'_>, code: u64) -> Result<KnownCodes, NoMemory>
+/// Returns what is known of one code: nothing if the table doesn't declare it.
+pub fn one_code(alloc: Global, table: &Abbrevs<'_>, code: u64) -> Result<KnownCodes, NoMemory>
     ensures { IfOk result (IsKnownOf table.now.declarations) }
 {
     let Some(declared) = table.entry(code) else {
@@ -47,33 +37,4 @@ fn one_code(alloc: Global, table: &Abbrevs<'_>, code: u64) -> Result<KnownCodes,
     };
     let specs = needed_specs(alloc, declared)?;
     Ok(KnownCodes::One(KnownCode { code, specs }))
-}
-
-impl KnownCodes {
-    /// Returns whether the declaration of this code is known.
-    pub fn has(&self, code: u64) -> bool
-        ensures { result ≡ is_known self.now code }
-    {
-        match self {
-            KnownCodes::Nothing => false,
-            KnownCodes::One(known) => known.code == code,
-            KnownCodes::Index(_) => true,
-        }
-    }
-
-    /// Returns what is known of a table once a code is needed that isn't known yet: that code alone if none was
-    /// known, and otherwise all codes.
-    pub fn with(
-        &self,
-        alloc: Global,
-        table: &Abbrevs<'_>,
-        code: u64,
-    ) -> Result<KnownCodes, NoMemory>
-        ensures { IfOk result (IsKnownOf table.now.declarations) }
-    {
-        match self {
-            KnownCodes::Nothing => one_code(alloc, table, code),
-            _ => Ok(KnownCodes::Index(index_of(alloc, table)?)),
-        }
-    }
 }

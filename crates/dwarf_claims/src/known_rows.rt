@@ -1,7 +1,7 @@
 //! The labels of rows that have a claim. Rows come back to the lines of a function and to those of inlined functions,
 //! and a label that is known needn't be written and looked up again.
 
-ghost use Rattle.std.specs.Prelude.{List, IfOk};
+ghost use Rattle.std.specs.Prelude.{List};
 ghost use Rattle.size_model.specs.declared.view.LabelledClaim.{LabelledClaim};
 ghost use Rattle.claim_sheet.specs.Known.{IsKnownBy};
 ghost use Rattle.dwarf_line_header.specs.Header.{LineHeader};
@@ -9,8 +9,6 @@ ghost use Rattle.dwarf_claims.specs.LineClaims.{row_label};
 ghost use Rattle.dwarf_claims.specs.RowSteps.{AreKnownRows};
 
 use dwarf_lines::LineRow;
-use size_core::NoMemory;
-use std::alloc::Global;
 
 /// A file and a line, and the position on the sheet of a claim that has their label, if one is known.
 #[derive(Clone, Copy)]
@@ -20,14 +18,15 @@ pub struct KnownRow {
     pub claim: Option<usize>,
 }
 
-const NO_ROW: KnownRow = KnownRow {
+/// A row that isn't known.
+pub const NO_ROW: KnownRow = KnownRow {
     file: 0,
     line: 0,
     claim: None,
 };
 
-// How many rows are known at most.
-const ROWS: usize = 256;
+/// How many rows are known at most.
+pub const ROWS: usize = 256;
 
 /// Known rows of one line program. The position of a row follows from its file and line; a new row replaces the one that
 /// has its position.
@@ -44,16 +43,6 @@ fn slot_of(row: &LineRow) -> usize {
 }
 
 impl KnownRows {
-    /// Returns an empty table.
-    #[tactic(auto, unfolding(crate::specs::RowSteps::AreKnownRows))]
-    pub fn new(alloc: Global) -> Result<KnownRows, NoMemory>
-        ensures { IfOk result (λ known. (made : List LabelledClaim) (h : LineHeader)
-            → AreKnownRows made h known.rows.items) }
-    {
-        let rows = vec![in alloc; NO_ROW; ROWS]?;
-        Ok(KnownRows { rows })
-    }
-
     /// Returns the position of a claim that has the label of a row, if one is known.
     #[tactic(auto, using(crate::proofs::KnownLemmas::known_is))]
     pub fn claim_of(&self, row: &LineRow) -> Option<usize>

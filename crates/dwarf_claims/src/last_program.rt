@@ -7,10 +7,10 @@ ghost use Rattle.claim_sheet.specs.Adds.{AddsRead};
 ghost use Rattle.claim_sheet.specs.Known.{AreAdded};
 ghost use Rattle.dwarf_units.specs.Roots.{shown_root};
 ghost use Rattle.dwarf_line_header.specs.UnitPrograms.{unit_program};
-ghost use Rattle.dwarf_claims.specs.LineClaims.{program_claims, reading_at};
+ghost use Rattle.dwarf_claims.specs.LineClaims.{program_claims};
 ghost use Rattle.dwarf_claims.specs.Tables.{IsProgramOf};
 
-use crate::row::add_rows;
+use crate::row::UnitProgram;
 use claim_sheet::{ClaimSheet, Stop};
 use dwarf_abbrev::UnitShape;
 use dwarf_line_header::unit_program;
@@ -42,23 +42,9 @@ fn add_again(last: &LastProgram, sheet: &mut ClaimSheet) -> Result<(), Stop>
     Ok(())
 }
 
-// Reads a program and adds its claims. Its file names are kept in memory, since many rows name the same file.
-fn read_program(
-    alloc: Global,
-    sections: &Sections<'_>,
-    shape: &UnitShape,
-    named: (u64, u64),
-    sheet: &mut ClaimSheet,
-) -> Result<(), Stop>
-    ensures { AddsRead result sheet.old sheet.new
-        (reading_at sections.now shape.now named.0 named.1) }
-{
-    let program = LineProgram::at(sections, named.0, named.1, shape)?.kept(alloc)?;
-    add_rows(alloc, &program, shape.address, sheet)
-}
-
 /// Adds the claims of the line program that a unit names, if it names one. The program that was read last isn't read
-/// again for a unit of the same shape: its claims are copied. Bad is the first fault of the program.
+/// again for a unit of the same shape: its claims are copied. Its file names are kept in memory, since many rows name the
+/// same file. Bad is the first fault of the program.
 #[tactic(auto, using(claim_sheet::proofs::SheetLemmas::adding_none, crate::proofs::KeptLemmas::program_again, crate::proofs::KeptLemmas::program_still, crate::proofs::KeptLemmas::program_new))]
 pub fn add_program(
     alloc: Global,
@@ -82,7 +68,12 @@ pub fn add_program(
         return add_again(known, sheet);
     }
     let first = sheet.len();
-    read_program(alloc, sections, &root.shape, named, sheet)?;
+    let program = LineProgram::at(sections, named.0, named.1, &root.shape)?.kept(alloc)?;
+    let unit = UnitProgram {
+        program: &program,
+        size: root.shape.address,
+    };
+    unit.add_rows(alloc, sheet)?;
     *last = Some(LastProgram {
         offset: named.0,
         shape: root.shape,

@@ -30,7 +30,7 @@ fn have_same_ranges(is_hollow: bool, last: &RangeKey, key: &RangeKey) -> bool
     if is_hollow {
         last.is_list_of(key)
     } else {
-        last.is_same(key)
+        *last == *key
     }
 }
 

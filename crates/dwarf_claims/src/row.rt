@@ -3,7 +3,7 @@
 ghost use Rattle.std.specs.Prelude.{◌≡◌, IfOk, OnOk};
 ghost use Rattle.claim_sheet.specs.Adds.{Adds, AddsRead};
 ghost use Rattle.dwarf_lines.specs.Rows.{line_rows};
-ghost use Rattle.dwarf_claims.specs.LineClaims.{pair_claim, rows_claims};
+ghost use Rattle.dwarf_claims.specs.LineClaims.{rows_claims};
 ghost use Rattle.dwarf_claims.specs.RowSteps.{AreRowLabels, claim_before, makes_claims, next_before, previous_of_next, row_claims};
 
 use crate::row_labels::RowLabels;
@@ -20,11 +20,11 @@ pub struct Before {
     pub claims: bool,
 }
 
-// A line program, and the size of an address in its unit.
+/// A line program, and the size of an address in its unit.
 #[derive(Clone, Copy)]
-struct UnitProgram<'p, 'a> {
-    program: &'p LineProgram<'a>,
-    size: u8,
+pub struct UnitProgram<'p, 'a> {
+    pub program: &'p LineProgram<'a>,
+    pub size: u8,
 }
 
 fn is_claimed(size: u8, before: Option<Before>, row: &LineRow) -> bool
@@ -46,28 +46,8 @@ fn before_next(size: u8, before: Option<Before>, row: LineRow) -> Option<Before>
     Some(Before { row, claims })
 }
 
-// Adds the claim of two consecutive rows.
+// Adds the claim of the previous row, if the sequence has one and makes claims: the addresses up to this row.
 #[tactic(auto, using(claim_sheet::proofs::SheetLemmas::adding_none), unfolding(crate::specs::LineClaims::pair_claim))]
-fn add_pair(
-    program: &LineProgram<'_>,
-    row: &LineRow,
-    next: &LineRow,
-    labels: &mut RowLabels,
-    sheet: &mut ClaimSheet,
-) -> Result<(), NoMemory>
-    requires { AreRowLabels sheet.old.made program.now labels.old }
-    ensures adds { Adds result sheet.old sheet.new (pair_claim program.now row.now next.now) }
-    ensures labels { OnOk result (AreRowLabels sheet.new.made program.now labels.new) }
-{
-    if next.address <= row.address {
-        return Ok(());
-    }
-    let bytes = span(0, row.address, next.address - row.address);
-    labels.add(program, row, Reach::in_memory(bytes), sheet)
-}
-
-// Adds the claim of the previous row, if the sequence has one and makes claims.
-#[tactic(auto, using(claim_sheet::proofs::SheetLemmas::adding_none))]
 fn add_before(
     program: &LineProgram<'_>,
     before: Option<Before>,
@@ -79,10 +59,15 @@ fn add_before(
     ensures adds { Adds result sheet.old sheet.new (claim_before program.now before row.now) }
     ensures labels { OnOk result (AreRowLabels sheet.new.made program.now labels.new) }
 {
-    match before {
-        Some(before) if before.claims => add_pair(program, &before.row, row, labels, sheet),
-        _ => Ok(()),
+    let Some(before) = before else {
+        return Ok(());
+    };
+    let start = before.row.address;
+    if !before.claims || row.address <= start {
+        return Ok(());
     }
+    let bytes = span(0, start, row.address - start);
+    labels.add(program, &before.row, Reach::in_memory(bytes), sheet)
 }
 
 // Adds the claim of the previous row, which ends at this row, and returns the previous row of the next row.
@@ -105,23 +90,19 @@ fn add_row(
     Ok(before_next(unit.size, before, row))
 }
 
-/// Adds the claims of the rows of a line program, for a unit with addresses of `size` bytes. Bad is the fault of the
-/// rows.
-#[tactic(auto, using(crate::proofs::RowLemmas::ends, crate::proofs::RowLemmas::passes))]
-pub fn add_rows(
-    alloc: Global,
-    program: &LineProgram<'_>,
-    size: u8,
-    sheet: &mut ClaimSheet,
-) -> Result<(), Stop>
-    ensures { AddsRead result sheet.old sheet.new
-        (rows_claims program.now size (line_rows program.now)) }
-{
-    let mut labels = RowLabels::new(alloc, program)?;
-    let mut before = None;
-    for row in program.rows() {
-        let unit = UnitProgram { program, size };
-        before = add_row(unit, before, row, &mut labels, sheet)?;
+impl UnitProgram<'_, '_> {
+    /// Adds the claims of the rows of the line program. Bad is the fault of the rows.
+    #[tactic(auto, using(crate::proofs::RowLemmas::ends, crate::proofs::RowLemmas::passes))]
+    pub fn add_rows(self, alloc: Global, sheet: &mut ClaimSheet) -> Result<(), Stop>
+        ensures { AddsRead result sheet.old sheet.new
+            (rows_claims self.entry.program.now self.entry.size
+            (line_rows self.entry.program.now)) }
+    {
+        let mut labels = RowLabels::new(alloc, self.program)?;
+        let mut before = None;
+        for row in self.program.rows() {
+            before = add_row(self, before, row, &mut labels, sheet)?;
+        }
+        Ok(())
     }
-    Ok(())
 }

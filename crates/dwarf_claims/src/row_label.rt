@@ -9,7 +9,6 @@ use claim_sheet::append;
 use dwarf_lines::{LineProgram, LineRow};
 use itoa::Buffer;
 use size_core::NoMemory;
-use std::alloc::Global;
 
 /// The label of a row: a path, a colon and a line. The buffer is reused for the next row. Consecutive rows of one file
 /// keep the path, since only the line changes.
@@ -24,15 +23,6 @@ pub struct RowLabel {
 }
 
 impl RowLabel {
-    /// Returns an empty label.
-    pub fn new(alloc: Global) -> RowLabel {
-        RowLabel {
-            text: Vec::new(alloc),
-            path_len: 0,
-            file: 1,
-        }
-    }
-
     /// Sets the label to the path of a file of a program, without a line.
     pub fn set_file(&mut self, program: &LineProgram<'_>, file: u64) -> Result<(), NoMemory>
         ensures path { OnOk result (self.new.text.items ≡ path_of program.now file) }

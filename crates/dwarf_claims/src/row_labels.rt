@@ -7,7 +7,7 @@ ghost use Rattle.claim_sheet.specs.Reaches.{claim_on};
 ghost use Rattle.dwarf_claims.specs.LineClaims.{row_label};
 ghost use Rattle.dwarf_claims.specs.RowSteps.{AreRowLabels};
 
-use crate::known_rows::KnownRows;
+use crate::known_rows::{KnownRows, NO_ROW, ROWS};
 use crate::row_label::RowLabel;
 use claim_sheet::{ClaimSheet, Reach};
 use dwarf_lines::{LineProgram, LineRow};
@@ -23,14 +23,22 @@ pub struct RowLabels {
 
 impl RowLabels {
     /// Returns labels for the rows of a program. None is known yet.
+    #[tactic(auto, unfolding(crate::specs::RowSteps::AreKnownRows))]
     pub fn new(alloc: Global, program: &LineProgram<'_>) -> Result<RowLabels, NoMemory>
         ensures { IfOk result (λ labels.
             (made : List LabelledClaim) → AreRowLabels made program.now labels) }
     {
-        let mut last = RowLabel::new(alloc);
+        let mut last = RowLabel {
+            text: Vec::new(alloc),
+            path_len: 0,
+            file: 1,
+        };
         last.set_file(program, 1)?;
-        let known = KnownRows::new(alloc)?;
-        Ok(RowLabels { last, known })
+        let rows = vec![in alloc; NO_ROW; ROWS]?;
+        Ok(RowLabels {
+            last,
+            known: KnownRows { rows },
+        })
     }
 
     /// Adds a claim under the label of a row, and stores its position. A label that is known isn't written again.

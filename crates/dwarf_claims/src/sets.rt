@@ -6,7 +6,6 @@ ghost use Rattle.claim_sheet.specs.Known.{IsKnown};
 ghost use Rattle.dwarf_units.specs.Units.{units_of};
 ghost use Rattle.dwarf_claims.specs.SetClaims.{labels_of, named_claims, set_claims, sets_claims, tuple_claim};
 ghost use Rattle.dwarf_claims.specs.Tables.{AreReadUnits, shown_units};
-ghost use Rattle.dwarf_claims.specs.UnderLabel.{AddsUnder};
 
 use crate::known::{KnownUnit, label_at};
 use claim_sheet::{ClaimSheet, KnownLabel, Reach, Stop, span};
@@ -14,26 +13,8 @@ use dwarf_ranges::{AddressSet, Tuples, arange_sets, claims_nothing};
 use dwarf_units::Sections;
 use size_core::{BadFile, NoMemory};
 
-// Adds the claim of a tuple. Empty tuples, and those of dropped functions, claim nothing.
-#[tactic(auto, using(claim_sheet::proofs::SheetLemmas::adding_none), unfolding(crate::specs::SetClaims::tuple_claim, crate::specs::UnitClaims::range_claim))]
-fn add_tuple(
-    size: u8,
-    tuple: (u64, u64),
-    label: &mut KnownLabel<'_>,
-    sheet: &mut ClaimSheet,
-) -> Result<(), NoMemory>
-    requires { IsKnown sheet.old.made label.old }
-    ensures { AddsUnder label.old label.new result sheet.old sheet.new
-        (tuple_claim label.old.text.now size tuple) }
-{
-    if claims_nothing(size, tuple.0, tuple.1) {
-        return Ok(());
-    }
-    sheet.add_known(Reach::in_memory(span(0, tuple.0, tuple.1)), label)
-}
-
-// Adds the claims of a set under the label of its unit.
-#[tactic(auto, using(claim_sheet::proofs::LoopLemmas::list_goes, claim_sheet::proofs::ListLemmas::none_left, claim_sheet::proofs::SheetLemmas::adding_more), unfolding(crate::specs::SetClaims::named_claims))]
+// Adds the claims of a set under the label of its unit. Empty tuples, and those of dropped functions, claim nothing.
+#[tactic(auto, using(claim_sheet::proofs::LoopLemmas::list_goes, claim_sheet::proofs::ListLemmas::none_left, claim_sheet::proofs::SheetLemmas::adding_more, claim_sheet::proofs::SheetLemmas::adding_none), unfolding(crate::specs::SetClaims::named_claims, crate::specs::SetClaims::tuple_claim, crate::specs::UnitClaims::range_claim))]
 fn add_named(
     set: AddressSet<'_>,
     label: KnownLabel<'_>,
@@ -47,7 +28,10 @@ fn add_named(
     let bytes = Reach::in_file(span(0, set.place, set.len));
     let size = set.address;
     for tuple in set.tuples {
-        add_tuple(size, tuple, &mut label, sheet)?;
+        if claims_nothing(size, tuple.0, tuple.1) {
+            continue;
+        }
+        sheet.add_known(Reach::in_memory(span(0, tuple.0, tuple.1)), &mut label)?;
     }
     sheet.add_known(bytes, &mut label)
 }

@@ -10,7 +10,8 @@ ghost use Rattle.dwarf_claims.specs.Codes.{IsKnownOf};
 ghost use Rattle.dwarf_claims.specs.Reads.{Reads};
 ghost use Rattle.dwarf_claims.specs.Tables.{AreTablesOf, IsStillTable, IsTableOf};
 
-use crate::known_codes::{KnownCodes, is_code};
+use crate::index::index_of;
+use crate::known_codes::{KnownCodes, one_code};
 use claim_sheet::Stop;
 use dwarf_abbrev::Abbrevs;
 use dwarf_units::{DwarfUnit, Root, Sections};
@@ -27,7 +28,8 @@ pub struct LastTable<'a> {
 }
 
 impl<'a> LastTable<'a> {
-    // Makes the declaration of a code known for one more unit, if there is a code and its declaration isn't known.
+    // Makes the declaration of a code known for one more unit, if there is a code. If another code is known already,
+    // all codes of the table become known.
     fn know(&mut self, alloc: Global, code: Option<u64>) -> Result<(), NoMemory>
         requires { IsKnownOf self.old.table.declarations self.old.known }
         ensures { IsStillTable self.old self.new }
@@ -35,11 +37,13 @@ impl<'a> LastTable<'a> {
         let Some(code) = code else {
             return Ok(());
         };
-        if self.known.has(code) {
-            return Ok(());
+        match &self.known {
+            KnownCodes::Nothing => self.known = one_code(alloc, &self.table, code)?,
+            KnownCodes::One(known) if known.code != code => {
+                self.known = KnownCodes::Index(index_of(alloc, &self.table)?);
+            }
+            KnownCodes::One(_) | KnownCodes::Index(_) => {}
         }
-        let known = self.known.with(alloc, &self.table, code)?;
-        self.known = known;
         Ok(())
     }
 
@@ -50,7 +54,7 @@ impl<'a> LastTable<'a> {
         ensures { Gives shown_root result (root_in self.now.table unit.now) }
     {
         match &self.known {
-            KnownCodes::One(one) if is_code(code, one.code) => unit.root_with(
+            KnownCodes::One(one) if code == Some(one.code) => unit.root_with(
                 &self.table,
                 &one.specs,
             ),

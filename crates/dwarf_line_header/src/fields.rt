@@ -6,18 +6,18 @@ ghost use Rattle.dwarf_line_header.specs.Header.{IsUsable, address_size, divisor
 
 use crate::encoding::{AddressSize, LineEncoding};
 use byte_cursor::Cursor;
-use dwarf_abbrev::{UnitShape, contents_from, offset_from, skip_from, u8_from};
+use dwarf_abbrev::{UnitShape, offset_from};
 use size_core::{BadFile, Fault};
 
 /// Skips the sizes of an address and of a segment selector, which are stored from DWARF 5 on.
-#[tactic(auto, unfolding(crate::specs::Header::sizes_from))]
+#[tactic(auto, unfolding(crate::specs::Header::sizes_from, dwarf_abbrev::specs::Reads::skip_from))]
 fn skip_sizes(version: u16, cursor: &mut Cursor) -> Result<(), BadFile>
     ensures { Reads (λ u. u) result cursor.new (sizes_from version cursor.old) }
 {
     if version < 5 {
         return Ok(());
     }
-    skip_from(cursor, 2)
+    cursor.skip(2)
 }
 
 /// Returns a cursor at the first instruction, by the length of the header. `cursor` itself moves past the length
@@ -34,7 +34,7 @@ pub fn instructions<'a>(shape: &UnitShape, cursor: &mut Cursor<'a>) -> Result<Cu
 }
 
 /// The maximum number of operations in an instruction. It is 1 before DWARF 4.
-#[tactic(auto, unfolding(crate::specs::Header::max_ops_from))]
+#[tactic(auto, unfolding(crate::specs::Header::max_ops_from, dwarf_abbrev::specs::Reads::num_from))]
 fn max_ops(version: u16, cursor: &mut Cursor) -> Result<u8, BadFile>
     ensures reads { Reads (λ n. n) result cursor.new (max_ops_from version cursor.old) }
     ensures some { IfOk result (λ n. 0 < n) }
@@ -42,18 +42,18 @@ fn max_ops(version: u16, cursor: &mut Cursor) -> Result<u8, BadFile>
     if version < 4 {
         return Ok(1);
     }
-    let max_ops = u8_from(cursor)?;
+    let max_ops = cursor.u8()?;
     Ok(max_ops.max(1))
 }
 
 /// Reads a number of one byte that may not be 0. BadHeader at the number if it is.
-#[tactic(auto, unfolding(crate::specs::Header::divisor_from))]
+#[tactic(auto, unfolding(crate::specs::Header::divisor_from, dwarf_abbrev::specs::Reads::num_from))]
 fn divisor(cursor: &mut Cursor) -> Result<u8, BadFile>
     ensures reads { Reads (λ n. n) result cursor.new (divisor_from cursor.old) }
     ensures some { IfOk result (λ n. 0 < n) }
 {
     let place = cursor.place();
-    let number = u8_from(cursor)?;
+    let number = cursor.u8()?;
     if number == 0 {
         return Err(BadFile {
             fault: Fault::BadHeader,
@@ -75,16 +75,16 @@ pub fn address_size(bytes: u8) -> AddressSize
 }
 
 /// Reads the parameters that the instructions depend on.
-#[tactic(auto, unfolding(crate::specs::Header::encoding_from))]
+#[tactic(auto, unfolding(crate::specs::Header::encoding_from, dwarf_abbrev::specs::Reads::num_from))]
 pub fn encoding(shape: &UnitShape, cursor: &mut Cursor) -> Result<LineEncoding, BadFile>
     ensures reads { Reads (λ e. e) result cursor.new (encoding_from shape.now cursor.old) }
     ensures usable { IfOk result IsUsable }
     ensures some { IfOk result (λ e. 0 < e.opcode_base) }
 {
-    let min_inst = u8_from(cursor)?;
+    let min_inst = cursor.u8()?;
     let max_ops = max_ops(shape.version, cursor)?;
-    let _default_is_stmt = u8_from(cursor)?;
-    let line_base = u8_from(cursor)?;
+    let _default_is_stmt = cursor.u8()?;
+    let line_base = cursor.u8()?;
     let line_range = divisor(cursor)?;
     let opcode_base = divisor(cursor)?;
     Ok(LineEncoding {
@@ -104,6 +104,6 @@ pub fn lengths<'a>(count: u8, cursor: &mut Cursor<'a>) -> Result<&'a [u8], BadFi
     ensures reads { Reads (λ l. l.now) result cursor.new (lengths_from count cursor.old) }
     ensures all { IfOk result (λ l. length l.now ≡ count) }
 {
-    let lengths = contents_from(cursor, count as u64)?;
+    let lengths = cursor.take(count as u64)?;
     Ok(lengths.rest())
 }

@@ -1,10 +1,7 @@
 //! The tables of DWARF 5: first the content and the form of each value, and then the entries (DWARF 5, section
 //! 6.2.4.1).
 
-ghost use Rattle.size_core.specs.Checks.{demand};
-ghost use Rattle.size_core.specs.declared.fault.Fault.TheVariants.{Truncated};
-ghost use Rattle.byte_cursor.specs.Window.{place_of};
-ghost use Rattle.std.specs.Prelude.{◌≡◌, ◌==◌, ◌-◌, IfOk, nat_le, length, is_ok, map, option_map, slice_get, true, if◌then◌else◌};
+ghost use Rattle.std.specs.Prelude.{◌≡◌, IfOk, is_ok, map, option_map, slice_get, true, if◌then◌else◌};
 ghost use Rattle.dwarf_abbrev.specs.Values.{shown as value_shown};
 ghost use Rattle.dwarf_line_header.specs.Gathered.{held_first, values_shown};
 ghost use Rattle.dwarf_abbrev.specs.Reads.{Reads};
@@ -15,9 +12,7 @@ use crate::constants::{DW_LNCT_DIRECTORY_INDEX, DW_LNCT_PATH};
 use crate::entry::FileEntry;
 use crate::names::{copy_sections, name_of};
 use byte_cursor::Cursor;
-use dwarf_abbrev::{
-    Content, DW_FORM_IMPLICIT_CONST, Spec, UnitShape, Value, read_form, u8_from, uleb_from,
-};
+use dwarf_abbrev::{Content, DW_FORM_IMPLICIT_CONST, Spec, UnitShape, Value, read_form};
 use dwarf_units::Sections;
 use size_core::{BadFile, Fault, NoMemory};
 use std::alloc::Global;
@@ -25,13 +20,13 @@ use std::marker::Model;
 
 /// Reads a pair: the content type of a value, as an attribute number, and the value's form. UnknownForm at the pair
 /// for `DW_FORM_implicit_const`, since a pair has no constant.
-#[tactic(auto, unfolding(crate::specs::FormattedTables::pair_from))]
+#[tactic(auto, unfolding(crate::specs::FormattedTables::pair_from, dwarf_abbrev::specs::Reads::uleb_from))]
 fn pair(cursor: &mut Cursor) -> Result<Spec, BadFile>
     ensures { Reads (λ p. p) result cursor.new (pair_from cursor.old) }
 {
     let place = cursor.place();
-    let attribute = uleb_from(cursor)?;
-    let form = uleb_from(cursor)?;
+    let attribute = cursor.uleb()?;
+    let form = cursor.uleb()?;
     if form == DW_FORM_IMPLICIT_CONST {
         return Err(BadFile {
             fault: Fault::UnknownForm,
@@ -149,7 +144,7 @@ fn directory_in(value: Option<Value>) -> u64
 
 impl<'a> Format<'a> {
     /// Reads the pair count and the pairs.
-    #[tactic(auto, unfolding(crate::specs::FormattedTables::format_from), using(crate::proofs::TableLemmas::passed_is, crate::proofs::TableLemmas::passed_is_ok, crate::proofs::TableLemmas::passed_is_not))]
+    #[tactic(auto, unfolding(crate::specs::FormattedTables::format_from, dwarf_abbrev::specs::Reads::num_from), using(crate::proofs::TableLemmas::passed_is, crate::proofs::TableLemmas::passed_is_ok, crate::proofs::TableLemmas::passed_is_not))]
     fn read(
         sections: &Sections<'a>,
         shape: &UnitShape,
@@ -157,7 +152,7 @@ impl<'a> Format<'a> {
     ) -> Result<Format<'a>, BadFile>
         ensures { Reads (λ f. f) result cursor.new (format_from sections.now shape.now cursor.old) }
     {
-        let count = u8_from(cursor)?;
+        let count = cursor.u8()?;
         let pairs = cursor.fork();
         pass_pairs(count, cursor)?;
         Ok(Format {
@@ -194,52 +189,6 @@ fn pass_entries<'a>(format: &Format<'a>, count: u64, cursor: &mut Cursor<'a>) ->
     Ok(())
 }
 
-/// The entry at index `k`, counted from 0, of `count` entries at the cursor.
-#[tactic(auto, using(crate::proofs::TableLemmas::items_bad, crate::proofs::TableLemmas::items_end))]
-fn entry_at<'a>(
-    format: &Format<'a>,
-    count: u64,
-    entries: &Cursor<'a>,
-    k: u64,
-) -> Option<FileEntry<'a>>
-    requires { is_ok (many_from (formatted_entry format.now) count entries.now) ≡ true }
-    ensures { option_map shown result
-        ≡ slice_get (items_of (many_from (formatted_entry format.now) count entries.now)) k }
-{
-    let mut cursor = entries.fork();
-    for i in 0..count {
-        let Ok(entry) = format.entry(&mut cursor) else {
-            return None;
-        };
-        if i == k {
-            return Some(entry);
-        }
-    }
-    None
-}
-
-/// All of the `count` entries at the cursor.
-fn entries_of<'a>(
-    alloc: Global,
-    format: &Format<'a>,
-    count: u64,
-    entries: &Cursor<'a>,
-) -> Result<Vec<FileEntry<'a>>, NoMemory>
-    requires { is_ok (many_from (formatted_entry format.now) count entries.now) ≡ true }
-    ensures { IfOk result (λ v. map shown v.items
-        ≡ items_of (many_from (formatted_entry format.now) count entries.now)) }
-{
-    let mut all = Vec::new(alloc);
-    let mut cursor = entries.fork();
-    for i in 0..count {
-        let Ok(entry) = format.entry(&mut cursor) else {
-            return Ok(all);
-        };
-        all.push(entry)?;
-    }
-    Ok(all)
-}
-
 /// A table of DWARF 5. Contracts see it as the list of its entries.
 #[derive(Drop)]
 pub struct FormattedTable<'a> {
@@ -259,21 +208,6 @@ impl<'a> Model for FormattedTable<'a> {
 
     ghost invariant = { λ t.
         is_ok (many_from (formatted_entry t.format) t.count t.entries) ≡ true };
-}
-
-/// Checks that there aren't more entries than bytes left. Truncated at the cursor if there are.
-fn can_have(count: u64, cursor: &Cursor) -> Result<(), BadFile>
-    ensures { result
-        ≡ demand (nat_le count (length cursor.now.bytes - cursor.now.at)) Truncated
-        (place_of cursor.now) }
-{
-    if count > cursor.left() {
-        return Err(BadFile {
-            fault: Fault::Truncated,
-            offset: cursor.place(),
-        });
-    }
-    Ok(())
 }
 
 impl<'a> FormattedTable<'a> {
@@ -296,8 +230,9 @@ impl<'a> FormattedTable<'a> {
         })
     }
 
-    /// Reads a table. The fault is that of the first part that can't be read.
-    #[tactic(auto, unfolding(crate::specs::FormattedTables::formatted_table, crate::specs::FormattedTables::entries_from))]
+    /// Reads a table. The fault is that of the first part that can't be read, or Truncated if there are more entries
+    /// than bytes left.
+    #[tactic(auto, unfolding(crate::specs::FormattedTables::formatted_table, crate::specs::FormattedTables::entries_from, dwarf_abbrev::specs::Reads::uleb_from))]
     pub fn read(
         sections: &Sections<'a>,
         shape: &UnitShape,
@@ -307,22 +242,45 @@ impl<'a> FormattedTable<'a> {
             (formatted_table sections.now shape.now cursor.old) }
     {
         let format = Format::read(sections, shape, cursor)?;
-        let count = uleb_from(cursor)?;
-        can_have(count, cursor)?;
+        let count = cursor.uleb()?;
+        if count > cursor.left() {
+            return Err(BadFile {
+                fault: Fault::Truncated,
+                offset: cursor.place(),
+            });
+        }
         FormattedTable::of(format, count, cursor)
     }
 
     /// The entry at index `k`, counted from 0. `None` if the table is shorter.
+    #[tactic(auto, using(crate::proofs::TableLemmas::items_bad, crate::proofs::TableLemmas::items_end))]
     pub fn get(&self, k: u64) -> Option<FileEntry<'a>>
         ensures { option_map shown result ≡ slice_get self.now k }
     {
-        entry_at(&self.format, self.count, &self.entries, k)
+        let mut cursor = self.entries.fork();
+        for i in 0..self.count {
+            let Ok(entry) = self.format.entry(&mut cursor) else {
+                return None;
+            };
+            if i == k {
+                return Some(entry);
+            }
+        }
+        None
     }
 
     /// All entries, in order.
     pub fn all(&self, alloc: Global) -> Result<Vec<FileEntry<'a>>, NoMemory>
         ensures { IfOk result (λ v. map shown v.items ≡ self.now) }
     {
-        entries_of(alloc, &self.format, self.count, &self.entries)
+        let mut all = Vec::new(alloc);
+        let mut cursor = self.entries.fork();
+        for i in 0..self.count {
+            let Ok(entry) = self.format.entry(&mut cursor) else {
+                return Ok(all);
+            };
+            all.push(entry)?;
+        }
+        Ok(all)
     }
 }

@@ -3,7 +3,7 @@
 ghost use Rattle.std.specs.Prelude.{◌≡◌, option_map, IfOk};
 ghost use Rattle.dwarf_line_header.specs.Header.{HasLengths, IsUsable, entry_numbered, header_from};
 ghost use Rattle.dwarf_line_header.specs.Listed.{entries};
-ghost use Rattle.dwarf_line_header.specs.Programs.{bad_lines_at, empty_program, program_at, program_here, program_of};
+ghost use Rattle.dwarf_line_header.specs.Programs.{empty_program, program_at, program_here};
 ghost use Rattle.dwarf_line_header.specs.Tables.{shown};
 
 use crate::encoding::LineEncoding;
@@ -11,7 +11,7 @@ use crate::entry::{FileEntry, TableKind};
 use crate::fields::{address_size, encoding, instructions, lengths};
 use crate::table::Table;
 use byte_cursor::Cursor;
-use dwarf_abbrev::{UnitShape, contents_from, initial_length, inside, is_version, u16_from};
+use dwarf_abbrev::{UnitShape, initial_length, inside};
 use dwarf_units::Sections;
 use size_core::{BadFile, Fault, NoMemory};
 use std::alloc::Global;
@@ -107,52 +107,8 @@ impl<'a> LineHeader<'a> {
         }
     }
 
-    /// Reads the header of the program at the file offset `place`, after its version. Each fault is BadLine there.
-    fn checked(
-        sections: &Sections<'a>,
-        shape: &UnitShape,
-        place: u64,
-        cursor: Cursor<'a>,
-    ) -> Result<LineHeader<'a>, BadFile>
-        ensures { result
-            ≡ bad_lines_at place (header_from sections.now shape.now cursor.entry) }
-    {
-        match LineHeader::after_version(sections, shape, cursor) {
-            Ok(header) => Ok(header),
-            Err(_) => Err(BadFile {
-                fault: Fault::BadLine,
-                offset: place,
-            }),
-        }
-    }
-
-    /// Reads the header of the program with these contents.
-    fn of(
-        sections: &Sections<'a>,
-        shape: &UnitShape,
-        place: u64,
-        wide: bool,
-        mut contents: Cursor<'a>,
-    ) -> Result<LineHeader<'a>, BadFile>
-        ensures { result ≡ program_of sections.now shape.now place wide contents.entry }
-    {
-        let Ok(version) = u16_from(&mut contents, shape.order) else {
-            return Ok(LineHeader::empty(shape));
-        };
-        if !is_version(version) {
-            return Ok(LineHeader::empty(shape));
-        }
-        let shape = UnitShape {
-            version,
-            wide,
-            address: shape.address,
-            order: shape.order,
-        };
-        LineHeader::checked(sections, &shape, place, contents)
-    }
-
-    /// Reads the header of the program at the cursor.
-    #[tactic(auto, unfolding(crate::specs::Programs::program_here))]
+    /// Reads the header of the program at the cursor. Each fault after its version is BadLine at its file offset.
+    #[tactic(auto, unfolding(crate::specs::Programs::program_here, dwarf_abbrev::specs::Lengths::contents_from, dwarf_abbrev::specs::Reads::num_from))]
     fn here(
         sections: &Sections<'a>,
         shape: &UnitShape,
@@ -162,8 +118,26 @@ impl<'a> LineHeader<'a> {
     {
         let place = cursor.place();
         let initial = initial_length(&mut cursor, shape.order)?;
-        let contents = contents_from(&mut cursor, initial.len)?;
-        LineHeader::of(sections, shape, place, initial.wide, contents)
+        let mut contents = cursor.take(initial.len)?;
+        let Ok(version) = contents.u16(shape.order) else {
+            return Ok(LineHeader::empty(shape));
+        };
+        if version < 2 || version > 5 {
+            return Ok(LineHeader::empty(shape));
+        }
+        let shape = UnitShape {
+            version,
+            wide: initial.wide,
+            address: shape.address,
+            order: shape.order,
+        };
+        match LineHeader::after_version(sections, &shape, contents) {
+            Ok(header) => Ok(header),
+            Err(_) => Err(BadFile {
+                fault: Fault::BadLine,
+                offset: place,
+            }),
+        }
     }
 
     /// The header of the program at an offset of `.debug_line`. A program whose version isn't complete, or isn't 2 to

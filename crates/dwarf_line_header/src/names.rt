@@ -7,7 +7,7 @@ ghost use Rattle.dwarf_abbrev.specs.Values.{shown};
 ghost use Rattle.dwarf_line_header.specs.Names.{name_of};
 
 use dwarf_abbrev::{UnitShape, Value};
-use dwarf_units::{Sections, table_header, text_of};
+use dwarf_units::{Sections, TABLE_HEADER_LEN, text_of};
 use size_core::BadFile;
 
 /// A copy of the sections' cursors.
@@ -42,7 +42,8 @@ pub fn name_of<'a>(
     let Some(value) = value else {
         return Ok(&[]);
     };
-    match text_of(&value, shape.wide, table_header(shape.wide), sections)? {
+    let base = TABLE_HEADER_LEN.pick(shape.wide);
+    match text_of(&value, shape.wide, base, sections)? {
         Some(name) => Ok(name),
         None => Ok(&[]),
     }

@@ -7,13 +7,12 @@ ghost use Rattle.dwarf_abbrev.specs.Reads.{Reads};
 
 use crate::entry::{FileEntry, TableKind};
 use byte_cursor::Cursor;
-use dwarf_abbrev::{text_from, uleb_from};
 use size_core::{BadFile, Fault, NoMemory};
 use std::alloc::Global;
 use std::marker::Model;
 
 /// Reads the directory number of a file, and skips the file's time and length.
-#[tactic(auto, unfolding(crate::specs::PlainTables::numbers_from))]
+#[tactic(auto, unfolding(crate::specs::PlainTables::numbers_from, dwarf_abbrev::specs::Reads::uleb_from))]
 fn directory_number(kind: TableKind, name: &[u8], cursor: &mut Cursor) -> Result<u64, BadFile>
     ensures { Reads (λ n. n) result cursor.new
         (numbers_from kind (length name.now == 0) cursor.old) }
@@ -24,20 +23,20 @@ fn directory_number(kind: TableKind, name: &[u8], cursor: &mut Cursor) -> Result
     match kind {
         TableKind::Directories => Ok(0),
         TableKind::Files => {
-            let directory = uleb_from(cursor)?;
-            let _time = uleb_from(cursor)?;
-            let _len = uleb_from(cursor)?;
+            let directory = cursor.uleb()?;
+            let _time = cursor.uleb()?;
+            let _len = cursor.uleb()?;
             Ok(directory)
         }
     }
 }
 
 /// Reads an entry.
-#[tactic(auto, unfolding(crate::specs::PlainTables::plain_entry))]
+#[tactic(auto, unfolding(crate::specs::PlainTables::plain_entry, dwarf_abbrev::specs::Reads::text_from))]
 fn entry<'a>(kind: TableKind, cursor: &mut Cursor<'a>) -> Result<FileEntry<'a>, BadFile>
     ensures { Reads shown result cursor.new (plain_entry kind cursor.old) }
 {
-    let name = text_from(cursor)?;
+    let name = cursor.cstr()?;
     let directory = directory_number(kind, name, cursor)?;
     Ok(FileEntry { name, directory })
 }
@@ -57,50 +56,6 @@ fn pass_entries(kind: TableKind, cursor: &mut Cursor) -> Result<(), BadFile>
         fault: Fault::Truncated,
         offset: cursor.place(),
     })
-}
-
-/// The entry at index `k`, counted from 0, of the table at the cursor.
-#[tactic(auto, using(crate::proofs::PlainLemmas::items_bad, crate::proofs::PlainLemmas::items_last, crate::proofs::PlainLemmas::items_out))]
-fn entry_at<'a>(kind: TableKind, table: &Cursor<'a>, k: u64) -> Option<FileEntry<'a>>
-    requires { is_ok (plain_table kind table.now) ≡ true }
-    ensures { option_map shown result ≡ slice_get (items_of (plain_table kind table.now)) k }
-{
-    let mut cursor = table.fork();
-    for i in 0..cursor.left() {
-        let Ok(entry) = entry(kind, &mut cursor) else {
-            return None;
-        };
-        if entry.name.is_empty() {
-            return None;
-        }
-        if i == k {
-            return Some(entry);
-        }
-    }
-    None
-}
-
-/// All entries of the table at the cursor.
-fn entries_of<'a>(
-    alloc: Global,
-    kind: TableKind,
-    table: &Cursor<'a>,
-) -> Result<Vec<FileEntry<'a>>, NoMemory>
-    requires { is_ok (plain_table kind table.now) ≡ true }
-    ensures { IfOk result (λ v. map shown v.items ≡ items_of (plain_table kind table.now)) }
-{
-    let mut all = Vec::new(alloc);
-    let mut cursor = table.fork();
-    for i in 0..cursor.left() {
-        let Ok(entry) = entry(kind, &mut cursor) else {
-            return Ok(all);
-        };
-        if entry.name.is_empty() {
-            return Ok(all);
-        }
-        all.push(entry)?;
-    }
-    Ok(all)
 }
 
 /// A table of DWARF 2 to 4. Contracts see it as the list of its entries.
@@ -138,16 +93,40 @@ impl<'a> PlainTable<'a> {
     }
 
     /// The entry at index `k`, counted from 0. `None` if the table is shorter.
+    #[tactic(auto, using(crate::proofs::PlainLemmas::items_bad, crate::proofs::PlainLemmas::items_last, crate::proofs::PlainLemmas::items_out))]
     pub fn get(&self, k: u64) -> Option<FileEntry<'a>>
         ensures { option_map shown result ≡ slice_get self.now k }
     {
-        entry_at(self.kind, &self.cursor, k)
+        let mut cursor = self.cursor.fork();
+        for i in 0..cursor.left() {
+            let Ok(entry) = entry(self.kind, &mut cursor) else {
+                return None;
+            };
+            if entry.name.is_empty() {
+                return None;
+            }
+            if i == k {
+                return Some(entry);
+            }
+        }
+        None
     }
 
     /// All entries, in order.
     pub fn all(&self, alloc: Global) -> Result<Vec<FileEntry<'a>>, NoMemory>
         ensures { IfOk result (λ v. map shown v.items ≡ self.now) }
     {
-        entries_of(alloc, self.kind, &self.cursor)
+        let mut all = Vec::new(alloc);
+        let mut cursor = self.cursor.fork();
+        for i in 0..cursor.left() {
+            let Ok(entry) = entry(self.kind, &mut cursor) else {
+                return Ok(all);
+            };
+            if entry.name.is_empty() {
+                return Ok(all);
+            }
+            all.push(entry)?;
+        }
+        Ok(all)
     }
 }

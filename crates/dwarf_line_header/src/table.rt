@@ -28,18 +28,6 @@ pub enum Table<'a> {
     Empty,
 }
 
-/// A copy of the entries.
-fn copy_entries<'a>(
-    alloc: Global,
-    entries: &[FileEntry<'a>],
-) -> Result<Vec<FileEntry<'a>>, NoMemory>
-    ensures { IfOk result (λ v. v.items ≡ entries.now) }
-{
-    let mut copy = Vec::new(alloc);
-    copy.extend_from_slice(entries)?;
-    Ok(copy)
-}
-
 impl<'a> Table<'a> {
     /// Reads a table, in the format of the version.
     #[tactic(auto, unfolding(crate::specs::Header::table_from))]
@@ -78,7 +66,11 @@ impl<'a> Table<'a> {
         Ok(match self {
             Table::Plain(table) => Table::Kept(table.all(alloc)?),
             Table::Formatted(table) => Table::Kept(table.all(alloc)?),
-            Table::Kept(entries) => Table::Kept(copy_entries(alloc, entries)?),
+            Table::Kept(entries) => {
+                let mut copy = Vec::new(alloc);
+                copy.extend_from_slice(entries)?;
+                Table::Kept(copy)
+            }
             Table::Empty => Table::Empty,
         })
     }

@@ -6,7 +6,7 @@ ghost use Rattle.dwarf_units.specs.Roots.{shown_root};
 ghost use Rattle.dwarf_line_header.specs.UnitPrograms.{bytes_here, bytes_in, program_bytes, program_offset, unit_program};
 
 use byte_cursor::{Cursor, Order};
-use dwarf_abbrev::{Content, Value, contents_from, initial_length, inside, length_len};
+use dwarf_abbrev::{Content, LENGTH_LEN, Value, initial_length, inside};
 use dwarf_units::{Root, Sections};
 use size_core::{BadFile, Fault, Span};
 
@@ -32,17 +32,17 @@ pub fn unit_program(root: &Root<'_>) -> Option<(u64, u64)>
 }
 
 /// The file range of the program at the cursor, with its length field.
-#[tactic(auto, unfolding(crate::specs::UnitPrograms::bytes_here))]
+#[tactic(auto, unfolding(crate::specs::UnitPrograms::bytes_here, dwarf_abbrev::specs::Lengths::contents_from))]
 fn bytes_here(mut cursor: Cursor<'_>, order: Order) -> Result<Span, BadFile>
     ensures { result ≡ bytes_here order cursor.entry }
 {
     let place = cursor.place();
     let initial = initial_length(&mut cursor, order)?;
-    let contents = contents_from(&mut cursor, initial.len)?;
+    let contents = cursor.take(initial.len)?;
     Ok(Span {
         space: 0,
         start: place,
-        len: length_len(initial.wide) + contents.left(),
+        len: LENGTH_LEN.pick(initial.wide) + contents.left(),
     })
 }
 

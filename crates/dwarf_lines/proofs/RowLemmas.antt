@@ -4,7 +4,7 @@ use Rattle.std.specs.Prelude.{map, nat_le, option_to_list, slice_index}
 use Rattle.std.specs.Int.{w16}
 use Rattle.size_core.specs.declared.fault.BadFile.{BadFile}
 use Rattle.size_core.specs.declared.fault.Fault.TheVariants.{BadLine}
-use Rattle.size_core.specs.Checks.{◌>>=◌, bad}
+use Rattle.size_core.specs.Checks.{bad}
 use Rattle.byte_cursor.specs.declared.order.Order.{Order}
 use Rattle.byte_cursor.specs.Window.{Window, place_of}
 use Rattle.dwarf_abbrev.specs.Lengths.{contents_from}

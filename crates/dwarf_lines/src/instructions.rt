@@ -6,7 +6,7 @@ ghost use Rattle.size_core.specs.declared.fault.Fault.TheVariants.{BadLine};
 ghost use Rattle.dwarf_abbrev.specs.Reads.{Reads, uleb_from};
 ghost use Rattle.dwarf_line_header.specs.Header.{HasLengths};
 ghost use Rattle.dwarf_line_header.specs.Tables.{many_from, passed_over};
-ghost use Rattle.dwarf_lines.specs.Instructions.{extended_from, extended_in, instruction_from, opcode_and_operands, operands_from, standard_from, whole_address};
+ghost use Rattle.dwarf_lines.specs.Instructions.{extended_from, extended_in, instruction_from, opcode_and_operands, standard_from, whole_address};
 
 use crate::constants::{
     DW_LNE_END_SEQUENCE, DW_LNE_SET_ADDRESS, DW_LNS_ADVANCE_LINE, DW_LNS_ADVANCE_PC,
@@ -16,7 +16,7 @@ use crate::constants::{
 };
 use crate::instruction::Instruction;
 use byte_cursor::{Cursor, Order};
-use dwarf_abbrev::{address_from, contents_from, sleb_from, u8_from, u16_from, uleb_from};
+use dwarf_abbrev::address_from;
 use dwarf_line_header::LineEncoding;
 use size_core::{BadFile, Fault};
 
@@ -44,11 +44,11 @@ fn whole_address(cursor: &mut Cursor, order: Order) -> Result<u64, BadFile>
 }
 
 /// Reads an extended instruction from its contents: the bytes after its size.
-#[tactic(auto, unfolding(crate::specs::Instructions::extended_in))]
+#[tactic(auto, unfolding(crate::specs::Instructions::extended_in, dwarf_abbrev::specs::Reads::num_from))]
 fn extended_in(mut contents: Cursor, order: Order) -> Result<Instruction, BadFile>
     ensures { result ≡ extended_in order contents.entry }
 {
-    let opcode = u8_from(&mut contents)?;
+    let opcode = contents.u8()?;
     match opcode {
         DW_LNE_END_SEQUENCE => Ok(Instruction::EndSequence),
         DW_LNE_SET_ADDRESS => {
@@ -60,29 +60,29 @@ fn extended_in(mut contents: Cursor, order: Order) -> Result<Instruction, BadFil
 }
 
 /// Reads an extended instruction, after its first byte.
-#[tactic(auto, unfolding(crate::specs::Instructions::extended_from))]
+#[tactic(auto, unfolding(crate::specs::Instructions::extended_from, dwarf_abbrev::specs::Reads::uleb_from, dwarf_abbrev::specs::Lengths::contents_from))]
 fn extended_from(cursor: &mut Cursor, order: Order) -> Result<Instruction, BadFile>
     ensures { Reads (λ i. i) result cursor.new (extended_from order cursor.old) }
 {
-    let size = uleb_from(cursor)?;
-    let contents = contents_from(cursor, size)?;
+    let size = cursor.uleb()?;
+    let contents = cursor.take(size)?;
     extended_in(contents, order)
 }
 
 /// Skips `count` operands.
-#[tactic(auto, using(dwarf_line_header::proofs::TableLemmas::pass_bad, dwarf_line_header::proofs::TableLemmas::pass_end, dwarf_line_header::proofs::TableLemmas::pass_more))]
+#[tactic(auto, using(dwarf_line_header::proofs::TableLemmas::pass_bad, dwarf_line_header::proofs::TableLemmas::pass_end, dwarf_line_header::proofs::TableLemmas::pass_more), unfolding(dwarf_abbrev::specs::Reads::uleb_from))]
 fn pass_operands(count: u8, cursor: &mut Cursor) -> Result<(), BadFile>
     ensures { Reads (λ u. u) result cursor.new
         (passed_over (many_from uleb_from count cursor.old)) }
 {
     for i in 0..count {
-        let _operand = uleb_from(cursor)?;
+        let _operand = cursor.uleb()?;
     }
     Ok(())
 }
 
 /// Reads the operands of a standard opcode.
-#[tactic(auto, unfolding(crate::specs::Instructions::standard_from))]
+#[tactic(auto, unfolding(crate::specs::Instructions::standard_from, dwarf_abbrev::specs::Reads::num_from, dwarf_abbrev::specs::Reads::uleb_from, dwarf_abbrev::specs::Reads::sleb_from))]
 fn standard_from(
     cursor: &mut Cursor,
     order: Order,
@@ -93,17 +93,17 @@ fn standard_from(
 {
     Ok(match opcode {
         DW_LNS_COPY => Instruction::CopyRow,
-        DW_LNS_ADVANCE_PC => Instruction::AdvancePc(uleb_from(cursor)?),
-        DW_LNS_ADVANCE_LINE => Instruction::AdvanceLine(sleb_from(cursor)?),
-        DW_LNS_SET_FILE => Instruction::SetFile(uleb_from(cursor)?),
-        DW_LNS_SET_COLUMN => Instruction::SetColumn(uleb_from(cursor)?),
+        DW_LNS_ADVANCE_PC => Instruction::AdvancePc(cursor.uleb()?),
+        DW_LNS_ADVANCE_LINE => Instruction::AdvanceLine(cursor.sleb()?),
+        DW_LNS_SET_FILE => Instruction::SetFile(cursor.uleb()?),
+        DW_LNS_SET_COLUMN => Instruction::SetColumn(cursor.uleb()?),
         DW_LNS_NEGATE_STMT => Instruction::NegateStatement,
         DW_LNS_SET_BASIC_BLOCK => Instruction::SetBasicBlock,
         DW_LNS_CONST_ADD_PC => Instruction::ConstAddPc,
-        DW_LNS_FIXED_ADVANCE_PC => Instruction::FixedAdvancePc(u16_from(cursor, order)?),
+        DW_LNS_FIXED_ADVANCE_PC => Instruction::FixedAdvancePc(cursor.u16(order)?),
         DW_LNS_SET_PROLOGUE_END => Instruction::SetPrologueEnd,
         DW_LNS_SET_EPILOGUE_BEGIN => Instruction::SetEpilogueBegin,
-        DW_LNS_SET_ISA => Instruction::SetIsa(uleb_from(cursor)?),
+        DW_LNS_SET_ISA => Instruction::SetIsa(cursor.uleb()?),
         _ => {
             pass_operands(count, cursor)?;
             Instruction::UnknownStandard(opcode)
@@ -111,28 +111,8 @@ fn standard_from(
     })
 }
 
-/// Reads the operands of an opcode.
-#[tactic(auto, unfolding(crate::specs::Instructions::operands_from))]
-fn operands_from(
-    cursor: &mut Cursor,
-    encoding: &LineEncoding,
-    lengths: &[u8],
-    opcode: u8,
-) -> Result<Instruction, BadFile>
-    requires { HasLengths encoding.now lengths.now }
-    ensures { Reads (λ i. i) result cursor.new
-        (operands_from encoding.now lengths.now opcode cursor.old) }
-{
-    if opcode >= encoding.opcode_base {
-        return Ok(Instruction::Special(opcode - encoding.opcode_base));
-    }
-    if opcode == EXTENDED_OPCODE {
-        return extended_from(cursor, encoding.order);
-    }
-    standard_from(cursor, encoding.order, opcode, lengths[opcode as usize - 1])
-}
-
 /// Reads an opcode and its operands.
+#[tactic(auto, unfolding(crate::specs::Instructions::operands_from, dwarf_abbrev::specs::Reads::num_from))]
 fn opcode_and_operands(
     cursor: &mut Cursor,
     encoding: &LineEncoding,
@@ -142,8 +122,14 @@ fn opcode_and_operands(
     ensures { Reads (λ i. i) result cursor.new
         (opcode_and_operands encoding.now lengths.now cursor.old) }
 {
-    let opcode = u8_from(cursor)?;
-    operands_from(cursor, encoding, lengths, opcode)
+    let opcode = cursor.u8()?;
+    if opcode >= encoding.opcode_base {
+        return Ok(Instruction::Special(opcode - encoding.opcode_base));
+    }
+    if opcode == EXTENDED_OPCODE {
+        return extended_from(cursor, encoding.order);
+    }
+    standard_from(cursor, encoding.order, opcode, lengths[opcode as usize - 1])
 }
 
 /// Reads an instruction. BadLine at its file offset if none can be read.

@@ -2,7 +2,7 @@
 
 ghost use Rattle.std.specs.Prelude.{◌≡◌, ◌*◌, ◌^◌, ◌≤◌};
 ghost use Rattle.dwarf_line_header.specs.Header.{IsUsable};
-ghost use Rattle.dwarf_lines.specs.Machine.{row_of, after, line_plus, address_plus, line_step, advance, row, start};
+ghost use Rattle.dwarf_lines.specs.Machine.{row_of, after, line_plus, address_plus, advance, row, start};
 
 use crate::instruction::Instruction;
 use crate::registers::{LineRow, Registers};
@@ -77,14 +77,6 @@ fn jump(registers: &mut Registers, address: u64)
     registers.op_index = 0;
 }
 
-/// The line increment of a special opcode.
-fn line_step(encoding: &LineEncoding, adj: u8) -> i64
-    requires { IsUsable encoding.now }
-    ensures { result ≡ line_step encoding.now adj }
-{
-    encoding.line_base as i64 + (adj % encoding.line_range) as i64
-}
-
 /// Runs an instruction. Returns the row that it emits, if it emits one.
 #[tactic(auto, unfolding(crate::specs::Machine::advance, crate::specs::Machine::after, crate::specs::Machine::row_of))]
 pub fn apply(
@@ -99,7 +91,8 @@ pub fn apply(
     match instruction {
         Instruction::Special(adj) => {
             advance(encoding, registers, (adj / encoding.line_range) as u64);
-            registers.line = line_plus(registers.line, line_step(encoding, adj));
+            let step = encoding.line_base as i64 + (adj % encoding.line_range) as i64;
+            registers.line = line_plus(registers.line, step);
             Some(row(registers, false))
         }
         Instruction::CopyRow => Some(row(registers, false)),

@@ -3,7 +3,7 @@
 ghost use Rattle.std.specs.Prelude.{◌≡◌, ◌++◌, ◌∷◌, option_map, take, vec_len, OnOk, OnErr, IfOk};
 ghost use Rattle.dwarf_line_header.specs.Programs.{program_at};
 ghost use Rattle.dwarf_line_header.specs.Tables.{shown};
-ghost use Rattle.dwarf_lines.specs.Paths.{in_directory, is_absolute, path_of, shown_directory};
+ghost use Rattle.dwarf_lines.specs.Paths.{in_directory, path_of, shown_directory};
 ghost use Rattle.dwarf_lines.specs.Rows.{line_rows};
 
 use crate::constants::{SLASH, UNKNOWN_FILE};
@@ -28,13 +28,6 @@ impl<'a> Model for LineProgram<'a> {
     ghost Value = { LineHeader };
 
     ghost view = { λ p. p.header };
-}
-
-/// Whether a name is an absolute path.
-fn is_absolute(name: &[u8]) -> bool
-    ensures { result ≡ is_absolute name.now }
-{
-    !name.is_empty() && name[0] == SLASH
 }
 
 /// Appends bytes. On an error `out` is unchanged.
@@ -112,7 +105,8 @@ impl<'a> LineProgram<'a> {
     fn shown_directory(&self, file: &FileEntry) -> Option<FileEntry<'a>>
         ensures { option_map shown result ≡ shown_directory self.now (shown file.now) }
     {
-        if is_absolute(file.name) || file.directory == 0 {
+        let is_absolute = !file.name.is_empty() && file.name[0] == SLASH;
+        if is_absolute || file.directory == 0 {
             return None;
         }
         self.header.directory(file.directory)

@@ -1,6 +1,6 @@
 -- Lists that claim nothing, whatever the first base is.
 use Rattle.std.proofs.Common.{◌≡◌, ℕ, ◌-◌, ◌<◌, ◌==◌, Bool, true, false, [], Option, None, Some, Result, Ok, Err, refl, sym, ap, subst, ◌∙◌, arith}
-use Rattle.std.specs.Prelude.{if◌then◌else◌}
+use Rattle.std.specs.Bool.{then_some}
 use Rattle.std.proofs.lemmas.Bool.Decides.{nat_tests}
 use Rattle.size_core.specs.declared.fault.BadFile.{BadFile}
 use Rattle.size_core.specs.Checks.{◌>>=◌}
@@ -70,14 +70,14 @@ hollow_key s key w at hollow = λ low table place.
     rw again (hollow table (or_zero low))
 
 -- what is known of an entry is known of what was read
-given : (size : ℕ) (b : Bool) (item : ListItem) (how : Option Hollow) → how ≡ (if b then Some Hollow.More else None) → (b ≡ true → is_nothing size item ≡ true) → GivesNothing size how (Ok item)
+given : (size : ℕ) (b : Bool) (item : ListItem) (how : Option Hollow) → how ≡ then_some b Hollow.More → (b ≡ true → is_nothing size item ≡ true) → GivesNothing size how (Ok item)
 given size true item how is nothing = subst (λ (h : Option Hollow). GivesNothing size h (Ok item)) (sym is) (nothing refl)
 given size false item how is nothing = subst (λ (h : Option Hollow). GivesNothing size h (Ok item)) (sym is) tt
 
-pub given_offsets : (size base begin end : ℕ) (how : Option Hollow) → how ≡ (if begin == end then Some Hollow.More else None) → GivesNothing size how (Ok (range_between (base_sum size base begin) (base_sum size base end)))
+pub given_offsets : (size base begin end : ℕ) (how : Option Hollow) → how ≡ then_some (begin == end) Hollow.More → GivesNothing size how (Ok (range_between (base_sum size base begin) (base_sum size base end)))
 given_offsets size base begin end how is = given size (begin == end) _ how is (λ same. equal_offsets size base begin end (grind (arith, nat_tests, same)))
 
-pub given_range : (size start len : ℕ) (how : Option Hollow) → how ≡ (if claims_nothing size start len then Some Hollow.More else None) → GivesNothing size how (Ok (ListItem.Range start len))
+pub given_range : (size start len : ℕ) (how : Option Hollow) → how ≡ then_some (claims_nothing size start len) Hollow.More → GivesNothing size how (Ok (ListItem.Range start len))
 given_range size start len how is = given size (claims_nothing size start len) (ListItem.Range start len) how is (λ nothing. nothing)
 
 pub reads_item : (size : ℕ) (how : Option Hollow) (item : ListItem) (next : Window) → AddsNothing size how item → ReadsNothing size how (Ok (item, next)) next

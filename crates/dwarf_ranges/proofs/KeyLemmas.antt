@@ -1,5 +1,5 @@
 -- The ranges of a unit depend on its key alone.
-use Rattle.std.proofs.Common.{◌≡◌, ℕ, ◌+◌, ◌*◌, ◌∙◌, List, Option, Some, None, Result, Ok, Err, refl, ap, sym}
+use Rattle.std.proofs.Common.{◌≡◌, ℕ, ◌+◌, ◌*◌, ◌∙◌, List, Option, Some, None, Result, Ok, Err, refl, ap}
 use Rattle.size_core.specs.declared.fault.BadFile.{BadFile}
 use Rattle.size_core.specs.Checks.{◌>>=◌}
 use Rattle.byte_cursor.specs.Window.{Window}

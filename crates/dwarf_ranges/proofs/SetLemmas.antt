@@ -1,7 +1,6 @@
 -- The sets of a window, one after another.
 use Rattle.std.proofs.Common.{◌≡◌, suc, ◌<◌, ◌≤◌, [], ◌∷◌, length, Option, Some, None, Ok, Err, arith}
 use Rattle.size_core.specs.declared.fault.BadFile.{BadFile}
-use Rattle.size_core.specs.Checks.{◌>>=◌}
 use Rattle.byte_cursor.specs.declared.order.Order.{Order}
 use Rattle.byte_cursor.specs.Window.{Window}
 use Rattle.dwarf_abbrev.specs.Lengths.{contents_from, initial_length_from}

@@ -1,5 +1,6 @@
 -- Range lists: what the entries mean, one after another.
 use Rattle.std.specs.Prelude.{◌≡◌, ℕ, zero, suc, List, [], ◌++◌, Result, Ok, Err}
+use Rattle.std.specs.Global.{Vec}
 use Rattle.size_core.specs.declared.fault.BadFile.{BadFile}
 use Rattle.size_core.specs.declared.fault.Fault.TheVariants.{BadRangeList}
 use Rattle.size_core.specs.Checks.{◌>>=◌, bad}
@@ -23,6 +24,11 @@ appended ranges (Err e) = Err e
 abbrev pub Refuses : Result (List (ℕ × ℕ)) BadFile → RangeAnswer → Type 0
 Refuses answer (Bad e) = answer ≡ Err e
 Refuses answer NoMemory = Unit {0}
+
+-- A call returned these ranges; or it returned their fault, or reports that memory ran out.
+abbrev pub GivesRanges : Result (Vec (ℕ × ℕ)) RangeAnswer → Result (List (ℕ × ℕ)) BadFile → Type 0
+GivesRanges (Ok v) ranges = ranges ≡ Ok v.items
+GivesRanges (Err e) ranges = Refuses ranges e
 
 -- The ranges from an item on: none after the end; those with another base after a base; or a range and then the
 -- rest with the same base (DWARF 5, section 2.17.3).

@@ -12,7 +12,7 @@ use crate::constants::{
 };
 use crate::operands::{address_uleb_from, addresses_from, ulebs_from};
 use byte_cursor::{Cursor, Order};
-use dwarf_abbrev::{address_from, u8_from, uleb_from};
+use dwarf_abbrev::address_from;
 use size_core::{BadFile, Fault};
 
 /// A range list entry: its kind and its operands. Indices are into `.debug_addr`.
@@ -47,14 +47,14 @@ pub fn bad_list<T>(place: u64) -> Result<T, BadFile>
 }
 
 /// Reads the operands of an entry, after its kind.
-#[tactic(auto, unfolding(crate::specs::Entries::operands_from))]
+#[tactic(auto, unfolding(crate::specs::Entries::operands_from, dwarf_abbrev::specs::Reads::uleb_from))]
 fn operands_from(cursor: &mut Cursor, order: Order, size: u8, kind: u8) -> Result<Entry, BadFile>
     ensures { Reads (λ e. e) result cursor.new (operands_from order size kind cursor.old) }
 {
     match kind {
         DW_RLE_END_OF_LIST => Ok(Entry::EndOfList),
         DW_RLE_BASE_ADDRESSX => {
-            let index = uleb_from(cursor)?;
+            let index = cursor.uleb()?;
             Ok(Entry::BaseAddressx(index))
         }
         DW_RLE_STARTX_ENDX => {
@@ -86,10 +86,11 @@ fn operands_from(cursor: &mut Cursor, order: Order, size: u8, kind: u8) -> Resul
 }
 
 /// Reads the kind of an entry and its operands.
+#[tactic(auto, unfolding(dwarf_abbrev::specs::Reads::num_from))]
 fn kind_and_operands(cursor: &mut Cursor, order: Order, size: u8) -> Result<Entry, BadFile>
     ensures { Reads (λ e. e) result cursor.new (kind_and_operands order size cursor.old) }
 {
-    let kind = u8_from(cursor)?;
+    let kind = cursor.u8()?;
     operands_from(cursor, order, size, kind)
 }
 

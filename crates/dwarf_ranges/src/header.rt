@@ -1,11 +1,10 @@
 //! The headers of address sets (DWARF 5, section 6.1.2).
 
-ghost use Rattle.std.specs.Prelude.{◌≡◌};
 ghost use Rattle.dwarf_abbrev.specs.Reads.{Reads};
-ghost use Rattle.dwarf_ranges.specs.Sets.{header_from, is_read};
+ghost use Rattle.dwarf_ranges.specs.Sets.{header_from};
 
 use byte_cursor::{Cursor, Order};
-use dwarf_abbrev::{is_address_size, offset_from, u8_from, u16_from};
+use dwarf_abbrev::offset_from;
 use size_core::BadFile;
 
 /// The fields of an address set between its length and its tuples.
@@ -22,26 +21,18 @@ pub struct SetHeader {
 }
 
 /// Reads the header of an address set, after its length.
-#[tactic(auto, unfolding(crate::specs::Sets::header_from))]
+#[tactic(auto, unfolding(crate::specs::Sets::header_from, dwarf_abbrev::specs::Reads::num_from))]
 pub fn header_from(cursor: &mut Cursor, order: Order, wide: bool) -> Result<SetHeader, BadFile>
     ensures { Reads (λ h. h) result cursor.new (header_from order wide cursor.old) }
 {
-    let version = u16_from(cursor, order)?;
+    let version = cursor.u16(order)?;
     let info_offset = offset_from(cursor, order, wide)?;
-    let address = u8_from(cursor)?;
-    let segment = u8_from(cursor)?;
+    let address = cursor.u8()?;
+    let segment = cursor.u8()?;
     Ok(SetHeader {
         version,
         info_offset,
         address,
         segment,
     })
-}
-
-/// Whether a set with this header is supported: it has version 2, no segments, and addresses of 2, 4 or 8
-/// bytes.
-pub fn is_read(header: &SetHeader) -> bool
-    ensures { result ≡ is_read header.now }
-{
-    header.version == 2 && is_address_size(header.address) && header.segment == 0
 }

@@ -1,6 +1,6 @@
 //! Range lists that claim nothing, whatever the first base is. Units with different bases can share such a list.
 
-ghost use Rattle.std.specs.Prelude.{◌≡◌, ℕ, true, None, Some, if◌then◌else◌};
+ghost use Rattle.std.specs.Prelude.{◌≡◌, ℕ, true};
 ghost use Rattle.dwarf_units.specs.declared.sections.Sections.{Sections as SectionsSpec};
 ghost use Rattle.dwarf_ranges.specs.Entries.{entry_item_from, item_from, item_of, pair_item, pair_item_from};
 ghost use Rattle.dwarf_ranges.specs.Hollow.{AddsNothing, GivesNothing, IsHollowList, ReadsNothing};
@@ -21,13 +21,6 @@ pub enum Hollow {
     More,
 }
 
-// Returns `More` if an entry claims nothing, and `None` otherwise.
-fn more_if(is_nothing: bool) -> Option<Hollow>
-    ensures { result ≡ (if is_nothing then Some Hollow.More else None) }
-{
-    if is_nothing { Some(Hollow::More) } else { None }
-}
-
 // Returns how a list continues after a pair of `.debug_ranges`. None if it may claim something.
 #[tactic(auto, using(crate::proofs::HollowLemmas::equal_offsets))]
 fn after_pair(size: u8, begin: u64, end: u64) -> Option<Hollow>
@@ -36,7 +29,7 @@ fn after_pair(size: u8, begin: u64, end: u64) -> Option<Hollow>
     if begin == 0 && end == 0 {
         return Some(Hollow::End);
     }
-    more_if(begin == end || begin == greatest(size))
+    (begin == end || begin == greatest(size)).then_some(Hollow::More)
 }
 
 // Returns how a list continues after an entry of DWARF 5. None if it may claim something, or needs `.debug_addr`.
@@ -47,11 +40,13 @@ fn after_entry(shape: &UnitShape, entry: Entry) -> Option<Hollow>
     match entry {
         Entry::EndOfList => Some(Hollow::End),
         Entry::BaseAddress(_) => Some(Hollow::More),
-        Entry::OffsetPair(begin, end) => more_if(begin == end),
+        Entry::OffsetPair(begin, end) => (begin == end).then_some(Hollow::More),
         Entry::StartEnd(start, end) => {
-            more_if(claims_nothing(shape.address, start, end.saturating_sub(start)))
+            claims_nothing(shape.address, start, end.saturating_sub(start)).then_some(Hollow::More)
         }
-        Entry::StartLength(start, len) => more_if(claims_nothing(shape.address, start, len)),
+        Entry::StartLength(start, len) => claims_nothing(shape.address, start, len).then_some(
+            Hollow::More,
+        ),
         Entry::BaseAddressx(_) | Entry::StartxEndx(_, _) | Entry::StartxLength(_, _) => None,
     }
 }

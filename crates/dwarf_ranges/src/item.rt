@@ -3,7 +3,7 @@
 ghost use Rattle.std.specs.Prelude.{◌≡◌};
 ghost use Rattle.dwarf_abbrev.specs.Reads.{Reads};
 ghost use Rattle.dwarf_units.specs.Strings.{address_at};
-ghost use Rattle.dwarf_ranges.specs.Entries.{range_between, entry_item_from, item_from, item_of, pair_item, pair_item_from};
+ghost use Rattle.dwarf_ranges.specs.Entries.{range_between, item_from, item_of, pair_item};
 
 use crate::claims::{base_sum, greatest};
 use crate::entry::{Entry, bad_list, entry_from};
@@ -35,53 +35,11 @@ pub struct ListUnit<'s, 'a> {
     pub table: u64,
 }
 
-impl<'s, 'a> ListUnit<'s, 'a> {
-    /// The address at an index of the unit's table in `.debug_addr`.
-    fn address(self, index: u64, place: u64) -> Result<u64, BadFile>
-        ensures { result ≡ address_at self.entry.sections.now self.entry.shape self.entry.table
-            index place }
-    {
-        address_at(self.sections, &self.shape, self.table, index, place)
-    }
-}
-
 /// The range from a start to an end.
 fn range_between(start: u64, end: u64) -> ListItem
     ensures { result ≡ range_between start end }
 {
     ListItem::Range(start, end.saturating_sub(start))
-}
-
-/// What an entry at the file offset `place` means, with this base.
-#[tactic(auto, unfolding(crate::specs::Entries::item_of))]
-fn item_of(unit: ListUnit<'_, '_>, place: u64, base: u64, entry: Entry) -> Result<ListItem, BadFile>
-    ensures { result ≡ item_of unit.entry.sections.now unit.entry.shape unit.entry.table
-        place base entry }
-{
-    match entry {
-        Entry::EndOfList => Ok(ListItem::End),
-        Entry::BaseAddressx(index) => {
-            let other = unit.address(index, place)?;
-            Ok(ListItem::Base(other))
-        }
-        Entry::StartxEndx(first, second) => {
-            let start = unit.address(first, place)?;
-            let end = unit.address(second, place)?;
-            Ok(range_between(start, end))
-        }
-        Entry::StartxLength(index, len) => {
-            let start = unit.address(index, place)?;
-            Ok(ListItem::Range(start, len))
-        }
-        Entry::OffsetPair(first, second) => {
-            let start = base_sum(unit.shape.address, base, first);
-            let end = base_sum(unit.shape.address, base, second);
-            Ok(range_between(start, end))
-        }
-        Entry::BaseAddress(other) => Ok(ListItem::Base(other)),
-        Entry::StartEnd(start, end) => Ok(range_between(start, end)),
-        Entry::StartLength(start, len) => Ok(ListItem::Range(start, len)),
-    }
 }
 
 /// What a pair of `.debug_ranges` means, with this base.
@@ -97,51 +55,63 @@ fn pair_item(size: u8, base: u64, begin: u64, end: u64) -> ListItem
     }
 }
 
-/// Reads a pair of `.debug_ranges`. BadRangeList at its file offset if it isn't complete.
-#[tactic(auto, unfolding(crate::specs::Entries::pair_item_from))]
-fn pair_item_from(
-    cursor: &mut Cursor,
-    order: Order,
-    size: u8,
-    base: u64,
-) -> Result<ListItem, BadFile>
-    ensures { Reads (λ i. i) result cursor.new (pair_item_from order size base cursor.old) }
-{
-    let place = cursor.place();
-    match addresses_from(cursor, order, size) {
-        Ok((begin, end)) => Ok(pair_item(size, base, begin, end)),
-        Err(_) => bad_list(place),
+impl<'s, 'a> ListUnit<'s, 'a> {
+    /// The address at an index of the unit's table in `.debug_addr`.
+    fn address(self, index: u64, place: u64) -> Result<u64, BadFile>
+        ensures { result ≡ address_at self.entry.sections.now self.entry.shape self.entry.table
+            index place }
+    {
+        address_at(self.sections, &self.shape, self.table, index, place)
     }
-}
 
-/// Reads a range list entry of DWARF 5.
-#[tactic(auto, unfolding(crate::specs::Entries::entry_item_from))]
-fn entry_item_from(
-    cursor: &mut Cursor,
-    unit: ListUnit<'_, '_>,
-    base: u64,
-) -> Result<ListItem, BadFile>
-    ensures { Reads (λ i. i) result cursor.new
-        (entry_item_from unit.entry.sections.now unit.entry.shape unit.entry.table
-        base cursor.old) }
-{
-    let place = cursor.place();
-    let entry = entry_from(cursor, unit.sections.order, unit.shape.address)?;
-    item_of(unit, place, base, entry)
-}
+    /// What an entry at the file offset `place` means, with this base.
+    #[tactic(auto, unfolding(crate::specs::Entries::item_of))]
+    fn item_of(self, place: u64, base: u64, entry: Entry) -> Result<ListItem, BadFile>
+        ensures { result ≡ item_of self.entry.sections.now self.entry.shape self.entry.table
+            place base entry }
+    {
+        match entry {
+            Entry::EndOfList => Ok(ListItem::End),
+            Entry::BaseAddressx(index) => {
+                let other = self.address(index, place)?;
+                Ok(ListItem::Base(other))
+            }
+            Entry::StartxEndx(first, second) => {
+                let start = self.address(first, place)?;
+                let end = self.address(second, place)?;
+                Ok(range_between(start, end))
+            }
+            Entry::StartxLength(index, len) => {
+                let start = self.address(index, place)?;
+                Ok(ListItem::Range(start, len))
+            }
+            Entry::OffsetPair(first, second) => {
+                let start = base_sum(self.shape.address, base, first);
+                let end = base_sum(self.shape.address, base, second);
+                Ok(range_between(start, end))
+            }
+            Entry::BaseAddress(other) => Ok(ListItem::Base(other)),
+            Entry::StartEnd(start, end) => Ok(range_between(start, end)),
+            Entry::StartLength(start, len) => Ok(ListItem::Range(start, len)),
+        }
+    }
 
-/// Reads an item of a range list: an entry in DWARF 5, a pair of addresses in earlier versions.
-pub fn item_from(
-    cursor: &mut Cursor,
-    unit: ListUnit<'_, '_>,
-    base: u64,
-) -> Result<ListItem, BadFile>
-    ensures { Reads (λ i. i) result cursor.new
-        (item_from unit.entry.sections.now unit.entry.shape unit.entry.table base cursor.old) }
-{
-    if unit.shape.version == 5 {
-        entry_item_from(cursor, unit, base)
-    } else {
-        pair_item_from(cursor, unit.sections.order, unit.shape.address, base)
+    /// Reads an item of a range list: an entry in DWARF 5, a pair of addresses in earlier versions. BadRangeList at its
+    /// file offset if it isn't complete.
+    #[tactic(auto, unfolding(crate::specs::Entries::entry_item_from, crate::specs::Entries::pair_item_from))]
+    pub fn item_from(self, cursor: &mut Cursor, base: u64) -> Result<ListItem, BadFile>
+        ensures { Reads (λ i. i) result cursor.new
+            (item_from self.entry.sections.now self.entry.shape self.entry.table base cursor.old) }
+    {
+        let place = cursor.place();
+        let size = self.shape.address;
+        if self.shape.version == 5 {
+            let entry = entry_from(cursor, self.sections.order, size)?;
+            return self.item_of(place, base, entry);
+        }
+        match addresses_from(cursor, self.sections.order, size) {
+            Ok((begin, end)) => Ok(pair_item(size, base, begin, end)),
+            Err(_) => bad_list(place),
+        }
     }
 }

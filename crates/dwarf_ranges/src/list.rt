@@ -1,11 +1,10 @@
 //! Range lists.
 
-ghost use Rattle.std.specs.Prelude.{◌≡◌, Ok, MatchResult};
-ghost use Rattle.dwarf_ranges.specs.Lists.{Refuses, list_of};
+ghost use Rattle.dwarf_ranges.specs.Lists.{GivesRanges, list_of};
 
 use crate::answer::RangeAnswer;
 use crate::claims::claims_nothing;
-use crate::item::{ListItem, ListUnit, item_from};
+use crate::item::{ListItem, ListUnit};
 use byte_cursor::Cursor;
 use std::alloc::Global;
 
@@ -17,16 +16,13 @@ pub fn list_of(
     first: u64,
     mut cursor: Cursor,
 ) -> Result<Vec<(u64, u64)>, RangeAnswer>
-    ensures { MatchResult result
-        (λ v. list_of unit.entry.sections.now unit.entry.shape unit.entry.table
-        first cursor.entry ≡ Ok v.items)
-        (Refuses (list_of unit.entry.sections.now unit.entry.shape unit.entry.table
-        first cursor.entry)) }
+    ensures { GivesRanges result
+        (list_of unit.entry.sections.now unit.entry.shape unit.entry.table first cursor.entry) }
 {
     let mut ranges = Vec::new(alloc);
     let mut base = first;
     'entries: loop {
-        match item_from(&mut cursor, unit, base)? {
+        match unit.item_from(&mut cursor, base)? {
             ListItem::End => return Ok(ranges),
             ListItem::Base(other) => base = other,
             ListItem::Range(start, len) => {

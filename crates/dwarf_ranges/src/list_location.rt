@@ -3,10 +3,10 @@
 ghost use Rattle.std.specs.Prelude.{◌≡◌, ◌+◌};
 ghost use Rattle.dwarf_abbrev.specs.Reads.{inside};
 ghost use Rattle.dwarf_abbrev.specs.Values.{meaning};
-ghost use Rattle.dwarf_ranges.specs.Ranges.{list_at, list_entry, list_name, lists_header, opened, up_to};
+ghost use Rattle.dwarf_ranges.specs.Ranges.{list_at, list_name, opened, up_to};
 
 use byte_cursor::Cursor;
-use dwarf_abbrev::{Content, UnitShape, Value, inside};
+use dwarf_abbrev::{ByFormat, Content, UnitShape, Value, inside};
 use dwarf_units::{OffsetTable, Sections};
 use size_core::{BadFile, Fault};
 
@@ -41,13 +41,9 @@ pub fn list_name(version: u16, value: &Value) -> Option<ListName>
     }
 }
 
-/// The size of the header of a table of range lists, in bytes. Its offsets begin after the header if no
-/// attribute gives their base (DWARF 5, section 7.28).
-pub fn lists_header(wide: bool) -> u64
-    ensures { result ≡ lists_header wide }
-{
-    if wide { 20 } else { 12 }
-}
+/// The size of the header of a table of range lists. Its offsets begin after the header if no attribute gives their
+/// base (DWARF 5, section 7.28).
+pub const LISTS_HEADER_LEN: ByFormat = ByFormat(12, 20);
 
 /// The window at an offset of a section, or at the section's end. `None` if the offset exceeds the section's
 /// length.
@@ -85,25 +81,6 @@ fn opened<'a>(window: Option<Cursor<'a>>, place: u64) -> Result<Cursor<'a>, BadF
     }
 }
 
-/// The offset at an index of the table in `.debug_rnglists` that begins at `base`.
-fn list_entry(
-    sections: &Sections,
-    wide: bool,
-    base: u64,
-    index: u64,
-    place: u64,
-) -> Result<u64, BadFile>
-    ensures { result ≡ list_entry sections.now wide base index place }
-{
-    let table = OffsetTable {
-        order: sections.order,
-        wide,
-        section: &sections.rnglists,
-        base,
-    };
-    table.offset(index, place)
-}
-
 /// The window at a unit's range list: in `.debug_rnglists` in DWARF 5, in `.debug_ranges` in earlier versions.
 /// OffsetOutside at the file offset `place` if the list doesn't begin inside the section, or if the entry
 /// that has its offset isn't completely inside it. The end of `.debug_ranges` counts as inside.
@@ -123,7 +100,13 @@ pub fn list_at<'a>(
         }
         ListName::Offset(offset) => opened(up_to(&sections.ranges, offset), place),
         ListName::Index(index) => {
-            let offset = list_entry(sections, shape.wide, base, index, place)?;
+            let table = OffsetTable {
+                order: sections.order,
+                wide: shape.wide,
+                section: &sections.rnglists,
+                base,
+            };
+            let offset = table.offset(index, place)?;
             opened(inside_sum(&sections.rnglists, base, offset), place)
         }
     }

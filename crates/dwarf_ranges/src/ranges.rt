@@ -1,11 +1,11 @@
 //! The ranges of units (DWARF 5, section 2.17).
 
-ghost use Rattle.std.specs.Prelude.{◌≡◌, true, Ok, IfErr, IfSome, OnErr, OnOk, MatchResult};
+ghost use Rattle.std.specs.Prelude.{◌≡◌, true, Ok, IfErr, IfSome, OnErr, OnOk};
 ghost use Rattle.std.specs.Option.{option_to_list};
-ghost use Rattle.dwarf_units.specs.Roots.{shown_root, shown_value};
+ghost use Rattle.dwarf_units.specs.Roots.{shown_root};
 ghost use Rattle.dwarf_ranges.specs.Hollow.{AreOneList, IsHollowKey};
 ghost use Rattle.dwarf_ranges.specs.Keys.{IsKeyOf};
-ghost use Rattle.dwarf_ranges.specs.Lists.{Refuses, appended};
+ghost use Rattle.dwarf_ranges.specs.Lists.{GivesRanges, Refuses, appended};
 ghost use Rattle.dwarf_ranges.specs.Ranges.{high_of, list_ranges, one_range, range_to, ranges_of, signed_length, table_of, told_address, attribute_ranges};
 
 use crate::answer::RangeAnswer;
@@ -13,9 +13,9 @@ use crate::claims::claims_nothing;
 use crate::hollow::is_hollow_list;
 use crate::item::ListUnit;
 use crate::list::list_of;
-use crate::list_location::{ListName, ListReference, list_at, list_name, lists_header};
+use crate::list_location::{LISTS_HEADER_LEN, ListName, ListReference, list_at, list_name};
 use dwarf_abbrev::{Content, UnitShape, Value};
-use dwarf_units::{Root, Sections, base_or, table_header};
+use dwarf_units::{Root, Sections, TABLE_HEADER_LEN, base_or};
 use size_core::BadFile;
 use std::alloc::Global;
 
@@ -42,7 +42,7 @@ pub struct ListContext {
 }
 
 /// What the ranges of a unit depend on if it names a range list.
-#[derive(Clone, Copy)]
+#[derive(Clone, Copy, PartialEq, Eq)]
 pub struct RangeKey {
     /// The form in which the unit names the list.
     pub name: ListName,
@@ -50,15 +50,11 @@ pub struct RangeKey {
     pub context: ListContext,
 }
 
-/// The address that an attribute gives, if it gives one.
-fn told_address(
-    root: &Root,
-    value: &Option<Value>,
-    sections: &Sections,
-) -> Result<Option<u64>, BadFile>
-    ensures { result ≡ told_address sections.now (shown_root root.now) (shown_value value.now) }
+/// What `DW_AT_low_pc` gives: the unit's first address. `None` if the unit has none.
+fn low_of(root: &Root, sections: &Sections) -> Result<Option<u64>, BadFile>
+    ensures { result ≡ told_address sections.now (shown_root root.now) (shown_root root.now).low }
 {
-    match value {
+    match &root.low {
         Some(value) => root.address(value, sections),
         None => Ok(None),
     }
@@ -115,9 +111,7 @@ fn one_range(
     sections: &Sections,
     low: Option<u64>,
 ) -> Result<Vec<(u64, u64)>, RangeAnswer>
-    ensures { MatchResult result
-        (λ v. one_range sections.now (shown_root root.now) low ≡ Ok v.items)
-        (Refuses (one_range sections.now (shown_root root.now) low)) }
+    ensures { GivesRanges result (one_range sections.now (shown_root root.now) low) }
 {
     let high = high_of(root, sections)?;
     let mut ranges = Vec::new(alloc);
@@ -135,15 +129,13 @@ fn list_ranges(
     low: Option<u64>,
     list: ListReference,
 ) -> Result<Vec<(u64, u64)>, RangeAnswer>
-    ensures { MatchResult result
-        (λ v. list_ranges sections.now (shown_root root.now) low list.place list.name
-        ≡ Ok v.items)
-        (Refuses (list_ranges sections.now (shown_root root.now) low list.place list.name)) }
+    ensures { GivesRanges result
+        (list_ranges sections.now (shown_root root.now) low list.place list.name) }
 {
     let wide = root.shape.wide;
-    let lists = base_or(&root.list_base, lists_header(wide));
+    let lists = base_or(&root.list_base, LISTS_HEADER_LEN.pick(wide));
     let cursor = list_at(sections, &root.shape, lists, list.place, list.name)?;
-    let table = base_or(&root.addr_base, table_header(wide));
+    let table = base_or(&root.addr_base, TABLE_HEADER_LEN.pick(wide));
     let unit = ListUnit {
         sections,
         shape: root.shape,
@@ -159,11 +151,8 @@ fn attribute_ranges(
     sections: &Sections,
     low: Option<u64>,
 ) -> Result<Vec<(u64, u64)>, RangeAnswer>
-    ensures { MatchResult result
-        (λ v. attribute_ranges sections.now (shown_root root.now) low
-        (shown_root root.now).ranges ≡ Ok v.items)
-        (Refuses (attribute_ranges sections.now (shown_root root.now) low
-        (shown_root root.now).ranges)) }
+    ensures { GivesRanges result
+        (attribute_ranges sections.now (shown_root root.now) low (shown_root root.now).ranges) }
 {
     let Some(value) = &root.ranges else {
         return one_range(alloc, root, sections, low);
@@ -180,20 +169,6 @@ fn attribute_ranges(
     }
 }
 
-/// The ranges of a unit.
-#[tactic(auto, unfolding(crate::specs::Ranges::ranges_of))]
-fn ranges_of(
-    alloc: Global,
-    root: &Root,
-    sections: &Sections,
-) -> Result<Vec<(u64, u64)>, RangeAnswer>
-    ensures { MatchResult result (λ v. ranges_of sections.now (shown_root root.now) ≡ Ok v.items)
-        (Refuses (ranges_of sections.now (shown_root root.now))) }
-{
-    let low = told_address(root, &root.low, sections)?;
-    attribute_ranges(alloc, root, sections, low)
-}
-
 /// Appends the ranges of a unit, each as its first address and its length in bytes. Ranges that claim nothing
 /// are left out. The ranges are those of the unit's range list, in order. A unit without a list has the one
 /// range from `DW_AT_low_pc` to `DW_AT_high_pc`. On an error `out` is unchanged.
@@ -207,6 +182,7 @@ fn ranges_of(
 /// - In a list, at the entry's file offset: OffsetOutside if an address that an entry refers to isn't in
 ///   `.debug_addr`; BadRangeList if an entry has an unknown kind or isn't complete.
 /// - Without a list: OffsetOutside if the address that `DW_AT_high_pc` refers to isn't in `.debug_addr`.
+#[tactic(auto, unfolding(crate::specs::Ranges::ranges_of))]
 pub fn unit_ranges(
     alloc: Global,
     root: &Root,
@@ -219,7 +195,8 @@ pub fn unit_ranges(
     ensures fault { IfErr result (Refuses (ranges_of sections.now (shown_root root.now))) }
     ensures same { OnErr result (out.new.items ≡ out.old.items) }
 {
-    let ranges = ranges_of(alloc, root, sections)?;
+    let low = low_of(root, sections)?;
+    let ranges = attribute_ranges(alloc, root, sections, low)?;
     out.extend_from_slice(ranges.as_slice())?;
     Ok(())
 }
@@ -229,7 +206,7 @@ fn table_of(root: &Root, name: ListName) -> u64
     ensures { result ≡ table_of (shown_root root.now) name }
 {
     match name {
-        ListName::Index(_) => base_or(&root.list_base, lists_header(root.shape.wide)),
+        ListName::Index(_) => base_or(&root.list_base, LISTS_HEADER_LEN.pick(root.shape.wide)),
         ListName::Offset(_) => 0,
     }
 }
@@ -241,24 +218,17 @@ pub fn range_key(root: &Root, sections: &Sections) -> Option<RangeKey>
 {
     let value = root.ranges.as_ref()?;
     let name = list_name(root.shape.version, value)?;
-    let low = told_address(root, &root.low, sections).ok()?;
+    let low = low_of(root, sections).ok()?;
     let context = ListContext {
         lists: table_of(root, name),
         shape: root.shape,
         low,
-        table: base_or(&root.addr_base, table_header(root.shape.wide)),
+        table: base_or(&root.addr_base, TABLE_HEADER_LEN.pick(root.shape.wide)),
     };
     Some(RangeKey { name, context })
 }
 
 impl RangeKey {
-    /// Returns true only if two keys are the same.
-    pub fn is_same(&self, other: &RangeKey) -> bool
-        ensures { result ≡ true → self.now ≡ other.now }
-    {
-        self.name == other.name && self.context == other.context
-    }
-
     /// Returns true only if two keys name one list, which units of different bases may do.
     pub fn is_list_of(&self, other: &RangeKey) -> bool
         ensures { result ≡ true → AreOneList self.now other.now }

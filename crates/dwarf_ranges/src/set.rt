@@ -2,12 +2,12 @@
 
 ghost use Rattle.std.specs.Prelude.{◌≡◌, ◌<◌};
 ghost use Rattle.dwarf_abbrev.specs.Reads.{Reads};
-ghost use Rattle.dwarf_ranges.specs.Sets.{first_tuple, header_len, set_from, set_in, set_with};
+ghost use Rattle.dwarf_ranges.specs.Sets.{first_tuple, set_from, set_with};
 
-use crate::header::{SetHeader, header_from, is_read};
+use crate::header::{SetHeader, header_from};
 use crate::tuples::Tuples;
 use byte_cursor::{Cursor, Order};
-use dwarf_abbrev::{contents_from, initial_length, length_len};
+use dwarf_abbrev::{ByFormat, LENGTH_LEN, initial_length};
 use size_core::BadFile;
 
 /// An address set of `.debug_aranges`: the addresses of one unit.
@@ -25,12 +25,8 @@ pub struct AddressSet<'a> {
     pub tuples: Tuples<'a>,
 }
 
-/// The size of a set's header in bytes, with its length field.
-fn header_len(wide: bool) -> u64
-    ensures { result ≡ header_len wide }
-{
-    if wide { 24 } else { 12 }
-}
+/// The size of a set's header, with its length field.
+const HEADER_LEN: ByFormat = ByFormat(12, 24);
 
 /// The cursor at the first tuple of a set: the next multiple of a tuple's size, counted from the set's first
 /// byte. `contents` is at the first byte after the length field.
@@ -40,12 +36,13 @@ fn first_tuple<'a>(wide: bool, address: u8, contents: &Cursor<'a>) -> Cursor<'a>
 {
     let mut cursor = contents.fork();
     let size = 2 * address as u64;
-    let start = (header_len(wide) + (size - 1)) / size * size - length_len(wide);
+    let start = (HEADER_LEN.pick(wide) + (size - 1)) / size * size - LENGTH_LEN.pick(wide);
     let _ = cursor.skip(start.min(cursor.left()));
     cursor
 }
 
-/// The set with this header and these contents, or `None` if the set is skipped (see `is_read`).
+/// The set with this header and these contents. `None` if it is skipped: only version 2 is supported, with no segments,
+/// and with addresses of 2, 4 or 8 bytes.
 fn set_with<'a>(
     order: Order,
     place: u64,
@@ -55,34 +52,22 @@ fn set_with<'a>(
 ) -> Option<AddressSet<'a>>
     ensures { result ≡ set_with order place wide contents.now header.now }
 {
-    if !is_read(header) {
+    if header.version != 2 || !matches!(header.address, 2 | 4 | 8) || header.segment != 0 {
         return None;
     }
     let cursor = first_tuple(wide, header.address, contents);
     Some(AddressSet {
         place,
-        len: length_len(wide) + contents.left(),
+        len: LENGTH_LEN.pick(wide) + contents.left(),
         info_offset: header.info_offset,
         address: header.address,
         tuples: Tuples::new(order, header.address, cursor),
     })
 }
 
-/// Reads the set with these contents. `None` if it is skipped: it is too short for a header, or isn't supported.
-#[tactic(auto, unfolding(crate::specs::Sets::set_in))]
-fn set_in<'a>(order: Order, place: u64, wide: bool, contents: &Cursor<'a>) -> Option<AddressSet<'a>>
-    ensures { result ≡ set_in order place wide contents.now }
-{
-    let mut cursor = contents.fork();
-    match header_from(&mut cursor, order, wide) {
-        Ok(header) => set_with(order, place, wide, contents, &header),
-        Err(_) => None,
-    }
-}
-
 /// Reads the set at the cursor. `None` if it is skipped: it is too short for its header, has a version other
 /// than 2, has segments, or has addresses of a size other than 2, 4 and 8.
-#[tactic(auto, unfolding(crate::specs::Sets::set_from))]
+#[tactic(auto, unfolding(crate::specs::Sets::set_from, crate::specs::Sets::set_in, dwarf_abbrev::specs::Lengths::contents_from))]
 pub fn set_from<'a>(
     cursor: &mut Cursor<'a>,
     order: Order,
@@ -91,6 +76,10 @@ pub fn set_from<'a>(
 {
     let place = cursor.place();
     let initial = initial_length(cursor, order)?;
-    let contents = contents_from(cursor, initial.len)?;
-    Ok(set_in(order, place, initial.wide, &contents))
+    let contents = cursor.take(initial.len)?;
+    let mut fields = contents.fork();
+    match header_from(&mut fields, order, initial.wide) {
+        Ok(header) => Ok(set_with(order, place, initial.wide, &contents, &header)),
+        Err(_) => Ok(None),
+    }
 }

@@ -2,13 +2,13 @@
 
 ghost use Rattle.std.specs.Prelude.{◌≡◌};
 ghost use Rattle.dwarf_abbrev.specs.Reads.{Reads};
-ghost use Rattle.dwarf_units.specs.Units.{extra_len, header_from, is_unit_type, new_header_from, old_header_from, typed_header_from};
+ghost use Rattle.dwarf_units.specs.Units.{extra_len, header_from, old_header_from, typed_header_from};
 
 use crate::constants::{
     DW_UT_COMPILE, DW_UT_SKELETON, DW_UT_SPLIT_COMPILE, DW_UT_SPLIT_TYPE, DW_UT_TYPE,
 };
 use byte_cursor::{Cursor, Order};
-use dwarf_abbrev::{offset_from, skip_from, u8_from};
+use dwarf_abbrev::offset_from;
 use size_core::BadFile;
 
 /// The fields of a unit's header after its version.
@@ -20,13 +20,6 @@ pub struct Header {
     pub address: u8,
     /// The offset of the unit's abbreviation table in `.debug_abbrev`.
     pub abbrev_offset: u64,
-}
-
-/// Whether the standard defines this unit type.
-fn is_unit_type(kind: u8) -> bool
-    ensures { result ≡ is_unit_type kind }
-{
-    DW_UT_COMPILE <= kind && kind <= DW_UT_SPLIT_TYPE
 }
 
 /// The number of bytes after the offset of the abbreviations, by the type of a unit of DWARF 5.
@@ -42,12 +35,12 @@ fn extra_len(kind: u8, wide: bool) -> u64
 }
 
 /// Reads the header of a unit of DWARF 2 to 4, after its version.
-#[tactic(auto, unfolding(crate::specs::Units::old_header_from))]
+#[tactic(auto, unfolding(crate::specs::Units::old_header_from, dwarf_abbrev::specs::Reads::num_from))]
 fn old_header(cursor: &mut Cursor, order: Order, wide: bool) -> Result<Header, BadFile>
     ensures { Reads (λ x. x) result cursor.new (old_header_from order wide cursor.old) }
 {
     let abbrev_offset = offset_from(cursor, order, wide)?;
-    let address = u8_from(cursor)?;
+    let address = cursor.u8()?;
     Ok(Header {
         kind: DW_UT_COMPILE,
         address,
@@ -56,13 +49,13 @@ fn old_header(cursor: &mut Cursor, order: Order, wide: bool) -> Result<Header, B
 }
 
 /// Reads the header of a unit of DWARF 5, after its type.
-#[tactic(auto, unfolding(crate::specs::Units::typed_header_from))]
+#[tactic(auto, unfolding(crate::specs::Units::typed_header_from, dwarf_abbrev::specs::Reads::num_from, dwarf_abbrev::specs::Reads::skip_from))]
 fn typed_header(cursor: &mut Cursor, order: Order, wide: bool, kind: u8) -> Result<Header, BadFile>
     ensures { Reads (λ x. x) result cursor.new (typed_header_from order wide kind cursor.old) }
 {
-    let address = u8_from(cursor)?;
+    let address = cursor.u8()?;
     let abbrev_offset = offset_from(cursor, order, wide)?;
-    skip_from(cursor, extra_len(kind, wide))?;
+    cursor.skip(extra_len(kind, wide))?;
     Ok(Header {
         kind,
         address,
@@ -70,22 +63,9 @@ fn typed_header(cursor: &mut Cursor, order: Order, wide: bool, kind: u8) -> Resu
     })
 }
 
-/// Reads the header of a unit of DWARF 5, after its version. `None` if the standard doesn't define its type.
-#[tactic(auto, unfolding(crate::specs::Units::new_header_from))]
-fn new_header(cursor: &mut Cursor, order: Order, wide: bool) -> Result<Option<Header>, BadFile>
-    ensures { Reads (λ x. x) result cursor.new (new_header_from order wide cursor.old) }
-{
-    let kind = u8_from(cursor)?;
-    if is_unit_type(kind) {
-        let header = typed_header(cursor, order, wide, kind)?;
-        Ok(Some(header))
-    } else {
-        Ok(None)
-    }
-}
-
 /// Reads the header of a unit, after its version. `None` if the unit is skipped, since the standard doesn't define
 /// its type.
+#[tactic(auto, unfolding(crate::specs::Units::new_header_from, dwarf_abbrev::specs::Reads::num_from))]
 pub fn header_from(
     cursor: &mut Cursor,
     order: Order,
@@ -94,10 +74,14 @@ pub fn header_from(
 ) -> Result<Option<Header>, BadFile>
     ensures { Reads (λ x. x) result cursor.new (header_from order wide version cursor.old) }
 {
-    if version == 5 {
-        new_header(cursor, order, wide)
-    } else {
+    if version != 5 {
         let header = old_header(cursor, order, wide)?;
-        Ok(Some(header))
+        return Ok(Some(header));
     }
+    let kind = cursor.u8()?;
+    if kind < DW_UT_COMPILE || kind > DW_UT_SPLIT_TYPE {
+        return Ok(None);
+    }
+    let header = typed_header(cursor, order, wide, kind)?;
+    Ok(Some(header))
 }

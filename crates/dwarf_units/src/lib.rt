@@ -15,6 +15,6 @@ mod units;
 pub use laws::{standard_numbers, units_are_known, units_are_read_one_after_another};
 pub use root::{Root, is_read};
 pub use sections::Sections;
-pub use strings::{OffsetTable, StringAt, address_at, base_or, table_header, text_of};
+pub use strings::{OffsetTable, StringAt, TABLE_HEADER_LEN, address_at, base_or, text_of};
 pub use unit::DwarfUnit;
 pub use units::Units;

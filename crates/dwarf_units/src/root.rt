@@ -12,7 +12,7 @@ use crate::constants::{
     DW_AT_STMT_LIST, DW_AT_STR_OFFSETS_BASE,
 };
 use crate::sections::Sections;
-use crate::strings::{StringAt, address_by, base_or, string_of, table_header, text_of};
+use crate::strings::{StringAt, TABLE_HEADER_LEN, address_by, base_or, string_of, text_of};
 use dwarf_abbrev::{UnitShape, Value};
 use size_core::BadFile;
 
@@ -96,7 +96,7 @@ impl<'a> Root<'a> {
     {
         match &self.name {
             Some(name) => {
-                let base = base_or(&self.str_base, table_header(self.shape.wide));
+                let base = base_or(&self.str_base, TABLE_HEADER_LEN.pick(self.shape.wide));
                 text_of(name, self.shape.wide, base, sections)
             }
             None => Ok(None),
@@ -110,7 +110,7 @@ impl<'a> Root<'a> {
         ensures name { IfSome result (λ at. IsNameAt sections.now (shown_root self.now) at) }
     {
         let name = self.name.as_ref()?;
-        let base = base_or(&self.str_base, table_header(self.shape.wide));
+        let base = base_or(&self.str_base, TABLE_HEADER_LEN.pick(self.shape.wide));
         string_of(name, self.shape.wide, base, sections)
     }
 
@@ -124,7 +124,7 @@ impl<'a> Root<'a> {
     ) -> Result<Option<u64>, BadFile>
         ensures { result ≡ address_of sections.now (shown_root self.now) (shown value.now) }
     {
-        let base = base_or(&self.addr_base, table_header(self.shape.wide));
+        let base = base_or(&self.addr_base, TABLE_HEADER_LEN.pick(self.shape.wide));
         address_by(value, &self.shape, base, sections)
     }
 }

@@ -10,7 +10,7 @@ use crate::root::{Root, add_value};
 use crate::sections::Sections;
 use crate::unit::DwarfUnit;
 use byte_cursor::Cursor;
-use dwarf_abbrev::{Abbrevs, Entry, Spec, UnitShape, read_form, uleb_from};
+use dwarf_abbrev::{Abbrevs, Entry, Spec, UnitShape, read_form};
 use size_core::{BadFile, Fault};
 use std::collections::BTreeMap;
 
@@ -72,7 +72,7 @@ fn bare_root<'a>(unit: &DwarfUnit<'a>, table: &Abbrevs<'a>) -> Root<'a>
 }
 
 /// The code of the unit's root, and a cursor at the first value. `None` if the root has no values.
-#[tactic(auto, unfolding(crate::specs::Filling::root_code))]
+#[tactic(auto, unfolding(crate::specs::Filling::root_code, dwarf_abbrev::specs::Reads::uleb_from))]
 fn root_code<'a>(unit: &DwarfUnit<'a>) -> Result<Option<(u64, Cursor<'a>)>, BadFile>
     ensures { result ≡ root_code unit.now }
 {
@@ -80,7 +80,7 @@ fn root_code<'a>(unit: &DwarfUnit<'a>) -> Result<Option<(u64, Cursor<'a>)>, BadF
     if cursor.left() == 0 {
         return Ok(None);
     }
-    let code = uleb_from(&mut cursor)?;
+    let code = cursor.uleb()?;
     if code == 0 {
         return Ok(None);
     }

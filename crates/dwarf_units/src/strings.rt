@@ -6,12 +6,14 @@ ghost use Rattle.size_core.specs.Checks.{Gives, bad};
 ghost use Rattle.size_core.specs.declared.fault.Fault.TheVariants.{OffsetOutside};
 ghost use Rattle.dwarf_abbrev.specs.Reads.{inside};
 ghost use Rattle.dwarf_abbrev.specs.Values.{meaning, shown};
-ghost use Rattle.dwarf_units.specs.Strings.{address_at, address_by, address_size, base_or, named, offset_at, stored_string, string_at, string_in_section, string_offset_at, table_header, text_by, text_of};
+ghost use Rattle.dwarf_units.specs.Strings.{address_at, address_by, address_size, base_or, named, offset_at, stored_string, string_at, string_in_section, string_offset_at, text_by, text_of};
 ghost use Rattle.dwarf_units.specs.Roots.{shown_value};
 
 use crate::sections::Sections;
 use byte_cursor::{Cursor, Order};
-use dwarf_abbrev::{Content, UnitShape, Value, address_from, inside, offset_from, offset_size};
+use dwarf_abbrev::{
+    ByFormat, Content, OFFSET_LEN, UnitShape, Value, address_from, inside, offset_from,
+};
 use size_core::{BadFile, Fault};
 
 /// A string in a section, by its offset.
@@ -44,7 +46,7 @@ fn string_at<'a>(section: &Cursor<'a>, offset: u64, place: u64) -> Result<&'a [u
 }
 
 /// The cursor at an entry of a table, if the entry begins inside the section.
-fn entry_inside<'a>(section: &Cursor<'a>, base: u64, index: u64, size: u8) -> Option<Cursor<'a>>
+fn entry_inside<'a>(section: &Cursor<'a>, base: u64, index: u64, size: u64) -> Option<Cursor<'a>>
     ensures { result ≡ inside section.now (base + index * size) }
 {
     let offset = base as u128 + index as u128 * size as u128;
@@ -55,7 +57,7 @@ fn entry_inside<'a>(section: &Cursor<'a>, base: u64, index: u64, size: u8) -> Op
 }
 
 /// The size of an address in bytes.
-fn address_size(shape: &UnitShape) -> u8
+fn address_size(shape: &UnitShape) -> u64
     ensures { result ≡ address_size shape.now }
 {
     match shape.address {
@@ -97,7 +99,7 @@ impl<'s, 'a> OffsetTable<'s, 'a> {
         ensures { result ≡ offset_at self.entry.order self.entry.wide self.entry.section.now
             self.entry.base index place }
     {
-        let size = offset_size(self.wide);
+        let size = OFFSET_LEN.pick(self.wide);
         let Some(mut cursor) = entry_inside(self.section, self.base, index, size) else {
             return outside_section(place);
         };
@@ -108,23 +110,19 @@ impl<'s, 'a> OffsetTable<'s, 'a> {
     }
 }
 
-/// The offset at an index of the table in `.debug_str_offsets` that begins at `base`.
-fn string_offset_at(
-    sections: &Sections,
-    wide: bool,
-    base: u64,
-    index: u64,
-    place: u64,
-) -> Result<u64, BadFile>
-    ensures { result ≡ string_offset_at sections.now wide base index place }
-{
-    let table = OffsetTable {
-        order: sections.order,
-        wide,
-        section: &sections.str_offsets,
-        base,
-    };
-    table.offset(index, place)
+impl Sections<'_> {
+    /// The offset at an index of the table in `.debug_str_offsets` that begins at `base`.
+    fn string_offset(&self, wide: bool, base: u64, index: u64, place: u64) -> Result<u64, BadFile>
+        ensures { result ≡ string_offset_at self.now wide base index place }
+    {
+        let table = OffsetTable {
+            order: self.order,
+            wide,
+            section: &self.str_offsets,
+            base,
+        };
+        table.offset(index, place)
+    }
 }
 
 /// The address at an index of the table in `.debug_addr` that begins at `base`. OffsetOutside at the file offset
@@ -149,14 +147,9 @@ pub fn address_at(
     }
 }
 
-/// The offset in the section of the first entry of a table of offsets or addresses, if no attribute gives
-/// it. It is the size of the table's header: 8 bytes, or 16 in the 64-bit format (DWARF 5, sections 7.26 and
-/// 7.27).
-pub fn table_header(wide: bool) -> u64
-    ensures { result ≡ table_header wide }
-{
-    if wide { 16 } else { 8 }
-}
+/// The size of the header of a table of offsets or addresses. It is the offset in the section of the first entry, if
+/// no attribute gives it (DWARF 5, sections 7.26 and 7.27).
+pub const TABLE_HEADER_LEN: ByFormat = ByFormat(8, 16);
 
 /// The offset, in bytes, that an attribute gives as the base of a table in its section. It is `other` if the
 /// attribute is absent or gives no offset.
@@ -200,7 +193,7 @@ pub fn text_of<'a>(
             Ok(Some(text))
         }
         Content::StrIndex(index) => {
-            let offset = string_offset_at(sections, wide, base, index, value.place)?;
+            let offset = sections.string_offset(wide, base, index, value.place)?;
             let text = string_at(&sections.strings, offset, value.place)?;
             Ok(Some(text))
         }
@@ -220,7 +213,7 @@ pub fn string_of(value: &Value, wide: bool, base: u64, sections: &Sections) -> O
         Content::StrOffset(offset) => Some(StringAt::Strings(offset)),
         Content::LineStrOffset(offset) => Some(StringAt::LineStrings(offset)),
         Content::StrIndex(index) => {
-            let offset = string_offset_at(sections, wide, base, index, value.place).ok()?;
+            let offset = sections.string_offset(wide, base, index, value.place).ok()?;
             Some(StringAt::Strings(offset))
         }
         _ => None,

@@ -5,14 +5,11 @@ ghost use Rattle.size_core.specs.Checks.{bad};
 ghost use Rattle.size_core.specs.declared.fault.Fault.TheVariants.{BadUnit};
 ghost use Rattle.byte_cursor.specs.Window.{Window, place_of};
 ghost use Rattle.dwarf_abbrev.specs.Reads.{Reads};
-ghost use Rattle.dwarf_units.specs.Units.{headed, position_of, unit_from, unit_in, versioned};
+ghost use Rattle.dwarf_units.specs.Units.{headed, position_of, unit_from, versioned};
 
 use crate::header::{Header, header_from};
 use byte_cursor::{Cursor, Order};
-use dwarf_abbrev::{
-    InitialLength, UnitShape, contents_from, initial_length, is_address_size, is_version,
-    length_len, u16_from,
-};
+use dwarf_abbrev::{InitialLength, LENGTH_LEN, UnitShape, initial_length};
 use size_core::{BadFile, Fault};
 
 /// A unit of `.debug_info`.
@@ -65,7 +62,7 @@ fn position_of(start: u64, place: u64, initial: InitialLength, contents: &Cursor
     Position {
         place,
         offset: place.saturating_sub(start),
-        len: length_len(initial.wide) + contents.left(),
+        len: LENGTH_LEN.pick(initial.wide) + contents.left(),
         wide: initial.wide,
     }
 }
@@ -83,7 +80,7 @@ fn headed<'a>(
     let Some(header) = header else {
         return Ok(None);
     };
-    if !is_address_size(header.address) {
+    if !matches!(header.address, 2 | 4 | 8) {
         return bad_unit(position.place);
     }
     Ok(Some(DwarfUnit {
@@ -112,7 +109,7 @@ fn versioned<'a>(
 ) -> Result<Option<DwarfUnit<'a>>, BadFile>
     ensures { result ≡ versioned order position.now version cursor.entry }
 {
-    if !is_version(version) {
+    if version < 2 || version > 5 {
         return Ok(None);
     }
     match header_from(&mut cursor, order, position.wide, version) {
@@ -121,26 +118,10 @@ fn versioned<'a>(
     }
 }
 
-/// Reads the unit with these contents. `None` if it is skipped.
-#[tactic(auto, unfolding(crate::specs::Units::unit_in))]
-fn unit_in<'a>(
-    order: Order,
-    position: &Position,
-    mut contents: Cursor<'a>,
-) -> Result<Option<DwarfUnit<'a>>, BadFile>
-    ensures { result ≡ unit_in order position.now contents.entry }
-{
-    if contents.left() < 2 {
-        return Ok(None);
-    }
-    let version = u16_from(&mut contents, order)?;
-    versioned(order, position, version, contents)
-}
-
 /// Reads the unit at the cursor. `start` is the file offset of `.debug_info`. `None` if the unit is skipped.
 /// Truncated or BadUnit at the unit if its length or its header can't be read, or BadUnit if its addresses don't have
 /// 2, 4 or 8 bytes.
-#[tactic(auto, unfolding(crate::specs::Units::unit_from))]
+#[tactic(auto, unfolding(crate::specs::Units::unit_from, crate::specs::Units::unit_in, dwarf_abbrev::specs::Lengths::contents_from, dwarf_abbrev::specs::Reads::num_from))]
 pub fn unit_from<'a>(
     cursor: &mut Cursor<'a>,
     order: Order,
@@ -150,7 +131,11 @@ pub fn unit_from<'a>(
 {
     let place = cursor.place();
     let initial = initial_length(cursor, order)?;
-    let contents = contents_from(cursor, initial.len)?;
+    let mut contents = cursor.take(initial.len)?;
     let position = position_of(start, place, initial, &contents);
-    unit_in(order, &position, contents)
+    if contents.left() < 2 {
+        return Ok(None);
+    }
+    let version = contents.u16(order)?;
+    versioned(order, &position, version, contents)
 }

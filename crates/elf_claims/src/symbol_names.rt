@@ -39,37 +39,8 @@ fn is_last(last: Option<NameOffset>, name: NameOffset) -> bool
     }
 }
 
-// Returns the label of symbol `k`, if its name is kept.
-#[tactic(auto, using(long_names::proofs::NameLemmas::found_known))]
-fn kept_label<'a>(long: &LongNames<'a>, table: &SymbolTable<'a>, k: u32) -> Option<KnownLabel<'a>>
-    requires index { k < symbol_count table.now.file table.now.index }
-    requires long { AreNames long.now }
-    requires file { long.now.file.now ≡ table.now.file }
-    ensures label { IfSome result (λ l. IsLabelOf table.now.file table.now.index k l) }
-    ensures known { (made : List LabelledClaim) → AreKnownNames made long.now
-        → IfSome result (λ l. IsKnown made l) }
-{
-    let label = long.label_at(table.name_place(k))?;
-    if table.is_name(k, label.text) {
-        Some(label)
-    } else {
-        None
-    }
-}
-
-// Returns the label of symbol `k`, whose name is read. The fault is that of the name.
-fn read_label<'a>(table: &SymbolTable<'a>, k: u32) -> Result<KnownLabel<'a>, BadFile>
-    requires { k < symbol_count table.now.file table.now.index }
-    ensures label { IfOk result (λ l. IsLabelOf table.now.file table.now.index k l) }
-    ensures bad { (bad : BadFileSpec) → IsErrOf result bad
-        → symbol_name table.now.file table.now.index k ≡ Err bad }
-    ensures known { (made : List LabelledClaim) → IfOk result (λ l. IsKnown made l) }
-{
-    let text = table.name(k)?;
-    Ok(KnownLabel { text, claim: None })
-}
-
 // Returns the label of symbol `k`. A name that is kept isn't read again. The fault is that of the name.
+#[tactic(auto, using(long_names::proofs::NameLemmas::found_known))]
 fn label_of<'a>(
     long: &LongNames<'a>,
     table: &SymbolTable<'a>,
@@ -84,10 +55,13 @@ fn label_of<'a>(
     ensures known { (made : List LabelledClaim) → AreKnownNames made long.now
         → IfOk result (λ l. IsKnown made l) }
 {
-    match kept_label(long, table, k) {
-        Some(label) => Ok(label),
-        None => read_label(table, k),
+    if let Some(label) = long.label_at(table.name_place(k)) {
+        if table.is_name(k, label.text) {
+            return Ok(label);
+        }
     }
+    let text = table.name(k)?;
+    Ok(KnownLabel { text, claim: None })
 }
 
 impl<'a> SymbolNames<'a> {

@@ -8,7 +8,7 @@ ghost use Rattle.claim_sheet.specs.Adds.{Adds, AddsRead};
 ghost use Rattle.claim_sheet.specs.Known.{IsKnown};
 ghost use Rattle.claim_sheet.specs.Reaches.{claim_on_some};
 ghost use Rattle.elf_claims.specs.KnownSymbols.{AreKnown, AreNamed};
-ghost use Rattle.elf_claims.specs.SymbolClaims.{IsTableType, claims_of_type, has_space, is_data_or_code, is_in_section, names_bytes, symbol_address, symbol_claim, symbol_list, symbol_reach, symbol_space, symbols_claims, tables_claims};
+ghost use Rattle.elf_claims.specs.SymbolClaims.{IsTableType, claims_of_type, has_space, is_in_section, names_bytes, symbol_address, symbol_claim, symbol_list, symbol_reach, symbol_space, symbols_claims, tables_claims};
 
 use crate::known_symbols::KnownSymbols;
 use crate::loads::{has_addresses, is_relocatable};
@@ -21,12 +21,6 @@ use elf_symbols::{
 use size_core::NoMemory;
 use std::alloc::Global;
 
-fn is_data_or_code(kind: u8) -> bool
-    ensures { result ≡ is_data_or_code kind }
-{
-    kind == STT_NOTYPE || kind == STT_OBJECT || kind == STT_FUNC || kind == STT_GNU_IFUNC
-}
-
 fn is_in_section(symbol: &Symbol<'_>) -> bool
     ensures { result ≡ is_in_section (shown symbol.now) }
 {
@@ -38,10 +32,12 @@ fn is_in_section(symbol: &Symbol<'_>) -> bool
 fn names_bytes(symbol: &Symbol<'_>) -> bool
     ensures { result ≡ names_bytes (shown symbol.now) }
 {
-    is_data_or_code(symbol.kind)
-        && symbol.size > 0
-        && !symbol.name.is_empty()
-        && is_in_section(symbol)
+    let kind = symbol.kind;
+    let is_data_or_code = kind == STT_NOTYPE
+        || kind == STT_OBJECT
+        || kind == STT_FUNC
+        || kind == STT_GNU_IFUNC;
+    is_data_or_code && symbol.size > 0 && !symbol.name.is_empty() && is_in_section(symbol)
 }
 
 // Returns the address of a symbol. Bit 0 of an Arm function's value is the instruction set and not part of the address.

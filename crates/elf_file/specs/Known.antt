@@ -49,6 +49,11 @@ pub record HasNameTable (file : List ℕ) (sections index : ℕ) : Type 0 where
   pub index_is : index ≡ name_index file
   pub below : 0 < index → index < sections
 
+-- The section name table is a section of the file, or there is none, and these are its bytes.
+pub record HasNames (file : List ℕ) (sections index : ℕ) (names : List ℕ) : Type 0 where
+  pub table : HasNameTable file sections index
+  pub names_are : names ≡ section_bytes file index
+
 -- All that is known of an opened file.
 pub record IsOpened (file : List ℕ) (e : Encoding) (sections segments index : ℕ) (names : List ℕ) : Type 0 where
   pub section_table : HasSections file e sections

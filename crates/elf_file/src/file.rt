@@ -2,7 +2,7 @@
 
 ghost use Rattle.std.specs.Prelude.{◌≡◌, ◌<◌, ◌^◌, length, MatchResult, OnOk};
 ghost use Rattle.size_core.specs.Checks.{AllHold, IsFirstFault};
-ghost use Rattle.elf_file.specs.Layout.{encoding_of, header_len, section_len, segment_len};
+ghost use Rattle.elf_file.specs.Layout.{encoding_of};
 ghost use Rattle.elf_file.specs.Tables.{header_of, section_at, section_bytes, section_count, segment_at, segment_bytes, segment_count};
 ghost use Rattle.elf_file.specs.Names.{name_of, section_named};
 ghost use Rattle.elf_file.specs.ElfChecks.{elf_checks, opened};
@@ -11,10 +11,10 @@ ghost use Rattle.elf_file.specs.Shown.{numbers};
 
 use crate::constants::SHT_NULL;
 use crate::header::ElfHeader;
-use crate::layout::{E_MACHINE, E_PHOFF, E_SHOFF, E_TYPE, HEADER_LEN, SECTION_LEN, SEGMENT_LEN};
+use crate::layout::{E_MACHINE, E_PHOFF, E_SHOFF, E_TYPE};
 use crate::names::{NameTable, name_of, name_table, names_of, sections_have_names};
 use crate::section::Section;
-use crate::sections::{encoding, section_bytes, section_of_table, section_table, sections_fit};
+use crate::sections::{encoding, section_bytes, section_header, section_table, sections_fit};
 use crate::segment::Segment;
 use crate::segments::{segment_bytes, segment_of_table, segment_table, segments_fit};
 use byte_cursor::Encoding;
@@ -116,34 +116,13 @@ impl<'a> ElfFile<'a> {
         }
     }
 
-    /// Returns the size of the file header in bytes, which depends on the class.
-    pub fn header_len(&self) -> u64
-        ensures { result ≡ header_len (encoding_of self.now) }
-    {
-        self.encoding.pick(HEADER_LEN)
-    }
-
-    /// Returns the size of a section header in bytes, which depends on the class.
-    pub fn section_len(&self) -> u64
-        ensures { result ≡ section_len (encoding_of self.now) }
-    {
-        self.encoding.pick(SECTION_LEN)
-    }
-
-    /// Returns the size of a program header in bytes, which depends on the class.
-    pub fn segment_len(&self) -> u64
-        ensures { result ≡ segment_len (encoding_of self.now) }
-    {
-        self.encoding.pick(SEGMENT_LEN)
-    }
-
     /// Returns section `i` (ELF gABI, Section Header).
     pub fn section(&self, i: u32) -> Section<'a>
         requires { i < section_count self.now }
         ensures numbers { numbers result ≡ section_at self.now i }
         ensures name { result.name.now ≡ name_of self.now i }
     {
-        let header = section_of_table(self.file, self.encoding, self.sections, i);
+        let header = section_header(self.file, self.encoding, i);
         let name = name_of(self.file, self.encoding, self.names, i, header.kind);
         Section {
             place: header.place,

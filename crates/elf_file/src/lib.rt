@@ -19,6 +19,6 @@ pub use constants::{
 };
 pub use file::ElfFile;
 pub use header::ElfHeader;
-pub use layout::standard_layout;
+pub use layout::{HEADER_LEN, SECTION_LEN, SEGMENT_LEN, standard_layout};
 pub use section::Section;
 pub use segment::Segment;

@@ -5,11 +5,11 @@ ghost use Rattle.std.specs.Option.{option_copied};
 ghost use Rattle.elf_file.specs.Tables.{name_index, section_at, section_bytes};
 ghost use Rattle.elf_file.specs.Names.{name_text, name_of};
 ghost use Rattle.elf_file.specs.ElfChecks.{checked, name_table_checks, section_has_name};
-ghost use Rattle.elf_file.specs.Known.{HasHeader, HasSection, HasSections, HasNameTable, sections_fit, sections_have_names};
+ghost use Rattle.elf_file.specs.Known.{HasHeader, HasSection, HasSections, HasNameTable, HasNames, sections_fit, sections_have_names};
 
 use crate::constants::{SHN_XINDEX, SHT_NULL};
-use crate::layout::{E_SHSTRNDX, SH_NAME};
-use crate::sections::{section_bytes, section_of_table, section_place};
+use crate::layout::{E_SHOFF, E_SHSTRNDX, SECTION_LEN, SH_NAME};
+use crate::sections::{section_bytes, section_header};
 use byte_cursor::{Encoding, text_at};
 use size_core::{BadFile, Fault};
 
@@ -33,7 +33,7 @@ fn name_index(file: &[u8], encoding: Encoding, sections: u32) -> u32
     }
     let index = encoding.half(file, 0, E_SHSTRNDX);
     if index == SHN_XINDEX {
-        section_of_table(file, encoding, sections, 0).link
+        section_header(file, encoding, 0).link
     } else {
         index as u32
     }
@@ -80,7 +80,7 @@ fn name_text<'a>(file: &[u8], encoding: Encoding, names: &'a [u8], i: u32) -> Op
     requires names { names.now ≡ section_bytes file.now (name_index file.now) }
     ensures { option_copied result ≡ name_text file.now i }
 {
-    let place = section_place(file, encoding, i);
+    let place = encoding.word(file, 0, E_SHOFF) + i as u64 * encoding.pick(SECTION_LEN);
     text_at(names, encoding.four(file, place, SH_NAME) as usize)
 }
 
@@ -95,12 +95,11 @@ fn section_has_name(
     i: u32,
 ) -> Result<(), BadFile>
     requires table { HasSections file.now encoding sections }
-    requires name_table { HasNameTable file.now sections names.index }
-    requires names { names.bytes.now ≡ section_bytes file.now (name_index file.now) }
+    requires names { HasNames file.now sections names.index names.bytes.now }
     requires index { i < sections }
     ensures { result ≡ section_has_name file.now i }
 {
-    let section = section_of_table(file, encoding, sections, i);
+    let section = section_header(file, encoding, i);
     if i == 0 || section.kind == SHT_NULL || names.index == 0 {
         return Ok(());
     }
@@ -122,8 +121,7 @@ pub fn sections_have_names(
     names: NameTable<'_>,
 ) -> Result<(), BadFile>
     requires table { HasSections file.now encoding sections }
-    requires name_table { HasNameTable file.now sections names.index }
-    requires names { names.bytes.now ≡ section_bytes file.now (name_index file.now) }
+    requires names { HasNames file.now sections names.index names.bytes.now }
     ensures { result ≡ sections_have_names file.now }
 {
     for i in 1..sections {

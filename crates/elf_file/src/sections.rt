@@ -1,8 +1,8 @@
 //! The section table.
 
-ghost use Rattle.std.specs.Prelude.{◌≡◌, ◌+◌, ◌≤◌, ◌<◌, ◌^◌, length, IfOk, Ok, nat_lt};
+ghost use Rattle.std.specs.Prelude.{◌≡◌, ◌+◌, ◌≤◌, ◌<◌, ◌^◌, length, IfOk, Ok};
 ghost use Rattle.elf_file.specs.Layout.{encoding_of};
-ghost use Rattle.elf_file.specs.Tables.{section_at, section_bytes, section_count, section_place};
+ghost use Rattle.elf_file.specs.Tables.{section_at, section_bytes, section_count};
 ghost use Rattle.elf_file.specs.ElfChecks.{checked, header_checks, section_table_checks, section_fits};
 ghost use Rattle.elf_file.specs.Known.{HasHeader, HasSection, HasSections, sections_fit};
 
@@ -94,15 +94,6 @@ pub fn section_table(file: &[u8], encoding: Encoding) -> Result<u32, BadFile>
     Ok(count as u32)
 }
 
-/// Returns the file offset of the header of section `i`, which lies in the file.
-pub fn section_place(file: &[u8], encoding: Encoding, i: u32) -> u64
-    requires header { HasHeader file.now encoding }
-    requires within { HasSection file.now i }
-    ensures { result ≡ section_place file.now i }
-{
-    encoding.word(file, 0, E_SHOFF) + i as u64 * encoding.pick(SECTION_LEN)
-}
-
 /// Returns the header of section `i`, which lies in the file.
 #[tactic(auto, unfolding(crate::specs::Tables::section_at))]
 pub fn section_header(file: &[u8], encoding: Encoding, i: u32) -> SectionHeader
@@ -110,7 +101,7 @@ pub fn section_header(file: &[u8], encoding: Encoding, i: u32) -> SectionHeader
     requires within { HasSection file.now i }
     ensures { result ≡ section_at file.now i }
 {
-    let place = section_place(file, encoding, i);
+    let place = encoding.word(file, 0, E_SHOFF) + i as u64 * encoding.pick(SECTION_LEN);
     SectionHeader {
         place,
         kind: encoding.four(file, place, SH_TYPE),
@@ -123,16 +114,6 @@ pub fn section_header(file: &[u8], encoding: Encoding, i: u32) -> SectionHeader
     }
 }
 
-/// Returns the header of section `i` of a section table that lies in the file.
-pub fn section_of_table(file: &[u8], encoding: Encoding, sections: u32, i: u32) -> SectionHeader
-    requires table { HasSections file.now encoding sections }
-    requires index { i < sections }
-    ensures value { result ≡ section_at file.now i }
-    ensures within { HasSection file.now i }
-{
-    section_header(file, encoding, i)
-}
-
 /// Checks that the bytes of section `i` lie in the file (SectionPastEnd), and that its addresses end by 2^64 if it is
 /// allocated (RangeOverflow). A fault is at the section header.
 #[tactic(auto, unfolding(crate::specs::ElfChecks::section_fits))]
@@ -141,7 +122,7 @@ fn section_fits(file: &[u8], encoding: Encoding, sections: u32, i: u32) -> Resul
     requires index { i < sections }
     ensures { result ≡ section_fits file.now i }
 {
-    let section = section_of_table(file, encoding, sections, i);
+    let section = section_header(file, encoding, i);
     if i == 0 || section.kind == SHT_NULL {
         return Ok(());
     }
@@ -153,20 +134,13 @@ fn section_fits(file: &[u8], encoding: Encoding, sections: u32, i: u32) -> Resul
             offset: section.place,
         });
     }
-    if section.flags & SHF_ALLOC != 0 && passes_end(section.addr, section.size) {
+    if section.flags & SHF_ALLOC != 0 && section.addr as u128 + section.size as u128 > 1 << 64 {
         return Err(BadFile {
             fault: Fault::RangeOverflow,
             offset: section.place,
         });
     }
     Ok(())
-}
-
-/// Returns whether `size` bytes from a virtual address on end after 2^64.
-pub fn passes_end(addr: u64, size: u64) -> bool
-    ensures { result ≡ nat_lt (2 ^ 64) (addr + size) }
-{
-    size != 0 && u64::MAX - (size - 1) < addr
 }
 
 /// Checks the bytes and addresses of each section, in order.
@@ -189,7 +163,7 @@ pub fn section_bytes<'a>(file: &'a [u8], encoding: Encoding, sections: u32, i: u
     requires fits { 0 < i → section_fits file.now i ≡ Ok tt }
     ensures { result.now ≡ section_bytes file.now i }
 {
-    let section = section_of_table(file, encoding, sections, i);
+    let section = section_header(file, encoding, i);
     let empty = section.kind == SHT_NOBITS || section.size == 0;
     if i == 0 || section.kind == SHT_NULL || empty {
         return &[];

@@ -10,7 +10,7 @@ use crate::layout::{
     E_PHENTSIZE, E_PHNUM, E_PHOFF, P_FILESZ, P_FLAGS, P_MEMSZ, P_OFFSET, P_TYPE, P_VADDR,
     SEGMENT_LEN,
 };
-use crate::sections::{passes_end, section_of_table};
+use crate::sections::section_header;
 use crate::segment::Segment;
 use byte_cursor::Encoding;
 use size_core::{BadFile, Fault};
@@ -23,7 +23,7 @@ fn segment_count(file: &[u8], encoding: Encoding, sections: u32) -> u32
 {
     let count = encoding.half(file, 0, E_PHNUM);
     if count == PN_XNUM && sections > 0 {
-        section_of_table(file, encoding, sections, 0).info
+        section_header(file, encoding, 0).info
     } else {
         count as u32
     }
@@ -102,7 +102,7 @@ fn segment_fits(file: &[u8], encoding: Encoding, segments: u32, i: u32) -> Resul
     ensures { result ≡ segment_fits file.now i }
 {
     let segment = segment_of_table(file, encoding, segments, i);
-    if segment.kind == PT_LOAD && passes_end(segment.vaddr, segment.memsz) {
+    if segment.kind == PT_LOAD && segment.vaddr as u128 + segment.memsz as u128 > 1 << 64 {
         return Err(BadFile {
             fault: Fault::RangeOverflow,
             offset: segment.place,

@@ -3,7 +3,7 @@
 ghost use Rattle.std.specs.Prelude.{◌≡◌, ◌++◌, ◌<◌, ◌≤◌, IfOk, IfSome, OnOk, length};
 ghost use Rattle.elf_file.specs.Tables.{section_count};
 ghost use Rattle.elf_symbols.specs.Symbols.{numbers_index};
-ghost use Rattle.elf_symbols.specs.Numbers.{AreBefore, IsNumbersIndex, RiseByTable, all_numbers, first_for, numbers_at};
+ghost use Rattle.elf_symbols.specs.Numbers.{IsNumbersIndex, RiseByTable, all_numbers, first_for, numbers_at};
 
 use crate::constants::SHT_SYMTAB_SHNDX;
 use elf_file::ElfFile;
@@ -78,21 +78,12 @@ fn numbers_by_table(alloc: Global, file: &ElfFile<'_>) -> Result<Vec<TableNumber
     Ok(known)
 }
 
-/// Returns how many of these sections belong to symbol tables in sections before section `i`.
-fn count_before(known: &[TableNumbers], i: u32) -> usize
-    requires { RiseByTable known.now }
-    ensures bound { result ≤ length known.now }
-    ensures point { AreBefore i known.now result }
-{
-    known.partition_point(|numbers| numbers.table < i)
-}
-
 /// Returns the number of the first section that belongs to the table in section `i`. `None` if there is none.
 fn first_for(known: &[TableNumbers], i: u32) -> Option<u32>
     requires { RiseByTable known.now }
     ensures { result ≡ first_for i known.now }
 {
-    let at = count_before(known, i);
+    let at = known.partition_point(|numbers| numbers.table < i);
     if at >= known.len() {
         return None;
     }

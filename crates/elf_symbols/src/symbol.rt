@@ -1,13 +1,12 @@
 //! Symbols.
 
 ghost use Rattle.std.specs.Prelude.{◌≡◌, ◌+◌, ◌*◌, ◌≤◌, ◌<◌, ◌^◌, length};
-ghost use Rattle.size_core.specs.Checks.{Gives};
 ghost use Rattle.elf_file.specs.Layout.{encoding_of};
-ghost use Rattle.elf_symbols.specs.Symbols.{name_at, section_number_at, shndx_at};
+ghost use Rattle.elf_symbols.specs.Symbols.{section_number_at};
 ghost use Rattle.elf_symbols.specs.TableFacts.{HasSymbol};
 
-use crate::layout::{ST_NAME, ST_SHNDX};
-use byte_cursor::{Encoding, text_at, u32_at};
+use crate::layout::ST_SHNDX;
+use byte_cursor::{Encoding, u32_at};
 use elf_file::SHN_XINDEX;
 use size_core::{BadFile, Fault};
 
@@ -39,41 +38,6 @@ pub struct NameOffset {
     pub offset: u32,
 }
 
-/// Returns the name of the symbol at file offset `place`. NameOutside if it has no terminating zero byte
-/// in `names`.
-#[tactic(auto, unfolding(crate::specs::Symbols::name_at))]
-pub fn name_at<'a>(
-    file: &[u8],
-    encoding: Encoding,
-    names: &'a [u8],
-    place: u64,
-) -> Result<&'a [u8], BadFile>
-    requires encoding { encoding ≡ encoding_of file.now }
-    requires within { HasSymbol file.now place }
-    ensures { Gives (λ name. name.now) result (name_at file.now names.now place) }
-{
-    let offset = encoding.four(file, place, ST_NAME);
-    if offset == 0 {
-        return Ok(&[]);
-    }
-    match text_at(names, offset as usize) {
-        Some(name) => Ok(name),
-        None => Err(BadFile {
-            fault: Fault::NameOutside,
-            offset: place,
-        }),
-    }
-}
-
-/// Returns `st_shndx` of the symbol at file offset `place`.
-pub fn shndx_at(file: &[u8], encoding: Encoding, place: u64) -> u16
-    requires encoding { encoding ≡ encoding_of file.now }
-    requires within { HasSymbol file.now place }
-    ensures { result ≡ shndx_at file.now place }
-{
-    encoding.half(file, place, ST_SHNDX)
-}
-
 /// Returns the section number of symbol `k`, which is at file offset `place`. BadIndex if it needs an
 /// extended section index and has none.
 #[tactic(auto, unfolding(crate::specs::Symbols::section_number_at))]
@@ -88,7 +52,7 @@ pub fn section_number_at(
     requires within { HasSymbol file.now place }
     ensures { result ≡ section_number_at file.now numbers.now place k }
 {
-    let shndx = shndx_at(file, encoding, place);
+    let shndx = encoding.half(file, place, ST_SHNDX);
     if shndx != SHN_XINDEX {
         return Ok(shndx as u32);
     }

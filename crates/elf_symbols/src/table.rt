@@ -11,10 +11,10 @@ ghost use Rattle.elf_symbols.specs.Shown.{shown};
 ghost use Rattle.elf_symbols.specs.TableFacts.{HasSymbol};
 
 use crate::constants::SHT_SYMTAB_SHNDX;
-use crate::layout::{ST_INFO, ST_NAME, ST_SIZE, ST_VALUE, SYMBOL_LEN};
+use crate::layout::{ST_INFO, ST_NAME, ST_SHNDX, ST_SIZE, ST_VALUE, SYMBOL_LEN};
 use crate::numbers::NumbersIndex;
-use crate::symbol::{NameOffset, Symbol, name_at, section_number_at, shndx_at};
-use byte_cursor::Encoding;
+use crate::symbol::{NameOffset, Symbol, section_number_at};
+use byte_cursor::{Encoding, text_at};
 use elf_file::ElfFile;
 use size_core::{BadFile, Fault};
 use std::marker::Model;
@@ -205,7 +205,7 @@ impl<'a> SymbolTable<'a> {
 
     /// Returns the name of symbol `k`. NameOutside at the symbol if it has no terminating zero byte in the table's
     /// names.
-    #[tactic(auto, using(crate::proofs::NameLemmas::name_any, crate::proofs::PlaceLemmas::name_placed))]
+    #[tactic(auto, using(crate::proofs::NameLemmas::name_any, crate::proofs::PlaceLemmas::name_placed), unfolding(crate::specs::Symbols::name_at))]
     pub fn name(&self, k: u32) -> Result<&'a [u8], BadFile>
         requires { k < symbol_count self.now.file self.now.index }
         ensures name { Gives (λ name. name.now) result
@@ -215,7 +215,18 @@ impl<'a> SymbolTable<'a> {
         ensures place { IfOk result (λ name. 0 < length name.now
             → text self.now.file (name_place self.now.file self.now.index k) ≡ Some name.now) }
     {
-        name_at(self.file, self.encoding, self.names, self.offset_of(k))
+        let place = self.offset_of(k);
+        let offset = self.encoding.four(self.file, place, ST_NAME);
+        if offset == 0 {
+            return Ok(&[]);
+        }
+        match text_at(self.names, offset as usize) {
+            Some(name) => Ok(name),
+            None => Err(BadFile {
+                fault: Fault::NameOutside,
+                offset: place,
+            }),
+        }
     }
 
     /// Returns symbol `k`, whose name is known and isn't read again. BadIndex at the symbol if it needs an
@@ -238,7 +249,7 @@ impl<'a> SymbolTable<'a> {
             value: encoding.word(self.file, place, ST_VALUE),
             size: encoding.word(self.file, place, ST_SIZE),
             kind: info % 16,
-            shndx: shndx_at(self.file, encoding, place),
+            shndx: encoding.half(self.file, place, ST_SHNDX),
             section,
         })
     }

@@ -4,7 +4,7 @@ ghost use Rattle.std.specs.Prelude.{◌≡◌, ◌≤◌, ◌++◌, ◌+◌, ◌
 ghost use Rattle.elf_synth.specs.Contents.{text, function_symbol, symbols, function_name, strings, section_names};
 
 use crate::layout::{FUNCTION_LEN, NAME_LEN, SECTION_NAMES, TEXT_ADDRESS};
-use crate::numbers::{push_bytes, push_zeros};
+use crate::numbers::push_zeros;
 use crate::records::{SYMBOL_LEN, Symbol, push_symbol};
 use size_core::NoMemory;
 
@@ -49,14 +49,6 @@ pub fn push_symbols(out: &mut Vec<u8>, n: u32) -> Result<(), NoMemory>
     Ok(())
 }
 
-// Returns the decimal digit of a number at a power of ten.
-fn digit(number: u32, power: u32) -> u8
-    requires { 0 < power }
-    ensures { result ≡ 48 + number / power % 10 }
-{
-    b'0' + (number / power % 10) as u8
-}
-
 // Adds the name of function `k`.
 #[tactic(auto, unfolding(crate::specs::Contents::function_name))]
 fn push_function_name(out: &mut Vec<u8>, k: u32) -> Result<(), NoMemory>
@@ -64,16 +56,17 @@ fn push_function_name(out: &mut Vec<u8>, k: u32) -> Result<(), NoMemory>
 {
     let name = [
         b'f',
-        digit(k, 1_000_000),
-        digit(k, 100_000),
-        digit(k, 10_000),
-        digit(k, 1_000),
-        digit(k, 100),
-        digit(k, 10),
-        digit(k, 1),
+        b'0' + (k / 1_000_000 % 10) as u8,
+        b'0' + (k / 100_000 % 10) as u8,
+        b'0' + (k / 10_000 % 10) as u8,
+        b'0' + (k / 1_000 % 10) as u8,
+        b'0' + (k / 100 % 10) as u8,
+        b'0' + (k / 10 % 10) as u8,
+        b'0' + (k % 10) as u8,
         0,
     ];
-    push_bytes(out, &name)
+    out.extend_from_slice(&name)?;
+    Ok(())
 }
 
 /// Adds the names of `n` functions.
@@ -82,7 +75,7 @@ pub fn push_strings(out: &mut Vec<u8>, n: u32) -> Result<(), NoMemory>
     requires { n ≤ 1_000_000 }
     ensures { OnOk result (out.new.items ≡ out.old.items ++ strings n) }
 {
-    push_bytes(out, b"\0")?;
+    out.extend_from_slice(b"\0")?;
     for k in 1..n + 1 {
         push_function_name(out, k)?;
     }
@@ -94,5 +87,6 @@ pub fn push_strings(out: &mut Vec<u8>, n: u32) -> Result<(), NoMemory>
 pub fn push_section_names(out: &mut Vec<u8>) -> Result<(), NoMemory>
     ensures { OnOk result (out.new.items ≡ out.old.items ++ section_names) }
 {
-    push_bytes(out, SECTION_NAMES)
+    out.extend_from_slice(SECTION_NAMES)?;
+    Ok(())
 }

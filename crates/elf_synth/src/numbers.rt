@@ -5,14 +5,6 @@ ghost use Rattle.elf_synth.specs.Records.{half, word, xword, zeros};
 
 use size_core::NoMemory;
 
-/// Adds bytes.
-pub fn push_bytes(out: &mut Vec<u8>, bytes: &[u8]) -> Result<(), NoMemory>
-    ensures { OnOk result (out.new.items ≡ out.old.items ++ bytes.now) }
-{
-    out.extend_from_slice(bytes)?;
-    Ok(())
-}
-
 /// Adds zero bytes.
 #[tactic(auto, unfolding(crate::specs::Records::zeros))]
 pub fn push_zeros(out: &mut Vec<u8>, count: u8) -> Result<(), NoMemory>
@@ -28,7 +20,8 @@ pub fn push_zeros(out: &mut Vec<u8>, count: u8) -> Result<(), NoMemory>
 pub fn push_u16(out: &mut Vec<u8>, number: u16) -> Result<(), NoMemory>
     ensures { OnOk result (out.new.items ≡ out.old.items ++ half number) }
 {
-    push_bytes(out, &number.to_le_bytes())
+    out.extend_from_slice(&number.to_le_bytes())?;
+    Ok(())
 }
 
 /// Adds a number of four bytes.
@@ -36,7 +29,8 @@ pub fn push_u16(out: &mut Vec<u8>, number: u16) -> Result<(), NoMemory>
 pub fn push_u32(out: &mut Vec<u8>, number: u32) -> Result<(), NoMemory>
     ensures { OnOk result (out.new.items ≡ out.old.items ++ word number) }
 {
-    push_bytes(out, &number.to_le_bytes())
+    out.extend_from_slice(&number.to_le_bytes())?;
+    Ok(())
 }
 
 /// Adds a number of eight bytes.
@@ -44,5 +38,6 @@ pub fn push_u32(out: &mut Vec<u8>, number: u32) -> Result<(), NoMemory>
 pub fn push_u64(out: &mut Vec<u8>, number: u64) -> Result<(), NoMemory>
     ensures { OnOk result (out.new.items ≡ out.old.items ++ xword number) }
 {
-    push_bytes(out, &number.to_le_bytes())
+    out.extend_from_slice(&number.to_le_bytes())?;
+    Ok(())
 }

@@ -3,7 +3,7 @@
 ghost use Rattle.std.specs.Prelude.{◌≡◌, ◌++◌, OnOk};
 ghost use Rattle.elf_synth.specs.Records.{identification, file_header, program_header, symbol_bytes, section_header};
 
-use crate::numbers::{push_bytes, push_u16, push_u32, push_u64};
+use crate::numbers::{push_u16, push_u32, push_u64};
 use size_core::NoMemory;
 
 /// The size of the file header in bytes.
@@ -59,7 +59,8 @@ pub struct SectionHeader {
 fn push_identification(out: &mut Vec<u8>) -> Result<(), NoMemory>
     ensures { OnOk result (out.new.items ≡ out.old.items ++ identification) }
 {
-    push_bytes(out, b"\x7fELF\x02\x01\x01\0\0\0\0\0\0\0\0\0")
+    out.extend_from_slice(b"\x7fELF\x02\x01\x01\0\0\0\0\0\0\0\0\0")?;
+    Ok(())
 }
 
 /// Adds the file header (Elf64_Ehdr) of an x86-64 program. One program header follows it. There are five
@@ -115,7 +116,7 @@ pub fn push_symbol(out: &mut Vec<u8>, symbol: Symbol) -> Result<(), NoMemory>
     const STB_GLOBAL: u8 = 1;
     const STT_FUNC: u8 = 2;
     push_u32(out, symbol.name)?;
-    push_bytes(out, &[(STB_GLOBAL << 4) + STT_FUNC, 0])?;
+    out.extend_from_slice(&[(STB_GLOBAL << 4) + STT_FUNC, 0])?;
     push_u16(out, symbol.section)?;
     push_u64(out, symbol.value)?;
     push_u64(out, symbol.size)

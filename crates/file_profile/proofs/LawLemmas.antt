@@ -13,6 +13,7 @@ use Rattle.file_profile.specs.declared.answer.OpenedAnswer.TheVariants.{MappedTo
 use Rattle.file_profile.specs.declared.answer.SourceAnswer.{SourceAnswer}
 use Rattle.file_profile.specs.declared.answer.PairAnswer.{PairAnswer}
 use Rattle.file_profile.specs.declared.answer.PairAnswer.TheVariants.{Bad, NoMatch}
+use Rattle.file_profile.specs.declared.answer.PairFile.TheVariants.{Own, Debug}
 use Rattle.file_profile.specs.Claims.{OpenedFile}
 use Rattle.file_profile.specs.Identity.{is_pair}
 use Rattle.file_profile.specs.Laws.{IsOfFile}
@@ -20,8 +21,12 @@ use Rattle.file_profile.specs.PairViews.{if_pair, opened_as, opened_pair, pair_v
 use Rattle.file_profile.specs.Answers.{of_file_pair, refused_as}
 use Rattle.file_profile.specs.Sources.{Chosen}
 use Rattle.file_profile.specs.Views.{as_view, opened_viewed, view_within, views_of}
-use Rattle.file_profile.proofs.AloneLemmas.{ok-before}
 use Rattle.file_profile.proofs.ClaimLemmas.{choice-ok}
+
+-- Mapping the error keeps an `Ok` as it is.
+pub ok-before : {X A B : Type 0} (word : A → B) (r : Result X A) (x : X) → refused_as word r ≡ Ok x → r ≡ Ok x
+ok-before word (Ok y) x e = cc
+ok-before word (Err a) x e = cc
 
 pub record IsOf (binary : Binary) (f : FileView) : Type 0 where
   pub len : f.len ≡ length (bytes_of binary)
@@ -50,9 +55,9 @@ pair-is false f o e = cc
 own-of-pair : (name file debug : List ℕ) (o : OpenedFile) → opened_pair name file debug ≡ Ok o → opened file ≡ Ok o.binary
 unfolding opened_pair
 own-of-pair name file debug o e =
-    let own = when-ok (opened_as 1 (opened file)) (λ binary. when_opened (opened_as 2 (opened debug)) (λ other. if_pair name binary other)) o e in
-    let both = when-ok (opened_as 2 (opened debug)) (λ other. if_pair name own.0 other) o own.2 in
-    ok-before (Bad 1) (opened file) own.0 own.1 ∙ ap (λ (f : OpenedFile). Ok f.binary) (pair-is (is_pair own.0 both.0) (paired name own.0 both.0) o both.2)
+    let own = when-ok (opened_as Own (opened file)) (λ binary. when_opened (opened_as Debug (opened debug)) (λ other. if_pair name binary other)) o e in
+    let both = when-ok (opened_as Debug (opened debug)) (λ other. if_pair name own.0 other) o own.2 in
+    ok-before (Bad Own) (opened file) own.0 own.1 ∙ ap (λ (f : OpenedFile). Ok f.binary) (pair-is (is_pair own.0 both.0) (paired name own.0 both.0) o both.2)
 
 pub of-file : (mapped limit : ℕ) (name : List ℕ) (sources : List Chosen) (f : FileView) (file debug : List ℕ) → pair_viewed mapped limit name file debug sources ≡ Ok f → IsOfFile file f
 unfolding pair_viewed

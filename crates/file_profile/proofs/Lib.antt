@@ -1,12 +1,9 @@
-pub mod AloneLemmas
 pub mod ClaimLemmas
 pub mod CountLemmas
-pub mod EffectLemmas
-pub mod FaultLemmas
+pub mod LabelLemmas
 pub mod LawLemmas
+pub mod ListLemmas
 pub mod MapLemmas
-pub mod NumberLemmas
-pub mod PairLemmas
 pub mod PathLemmas
 pub mod PlaceLemmas
 pub mod ProfileLemmas

@@ -22,7 +22,7 @@ use Rattle.file_profile.specs.Results.{IsExpected}
 use Rattle.file_profile.specs.Sources.{Chosen}
 use Rattle.file_profile.specs.MapLabels.{AreMapped, IsMapped, Spells, file_at}
 use Rattle.file_profile.specs.Views.{source_view, views_of}
-use Rattle.file_profile.proofs.NumberLemmas.{zip-weaker}
+use Rattle.file_profile.proofs.ListLemmas.{zip-weaker}
 use Rattle.file_profile.proofs.SpellLemmas.{Spells-kept}
 use Rattle.file_profile.proofs.WalkLemmas.{IsRest, rest-more, results-none}
 

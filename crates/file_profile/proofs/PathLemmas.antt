@@ -102,7 +102,7 @@ module _ (limit shown : ℕ) (place : Place) (name file : List ℕ) (names : Lis
             ∙ ap (λ v. refused_as of_file_alone (view_within 0 (as_view binary v))) are.are
             ∙ ap (λ n. refused_as of_file_alone (if nat_lt (2 ^ 63 - 1) n then Err of_opened.MappedTooLarge else Ok view)) none
             ∙ ap (λ b. refused_as of_file_alone (if b then Err of_opened.MappedTooLarge else Ok view)) small.0;
-        names_are = ap (map (λ (s : PlaceSource). s.name)) (sym whole) ∙ are.named;
+        named = ap (map (λ (s : PlaceSource). s.name)) (sym whole) ∙ are.named;
         labels = ap (map (λ (s : PlaceSource). s.label)) (sym whole) ∙ (are.labels ∙ same-labels binary place are.views are.views);
       }
 

@@ -17,7 +17,7 @@ use Rattle.size_model.specs.Sizes.{label_of_address, label_of_offset}
 use Rattle.claim_sheet.specs.Made.{AreNumbered, KeepsLabels}
 use Rattle.dual_map.specs.Layout.{Layout, Maps}
 use Rattle.file_profile.specs.MapLabels.{HasText, Spells, file_at}
-use Rattle.file_profile.proofs.NumberLemmas.{kept-get}
+use Rattle.file_profile.proofs.LabelLemmas.{kept-get}
 
 first-text : (covers : Side → Span → Span → Bool) (pool : List (List ℕ)) (unmapped : ℕ) (claims : List Claim)
     → text_of pool (first_label (λ (c : Claim). covers c.side c.vm c.file) (λ (c : Claim). c.label) unmapped claims)

@@ -8,6 +8,8 @@ use Rattle.data_sources.specs.Groups.{bytes_of}
 use Rattle.data_sources.specs.Loads.{loads_of}
 use Rattle.data_sources.specs.Sources.{claims_of, debug_claims_of}
 use Rattle.dual_map.specs.Layout.{Layout}
+use Rattle.file_profile.specs.declared.answer.PairFile.{PairFile}
+use Rattle.file_profile.specs.declared.answer.PairFile.TheVariants as pair_file
 use Rattle.file_profile.specs.declared.answer.SourceAnswer.{SourceAnswer}
 use Rattle.file_profile.specs.declared.answer.SourceAnswer.TheVariants.{Bad, TooManyClaims}
 
@@ -21,14 +23,14 @@ pub record OpenedFile : Type 0 where
 abbrev pub layout_of : Binary → Layout
 layout_of binary = record { len = length (bytes_of binary); loads = loads_of binary }
 
--- A fault with the number of its file: the file itself is file 1, its debug file is file 2.
-abbrev pub of_file : {X : Type 0} → ℕ → Result X BadFile → Result X SourceAnswer
-of_file i (Ok x) = Ok x
-of_file i (Err bad) = Err (Bad i bad)
+-- A fault of the file itself, or of its debug file.
+abbrev pub of_file : {X : Type 0} → PairFile → Result X BadFile → Result X SourceAnswer
+of_file which (Ok x) = Ok x
+of_file which (Err bad) = Err (Bad which bad)
 
 -- The claims of a data source on the file itself, or their first fault.
 abbrev pub own_claims : OpenedFile → Source → Result (List LabelledClaim) SourceAnswer
-own_claims f source = of_file 1 (claims_of source f.name f.binary)
+own_claims f source = of_file pair_file.Own (claims_of source f.name f.binary)
 
 -- The first claims and then the others, or the fault of the others.
 abbrev pub claims_after : List LabelledClaim → Result (List LabelledClaim) SourceAnswer → Result (List LabelledClaim) SourceAnswer
@@ -44,7 +46,7 @@ followed_by (Err answer) others = Err answer
 
 -- A data source's claims on the addresses of a debug file, and then its claims on the file.
 abbrev pub claims_with_debug_file : OpenedFile → Source → Binary → Result (List LabelledClaim) SourceAnswer
-claims_with_debug_file f source debug = followed_by (of_file 2 (debug_claims_of source debug)) (own_claims f source)
+claims_with_debug_file f source debug = followed_by (of_file pair_file.Debug (debug_claims_of source debug)) (own_claims f source)
 
 -- The claims of a data source on a file, after those of its debug file, if there is one.
 abbrev pub claims_with : OpenedFile → Source → Option Binary → Result (List LabelledClaim) SourceAnswer

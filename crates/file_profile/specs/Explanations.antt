@@ -99,11 +99,11 @@ place_path f place = map (place_label f place) f.sources
 -- The explanations of one byte of a file with these bytes.
 --
 -- view, counted: The file as a report of sizes counts it.
--- names_are: The explained data sources have these names, in their order.
+-- named: The explained data sources have these names, in their order.
 -- labels: Their labels are the path of the byte in a report of sizes.
 pub record ExplainsPath (limit : ℕ) (place : Place) (name file : List ℕ) (names : List (List ℕ)) (sources : List Chosen)
     (explained : List PlaceSource) : Type 0 where
   pub view : FileView
   pub counted : viewed 0 limit name file sources ≡ Ok view
-  pub names_are : map (λ (s : PlaceSource). s.name) explained ≡ names
+  pub named : map (λ (s : PlaceSource). s.name) explained ≡ names
   pub labels : map (λ (s : PlaceSource). s.label) explained ≡ place_path view place

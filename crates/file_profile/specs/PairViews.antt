@@ -5,6 +5,8 @@ use Rattle.size_model.specs.declared.view.FileView.{FileView}
 use Rattle.data_sources.specs.declared.binary.Binary.{Binary}
 use Rattle.data_sources.specs.Opened.{opened}
 use Rattle.file_profile.specs.declared.answer.PairAnswer.{PairAnswer}
+use Rattle.file_profile.specs.declared.answer.PairFile.{PairFile}
+use Rattle.file_profile.specs.declared.answer.PairFile.TheVariants.{Own, Debug}
 use Rattle.file_profile.specs.declared.answer.PairAnswer.TheVariants.{Bad, NoMatch, TooManyClaims, MappedTooLarge, NoMemory}
 use Rattle.file_profile.specs.Claims.{OpenedFile}
 use Rattle.file_profile.specs.Identity.{is_pair}
@@ -12,9 +14,9 @@ use Rattle.file_profile.specs.Answers.{of_file_pair, refused_as}
 use Rattle.file_profile.specs.Sources.{Chosen}
 use Rattle.file_profile.specs.Views.{opened_view, opened_viewed}
 
--- File i, or its first fault.
-abbrev pub opened_as : ℕ → Result Binary BadFile → Result Binary PairAnswer
-opened_as i file = refused_as (Bad i) file
+-- One of the two files, or its first fault.
+abbrev pub opened_as : PairFile → Result Binary BadFile → Result Binary PairAnswer
+opened_as which file = refused_as (Bad which) file
 
 -- A file with the debug file that has the same identifier.
 abbrev pub paired : List ℕ → Binary → Binary → OpenedFile
@@ -32,8 +34,8 @@ if_pair name binary debug = if is_pair binary debug then Ok (paired name binary 
 -- The file of this name with its debug file. Otherwise the first of these: the first fault of the file, that of the debug
 -- file, and `NoMatch`.
 unfoldable pub opened_pair : List ℕ → List ℕ → List ℕ → Result OpenedFile PairAnswer
-opened_pair name file debug = when_opened (opened_as 1 (opened file))
-    (λ binary. when_opened (opened_as 2 (opened debug)) (λ other. if_pair name binary other))
+opened_pair name file debug = when_opened (opened_as Own (opened file))
+    (λ binary. when_opened (opened_as Debug (opened debug)) (λ other. if_pair name binary other))
 
 -- The opened pair with the claims of its data sources, those of the debug file first. Otherwise the first of these: why
 -- there is no opened pair, and for each data source its fault and `TooManyClaims`.
@@ -50,7 +52,7 @@ pair_viewed mapped limit name file debug sources = when_opened (opened_pair name
 abbrev pub PairAnswers : {X : Type 0} → Result (Unit {0}) PairAnswer → Result X PairAnswer → Type 0
 PairAnswers (Ok u) answer = IsOk answer
 PairAnswers (Err NoMemory) answer = Unit {0}
-PairAnswers (Err (Bad i bad)) answer = answer ≡ Err (Bad i bad)
+PairAnswers (Err (Bad which bad)) answer = answer ≡ Err (Bad which bad)
 PairAnswers (Err NoMatch) answer = answer ≡ Err NoMatch
 PairAnswers (Err TooManyClaims) answer = answer ≡ Err TooManyClaims
 PairAnswers (Err MappedTooLarge) answer = answer ≡ Err MappedTooLarge

@@ -25,12 +25,23 @@ pub enum ProfileAnswer {
     NoMemory,
 }
 
+/// A file that is counted, or its debug file.
+#[derive(Clone, Copy, Debug, PartialEq, Eq, Error)]
+pub enum PairFile {
+    /// The file itself, which is file 1 of a run.
+    #[error("file 1")]
+    Own,
+    /// Its debug file, which is file 2.
+    #[error("file 2")]
+    Debug,
+}
+
 /// Why a file isn't counted with its debug file.
 #[derive(Clone, Copy, Debug, PartialEq, Eq, Error)]
 pub enum PairAnswer {
-    /// The first fault of the file, which is file 1, or of its debug file, which is file 2, or of a data source on it.
-    #[error("file {0}: {1}")]
-    Bad(u32, BadFile),
+    /// The first fault of the file or of its debug file, or of a data source on it.
+    #[error("{0}: {1}")]
+    Bad(PairFile, BadFile),
     /// The identifiers of the two differ, or one has none.
     #[error("no match")]
     NoMatch,
@@ -68,8 +79,8 @@ pub enum PlaceAnswer {
 /// Why the claims of a data source on an opened file can't be made.
 #[derive(Clone, Copy)]
 pub enum SourceAnswer {
-    /// The first fault of the data source on the file, which is file 1, or on its debug file, which is file 2.
-    Bad(u32, BadFile),
+    /// The first fault of the data source on the file or on its debug file.
+    Bad(PairFile, BadFile),
     /// The claims exceed the limit.
     TooManyClaims,
     /// There was not enough memory.
@@ -102,12 +113,12 @@ impl<T: Drop> From<AllocFailed<T>> for SourceAnswer {
 impl SourceAnswer {
     ghost use Rattle.file_profile.specs.Answers.{of_claims};
 
-    /// The answer for the file of this number (1, or 2 for the debug file) if its claims can't be made.
-    pub fn of_claims(number: u32, answer: ClaimAnswer) -> SourceAnswer
-        ensures { result ≡ of_claims number answer }
+    /// The answer for a file whose claims can't be made.
+    pub fn of_claims(file: PairFile, answer: ClaimAnswer) -> SourceAnswer
+        ensures { result ≡ of_claims file answer }
     {
         match answer {
-            ClaimAnswer::Bad(bad) => SourceAnswer::Bad(number, bad),
+            ClaimAnswer::Bad(bad) => SourceAnswer::Bad(file, bad),
             ClaimAnswer::TooManyClaims => SourceAnswer::TooManyClaims,
             ClaimAnswer::NoMemory => SourceAnswer::NoMemory,
         }
@@ -117,8 +128,8 @@ impl SourceAnswer {
 /// Why a file that was opened isn't counted.
 #[derive(Clone, Copy, Debug)]
 pub enum OpenedAnswer {
-    /// The first fault of a data source on the file, which is file 1, or on its debug file, which is file 2.
-    Bad(u32, BadFile),
+    /// The first fault of a data source on the file or on its debug file.
+    Bad(PairFile, BadFile),
     /// The claims of the plan's data sources exceed the limit.
     TooManyClaims,
     /// The mapped sizes of the files exceed 2^63 - 1.
@@ -144,7 +155,7 @@ impl From<SourceAnswer> for OpenedAnswer {
 
     fn from(answer: SourceAnswer) -> OpenedAnswer {
         match answer {
-            SourceAnswer::Bad(number, bad) => OpenedAnswer::Bad(number, bad),
+            SourceAnswer::Bad(file, bad) => OpenedAnswer::Bad(file, bad),
             SourceAnswer::TooManyClaims => OpenedAnswer::TooManyClaims,
             SourceAnswer::NoMemory => OpenedAnswer::NoMemory,
         }
@@ -219,7 +230,7 @@ impl From<OpenedAnswer> for PairAnswer {
 
     fn from(answer: OpenedAnswer) -> PairAnswer {
         match answer {
-            OpenedAnswer::Bad(number, bad) => PairAnswer::Bad(number, bad),
+            OpenedAnswer::Bad(file, bad) => PairAnswer::Bad(file, bad),
             OpenedAnswer::TooManyClaims => PairAnswer::TooManyClaims,
             OpenedAnswer::MappedTooLarge => PairAnswer::MappedTooLarge,
             OpenedAnswer::NoMemory => PairAnswer::NoMemory,

@@ -9,7 +9,7 @@ ghost use Rattle.file_profile.specs.Numbering.{AreClaims, IsNumbered, IsRenumber
 ghost use Rattle.file_profile.specs.Results.{Makes};
 ghost use Rattle.file_profile.specs.Sources.{built_in};
 
-use crate::answer::{Made, SourceAnswer};
+use crate::answer::{Made, PairFile, SourceAnswer};
 use crate::plan::PlanSource;
 use crate::subject::Subject;
 use custom_rewrites::{Rewriter, Rewrites};
@@ -64,10 +64,10 @@ fn own_claims(file: &Subject, source: Source, pool: &mut LabelPool, limit: u64) 
     ensures { Makes AreClaims result pool.old pool.new
         (within limit (own_claims file.now source)) }
 {
-    let alloc = file.alloc();
-    match claims(alloc, file.binary(), source, file.name(), pool, limit) {
+    let alloc = file.alloc;
+    match claims(alloc, &file.binary, source, file.name, pool, limit) {
         Ok(made) => Ok(made),
-        Err(answer) => Err(SourceAnswer::of_claims(1, answer)),
+        Err(answer) => Err(SourceAnswer::of_claims(PairFile::Own, answer)),
     }
 }
 
@@ -94,7 +94,7 @@ fn claims_with_debug_file(
     ensures { Makes AreClaims result pool.old pool.new
         (within limit (claims_with_debug_file file.now source debug.now)) }
 {
-    match debug_claims(file.alloc(), debug, source, pool, limit) {
+    match debug_claims(file.alloc, debug, source, pool, limit) {
         Ok(first) => {
             let own = own_claims(file, source, pool, limit - first.len() as u64)?;
             Ok(followed_by(first, own)?)
@@ -104,7 +104,7 @@ fn claims_with_debug_file(
             own_claims(file, source, pool, 0)?;
             Err(SourceAnswer::TooManyClaims)
         }
-        Err(answer) => Err(SourceAnswer::of_claims(2, answer)),
+        Err(answer) => Err(SourceAnswer::of_claims(PairFile::Debug, answer)),
     }
 }
 
@@ -112,7 +112,7 @@ fn claims_with_debug_file(
 fn all_claims(file: &Subject, source: Source, pool: &mut LabelPool, limit: u64) -> Made<Vec<Claim>>
     ensures { Makes AreClaims result pool.old pool.new (claims_within limit file.now source) }
 {
-    match file.debug() {
+    match &file.debug {
         None => own_claims(file, source, pool, limit),
         Some(debug) => claims_with_debug_file(debug, file, source, pool, limit),
     }
@@ -144,7 +144,7 @@ pub fn claims_of_source(
     let Some(rewrites) = chosen.rewrites else {
         return claims_by(file, chosen.base, pool, limit);
     };
-    let alloc = file.alloc();
+    let alloc = file.alloc;
     let mut labels = LabelPool::new(alloc);
     let mut made = claims_by(file, chosen.base, &mut labels, limit)?;
     let numbers = rewritten_numbers(alloc, rewrites, &labels, pool)?;

@@ -48,7 +48,7 @@ fn explain_built_in(
     ensures { Yields (IsExplained request.now.place request.now.shown subject.now)
         (claims_within limit subject.now base) result }
 {
-    let alloc = subject.alloc();
+    let alloc = subject.alloc;
     let mut pool = LabelPool::new(alloc);
     let made = claims_by(subject, base, &mut pool, limit)?;
     let source = NumberedClaims {
@@ -112,7 +112,7 @@ fn explain_all(
 {
     // This law lets the explanation be made first and its label rewritten afterwards.
     rewrites_the_label_alone();
-    let alloc = subject.alloc();
+    let alloc = subject.alloc;
     let mut all = Vec::new(alloc);
     let mut left = limit;
     for i in 0..plan.len() {
@@ -162,7 +162,7 @@ pub fn explain_place(
         place: *place,
         shown,
     };
-    if !is_inside(subject.base(), subject.len(), &request.place) {
+    if !is_inside(subject.base(), subject.base().len(), &request.place) {
         return Err(PlaceAnswer::PlaceOutside);
     }
     let made = explain_all(plan, names, &request, &subject, limits.claims)?;

@@ -11,7 +11,7 @@ mod plan;
 mod profile;
 mod subject;
 
-pub use answer::{OpenedAnswer, PairAnswer, PlaceAnswer, ProfileAnswer};
+pub use answer::{OpenedAnswer, PairAnswer, PairFile, PlaceAnswer, ProfileAnswer};
 pub use explain::explain_place;
 pub use laws::debug_file_adds_no_size;
 pub use pair::profile_pair;

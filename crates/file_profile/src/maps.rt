@@ -38,9 +38,9 @@ fn map_source(chosen: &PlanSource, file: &Subject, pool: &mut LabelPool, limit: 
         pool.old pool.new (claims_within limit file.now chosen.now.base) }
 {
     let made = claims_of_source(chosen, file, pool, limit)?;
-    let alloc = file.alloc();
+    let alloc = file.alloc;
     let base = file.base();
-    let maps = DualMap::build(alloc, base, file.len(), &made.claims, made.unmapped)?;
+    let maps = DualMap::build(alloc, base, base.len(), &made.claims, made.unmapped)?;
     let claims = made.claims.len() as u64;
     Ok(Mapped { maps, claims })
 }
@@ -51,8 +51,8 @@ pub fn maps_of(plan: &Plan, file: &Subject, limit: u64) -> Made<FileMaps>
     ensures { Yields (AreMapped (layout_of file.now.binary) (length plan.now.sources))
         (views_of limit file.now plan.now.sources) result }
 {
-    let mut maps = Vec::new(file.alloc());
-    let mut pool = LabelPool::new(file.alloc());
+    let mut maps = Vec::new(file.alloc);
+    let mut pool = LabelPool::new(file.alloc);
     let mut left = limit;
     for i in 0..plan.len() {
         let chosen = plan.source(i);

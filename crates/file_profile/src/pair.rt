@@ -8,7 +8,7 @@ ghost use Rattle.file_profile.specs.Identity.{is_pair, is_same};
 ghost use Rattle.file_profile.specs.PairViews.{PairAnswers, opened_as, opened_pair, pair_view, pair_viewed};
 ghost use Rattle.file_profile.specs.Profiles.{CanProfile, Profiles};
 
-use crate::answer::PairAnswer;
+use crate::answer::{PairAnswer, PairFile};
 use crate::plan::Plan;
 use crate::profile::profile_opened;
 use crate::subject::Subject;
@@ -19,15 +19,15 @@ use size_core::{Limits, Steps};
 use std::alloc::Global;
 use std::sync::ledger::Ledger;
 
-// Opens file `number`.
-fn open_numbered<'a>(number: u32, file: &'a [u8]) -> Result<Binary<'a>, PairAnswer>
+// Opens one of the two files.
+fn open_one<'a>(which: PairFile, file: &'a [u8]) -> Result<Binary<'a>, PairAnswer>
     requires { length file.now < 2 ^ 32 }
-    ensures opened { result ≡ opened_as number (opened file.now) }
+    ensures opened { result ≡ opened_as which (opened file.now) }
     ensures bytes { IfOk result (λ binary. bytes_of binary ≡ file.now) }
 {
     match open_binary(file) {
         Ok(binary) => Ok(binary),
-        Err(bad) => Err(PairAnswer::Bad(number, bad)),
+        Err(bad) => Err(PairAnswer::Bad(which, bad)),
     }
 }
 
@@ -60,7 +60,7 @@ fn is_pair(binary: &Binary<'_>, debug: &Binary<'_>) -> bool
 ///
 /// # Errors
 ///
-/// The first of these. `Bad` has the number of the file, which is 1, or of its debug file, which is 2:
+/// The first of these. `Bad` says which of the two files it is:
 ///
 /// - `Bad`: the first fault of the file's format, or else of the debug file's,
 /// - `NoMatch`: the identifiers of the two (the build ID of ELF, the UUID of Mach-O) differ, or one is absent,
@@ -96,8 +96,8 @@ pub fn profile_pair<L: Ledger>(
         Profiles result counted view plan.now.filter (length file.now)
         total.old total.new steps.old steps.new }
 {
-    let binary = open_numbered(1, file)?;
-    let other = open_numbered(2, debug)?;
+    let binary = open_one(PairFile::Own, file)?;
+    let other = open_one(PairFile::Debug, debug)?;
     if !is_pair(&binary, &other) {
         return Err(PairAnswer::NoMatch);
     }

@@ -1,7 +1,6 @@
 //! The plan of a run: its data sources and its filter.
 
 ghost use Rattle.std.specs.Prelude.{◌≡◌, ◌<◌, ◌≤◌, All, Some, length, map, slice_get};
-ghost use Rattle.std.specs.Option.{option_copied};
 ghost use Rattle.file_profile.specs.Choices.{IsChoice, chosen_in, chosen_of};
 
 use custom_rewrites::{LabelPattern, Rewrites};
@@ -62,7 +61,7 @@ pub struct PlanSource<'p> {
 pub struct Plan {
     choices: Vec<Choice>,
     rewrites: Vec<Rewrites>,
-    filter: Option<LabelPattern>,
+    pub(crate) filter: Option<LabelPattern>,
 }
 
 impl Model for Plan {
@@ -129,12 +128,5 @@ impl Plan {
                 rewrites: Some(&self.rewrites[k]),
             },
         }
-    }
-
-    // The filter's pattern.
-    pub(crate) fn filter(&self) -> Option<&LabelPattern>
-        ensures { option_copied result ≡ self.now.filter }
-    {
-        self.filter.as_ref()
     }
 }

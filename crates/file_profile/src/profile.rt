@@ -47,10 +47,10 @@ fn count_maps<L: Ledger>(
     ensures cost { steps.new ≤ steps.old + piece_count maps.now.maps.items }
 {
     let base = subject.base();
-    match plan.filter() {
+    match &plan.filter {
         None => total.count_file(base, &maps.maps, None, steps),
         Some(pattern) => {
-            let marks = marks_of(subject.alloc(), pattern, &maps.pool)?;
+            let marks = marks_of(subject.alloc, pattern, &maps.pool)?;
             total.count_file(base, &maps.maps, Some(&marks), steps)
         }
     }

@@ -1,7 +1,6 @@
 //! An opened file, and its debug file if there is one.
 
-ghost use Rattle.std.specs.Prelude.{◌≡◌, ◌<◌, ◌^◌, None, Some, length, IfOk};
-ghost use Rattle.std.specs.Option.{option_copied};
+ghost use Rattle.std.specs.Prelude.{◌≡◌, ◌<◌, ◌^◌, length, IfOk};
 ghost use Rattle.data_sources.specs.Groups.{bytes_of};
 ghost use Rattle.file_profile.specs.Claims.{layout_of};
 
@@ -15,10 +14,10 @@ use std::marker::Model;
 /// these three. The loads are those of the file, never of the debug file.
 #[derive(Drop)]
 pub struct Subject<'n, 'a, 'd> {
-    alloc: Global,
-    name: &'n [u8],
-    binary: Binary<'a>,
-    debug: Option<Binary<'d>>,
+    pub(crate) alloc: Global,
+    pub(crate) name: &'n [u8],
+    pub(crate) binary: Binary<'a>,
+    pub(crate) debug: Option<Binary<'d>>,
     base: Base,
 }
 
@@ -57,43 +56,10 @@ impl<'n, 'a, 'd> Subject<'n, 'a, 'd> {
         })
     }
 
-    // The allocator for all that is made of the file.
-    pub(crate) fn alloc(&self) -> Global {
-        self.alloc
-    }
-
-    /// The file's name.
-    pub fn name(&self) -> &'n [u8]
-        ensures { result.now ≡ self.now.name }
-    {
-        self.name
-    }
-
-    /// The file.
-    pub fn binary(&self) -> &Binary<'a>
-        ensures { result.now ≡ self.now.binary }
-    {
-        &self.binary
-    }
-
-    /// The debug file, if there is one.
-    pub fn debug(&self) -> Option<&Binary<'d>>
-        ensures { option_copied result ≡ self.now.debug }
-    {
-        self.debug.as_ref()
-    }
-
     /// The length and the loads of the file, prepared for the translation between offsets and addresses.
     pub fn base(&self) -> &Base
         ensures { result.now ≡ layout_of self.now.binary }
     {
         &self.base
-    }
-
-    /// The length of the file in bytes.
-    pub fn len(&self) -> u64
-        ensures { result ≡ length (bytes_of self.now.binary) }
-    {
-        self.binary.bytes().len() as u64
     }
 }

@@ -2,17 +2,11 @@
 
 ghost use Rattle.std.specs.Prelude.{◌≡◌};
 ghost use Rattle.claim_sheet.specs.Adds.{Adds};
-ghost use Rattle.macho_claims.specs.Claims.{commands_reach, header_claims, header_reach};
+ghost use Rattle.macho_claims.specs.Claims.{commands_reach, header_claims};
 
 use claim_sheet::{ClaimSheet, Reach, Wrap, span};
 use macho_file::MachoFile;
 use size_core::NoMemory;
-
-fn header_reach(file: &MachoFile<'_>) -> Reach
-    ensures { result ≡ header_reach file.now }
-{
-    Reach::in_file(span(0, 0, file.header_len()))
-}
 
 fn commands_reach(file: &MachoFile<'_>) -> Reach
     ensures { result ≡ commands_reach file.now }
@@ -26,6 +20,7 @@ fn commands_reach(file: &MachoFile<'_>) -> Reach
 pub fn add_headers(file: &MachoFile<'_>, sheet: &mut ClaimSheet) -> Result<(), NoMemory>
     ensures { Adds result sheet.old sheet.new (header_claims file.now) }
 {
-    sheet.add(header_reach(file), Wrap::Plain, b"[Mach-O Header]")?;
+    let header = span(0, 0, file.header_len());
+    sheet.add(Reach::in_file(header), Wrap::Plain, b"[Mach-O Header]")?;
     sheet.add(commands_reach(file), Wrap::Plain, b"[Mach-O Load Commands]")
 }

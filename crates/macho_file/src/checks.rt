@@ -1,12 +1,12 @@
 //! The checks of load commands, segments and sections.
 
-ghost use Rattle.std.specs.Prelude.{◌≡◌, ◌+◌, ◌*◌, ◌≤◌, ◌^◌, length, map, true, IfOk, nat_lt};
+ghost use Rattle.std.specs.Prelude.{◌≡◌, ◌+◌, ◌*◌, ◌≤◌, [], length, map, true, if◌then◌else◌, IfOk};
 ghost use Rattle.size_core.specs.Checks.{first_of};
-ghost use Rattle.macho_records.specs.Header.{HasHeader, checked};
+ghost use Rattle.macho_records.specs.Header.{HasHeader};
 ghost use Rattle.macho_records.specs.Layout.{header_len, command_count, commands_end};
 ghost use Rattle.macho_file.specs.Commands.{command_at, is_segment, section_count_of, section_len};
 ghost use Rattle.macho_file.specs.Tables.{sections_of};
-ghost use Rattle.macho_file.specs.Checks.{command_checks, section_fits, segment_checks};
+ghost use Rattle.macho_file.specs.Checks.{section_fits, segment_checks};
 ghost use Rattle.macho_file.specs.Known.{IsInside, checked_command, commands_fit, sections_fit};
 ghost use Rattle.macho_file.specs.Shown.{section_shown};
 
@@ -21,20 +21,13 @@ use macho_records::{
 };
 use size_core::{BadFile, Fault};
 
-/// Returns whether `size` bytes from a virtual address on end after 2^64.
-fn passes_end(addr: u64, size: u64) -> bool
-    ensures { result ≡ nat_lt (2 ^ 64) (addr + size) }
-{
-    size != 0 && u64::MAX - (size - 1) < addr
-}
-
 /// Checks that the addresses of a section end by 2^64 (RangeOverflow), and that its bytes lie in the file
 /// (SectionPastEnd). A fault is at the section header.
 #[tactic(auto, unfolding(crate::specs::Checks::section_fits))]
 fn section_fits(file: &[u8], section: &MachoSection<'_>) -> Result<(), BadFile>
     ensures { result ≡ section_fits file.now (section_shown section.now) }
 {
-    if passes_end(section.addr, section.size) {
+    if section.addr as u128 + section.size as u128 > 1 << 64 {
         return Err(BadFile {
             fault: Fault::RangeOverflow,
             offset: section.place,
@@ -91,16 +84,19 @@ fn segment_sections_fit(
     sections_fit(file, encoding, form, first, count)
 }
 
-/// Checks that the addresses of a segment end by 2^64, and checks each of its sections.
+/// If a command is a segment, checks that its addresses end by 2^64, and checks each of its sections.
 #[tactic(auto, unfolding(crate::specs::Checks::segment_checks, crate::specs::Tables::segment_at, crate::specs::Commands::least_size))]
 fn segment_fits(file: &[u8], encoding: Encoding, command: Command) -> Result<(), BadFile>
     requires header { HasHeader file.now encoding }
-    requires kind { is_segment command ≡ true }
     requires inside { IsInside file.now command }
-    ensures { result ≡ first_of (segment_checks file.now command) }
+    ensures { result
+        ≡ first_of (if is_segment command then segment_checks file.now command else []) }
 {
+    if !command.is_segment() {
+        return Ok(());
+    }
     let segment = segment_at(file, encoding, command, 0);
-    if passes_end(segment.vaddr, segment.memsz) {
+    if segment.vaddr as u128 + segment.memsz as u128 > 1 << 64 {
         return Err(BadFile {
             fault: Fault::RangeOverflow,
             offset: command.place,
@@ -141,25 +137,8 @@ fn checked_command(
     Ok(command)
 }
 
-/// Checks a command, and its sections if it is a segment. Returns the file offset of the next command.
-#[tactic(auto, unfolding(crate::specs::Checks::command_checks, crate::specs::Commands::command_at))]
-fn command_fits(file: &[u8], encoding: Encoding, end: u64, place: u64) -> Result<u64, BadFile>
-    requires header { HasHeader file.now encoding }
-    requires end { end ≡ commands_end file.now }
-    requires place { place ≤ end }
-    ensures value { let c = command_at file.now place in
-        result ≡ checked (command_checks file.now c) (place + c.size) }
-    ensures place { IfOk result (λ next. next ≤ end) }
-{
-    let command = checked_command(file, encoding, end, place)?;
-    if command.is_segment() {
-        segment_fits(file, encoding, command)?;
-    }
-    Ok(place + command.size as u64)
-}
-
 /// Checks each command and each segment.
-#[tactic(auto, using(crate::proofs::CheckLemmas::commands_next, crate::proofs::CheckLemmas::commands_bad, crate::proofs::CheckLemmas::commands_end_here))]
+#[tactic(auto, using(crate::proofs::CheckLemmas::commands_next, crate::proofs::CheckLemmas::commands_bad, crate::proofs::CheckLemmas::commands_end_here), unfolding(crate::specs::Checks::command_checks, crate::specs::Commands::command_at))]
 pub fn commands_fit(file: &[u8], encoding: Encoding) -> Result<(), BadFile>
     requires { HasHeader file.now encoding }
     ensures { result ≡ commands_fit file.now (header_len file.now) (command_count file.now) }
@@ -168,7 +147,9 @@ pub fn commands_fit(file: &[u8], encoding: Encoding) -> Result<(), BadFile>
     let mut place = encoding.pick(MACH_HEADER_LEN);
     let end = place + encoding.four(file, 0, HEADER_SIZEOFCMDS) as u64;
     'rows: for i in 0..count {
-        place = command_fits(file, encoding, end, place)?;
+        let command = checked_command(file, encoding, end, place)?;
+        segment_fits(file, encoding, command)?;
+        place += command.size as u64;
     }
     Ok(())
 }

@@ -1,6 +1,5 @@
 //! The load commands, as an iterator.
 
-ghost use Rattle.std.specs.Prelude.{◌≡◌};
 ghost use Rattle.std.specs.Iterator.{YieldsFirst, item_count};
 
 use crate::command::Command;
@@ -10,7 +9,7 @@ use std::marker::Model;
 /// The load commands that `next` has not returned yet, in file order.
 #[derive(Drop)]
 pub struct Commands<'a> {
-    walk: Walk<'a>,
+    pub(crate) walk: Walk<'a>,
 }
 
 impl<'a> Model for Commands<'a> {
@@ -20,14 +19,6 @@ impl<'a> Model for Commands<'a> {
     ghost Value = { List Command };
 
     ghost view = { λ c. c.walk.rest };
-}
-
-impl<'a> Commands<'a> {
-    pub(crate) fn new(walk: Walk<'a>) -> Commands<'a>
-        ensures { result ≡ walk.entry.rest }
-    {
-        Commands { walk }
-    }
 }
 
 impl<'a> Iterator for Commands<'a> {

@@ -1,6 +1,6 @@
 //! An opened Mach-O file.
 
-ghost use Rattle.std.specs.Prelude.{◌≡◌, ◌<◌, ◌^◌, All, length, map, MatchResult, OnOk, IfOk, IsOkAnd, Some, Ok, Err, slice_get};
+ghost use Rattle.std.specs.Prelude.{◌≡◌, ◌<◌, ◌^◌, All, length, map, MatchResult, OnOk, IfOk, IsOkAnd, Some, slice_get};
 ghost use Rattle.size_core.specs.Checks.{AllHold, Gives, IsFirstFault};
 ghost use Rattle.macho_records.specs.Layout.{command_count, commands_size, encoding_of, file_type, header_len};
 ghost use Rattle.macho_file.specs.Commands.{command_bytes_at, commands};
@@ -13,8 +13,7 @@ ghost use Rattle.macho_file.specs.Shown.{section_shown, segment_shown, span_show
 ghost use Rattle.macho_file.specs.Spans.{spans};
 ghost use Rattle.macho_symbols.specs.Names.{AreNamedSpans};
 ghost use Rattle.macho_symbols.specs.Shown.{named_shown};
-ghost use Rattle.macho_symbols.specs.Symbols.{HasTable};
-ghost use Rattle.macho_symbols.specs.Taken.{ForBad};
+ghost use Rattle.macho_symbols.specs.Taken.{Reads};
 
 use crate::checks::commands_fit;
 use crate::command::Command;
@@ -32,7 +31,7 @@ use crate::symbol::{MachoSymbol, table_of};
 use crate::walk::Walk;
 use byte_cursor::{Encoding, Order};
 use macho_records::{HEADER_FILETYPE, HEADER_NCMDS, HEADER_SIZEOFCMDS, MACH_HEADER_LEN, encoding};
-use macho_symbols::{NamedSpan, SpanAnswer, SymbolTable, spans_of_table, symbol_of};
+use macho_symbols::{FileTable, NamedSpan, SpanAnswer, spans_of_table};
 use size_core::BadFile;
 use std::alloc::Global;
 use std::marker::Model;
@@ -102,13 +101,6 @@ impl<'a> MachoFile<'a> {
         ensures well_formed { IsWellFormed self.now }
     {
         self.file
-    }
-
-    /// Returns the class and the byte order of the file.
-    pub fn encoding(&self) -> Encoding
-        ensures { result ≡ encoding_of self.now }
-    {
-        self.encoding
     }
 
     /// Returns whether the class of the file is 64 bits.
@@ -184,7 +176,7 @@ impl<'a> MachoFile<'a> {
     pub fn commands(&self) -> Commands<'a>
         ensures { result ≡ commands self.now }
     {
-        Commands::new(self.walk())
+        Commands { walk: self.walk() }
     }
 
     /// Returns all segments, in file order. The addresses of each end by 2^64.
@@ -193,17 +185,25 @@ impl<'a> MachoFile<'a> {
         ensures segments { result ≡ segments self.now }
         ensures addresses { All HasAddresses result }
     {
-        Segments::new(self.walk())
+        Segments {
+            walk: self.walk(),
+            first: 0,
+        }
     }
 
     /// Returns the sections of all segments, in file order. The addresses of each end by 2^64, and its bytes are in
     /// the file.
-    #[tactic(auto, unfolding(crate::specs::Tables::sections))]
+    #[tactic(auto, unfolding(crate::specs::Tables::sections, crate::specs::Tables::sections_from))]
     pub fn sections(&self) -> Sections<'a>
         ensures sections { result ≡ sections self.now }
         ensures fit { All (Fits self.now) result }
     {
-        Sections::new(self.walk())
+        Sections {
+            walk: self.walk(),
+            form: self.encoding,
+            place: 0,
+            left: 0,
+        }
     }
 
     /// Returns the ranges of the link-edit data that load commands locate, in the order of the commands.
@@ -211,7 +211,11 @@ impl<'a> MachoFile<'a> {
     pub fn link_edit_parts(&self) -> LinkEditParts<'a>
         ensures { result ≡ link_edit_parts self.now }
     {
-        LinkEditParts::new(self.walk())
+        LinkEditParts {
+            walk: self.walk(),
+            command: None,
+            next: 0,
+        }
     }
 
     /// Returns load command `k`.
@@ -268,11 +272,16 @@ impl<'a> MachoFile<'a> {
     }
 
     // Returns the symbol table of the file. TablePastEnd if the symbols or the string table end after the file.
-    fn table(&self) -> Result<SymbolTable, BadFile>
-        ensures value { result ≡ table self.now }
-        ensures known { IfOk result (λ t. HasTable self.now t) }
+    fn table(&self) -> Result<FileTable<'a>, BadFile>
+        ensures fields { Gives (λ t. t.fields) result (table self.now) }
+        ensures file { IfOk result (λ t. t.file.now ≡ self.now) }
     {
-        table_of(self.file, self.encoding, self.found.symtab)
+        let fields = table_of(self.file, self.encoding, self.found.symtab)?;
+        Ok(FileTable {
+            file: self.file,
+            encoding: self.encoding,
+            fields,
+        })
     }
 
     /// Returns the number of symbols in the first LC_SYMTAB, and 0 if there is none. TablePastEnd at the
@@ -282,7 +291,7 @@ impl<'a> MachoFile<'a> {
         ensures { result ≡ symbol_count self.now }
     {
         let table = self.table()?;
-        Ok(table.nsyms)
+        Ok(table.fields.nsyms)
     }
 
     /// Returns symbol `k`. NameOutside at the symbol if its name has no terminating zero byte in the
@@ -293,7 +302,7 @@ impl<'a> MachoFile<'a> {
         ensures { Gives symbol_shown result (symbol_at self.now k) }
     {
         let table = self.table()?;
-        let symbol = symbol_of(self.file, self.encoding, table, k)?;
+        let symbol = table.symbol(k)?;
         Ok(MachoSymbol::of(symbol))
     }
 
@@ -304,9 +313,7 @@ impl<'a> MachoFile<'a> {
     /// (TablePastEnd), or otherwise that of the first symbol with one (NameOutside), whether or not it takes
     /// part.
     pub fn spans(&self, alloc: Global) -> Result<Vec<SymbolSpan<'a>>, SpanAnswer>
-        ensures { MatchResult result
-            (λ v. spans self.now ≡ Ok (map span_shown v.items))
-            (λ e. ForBad e (λ bad. spans self.now ≡ Err bad)) }
+        ensures { Reads (λ v. map span_shown v.items) result (spans self.now) }
     {
         let named = self.named_spans(alloc)?;
         let spans = without_offsets(alloc, &named)?;
@@ -316,14 +323,12 @@ impl<'a> MachoFile<'a> {
     /// Returns the spans as `spans` does, each with a file offset at which the text is its name.
     #[tactic(auto, unfolding(crate::specs::Spans::spans))]
     pub fn named_spans(&self, alloc: Global) -> Result<Vec<NamedSpan<'a>>, SpanAnswer>
-        ensures spans { MatchResult result
-            (λ v. spans self.now ≡ Ok (map named_shown v.items))
-            (λ e. ForBad e (λ bad. spans self.now ≡ Err bad)) }
+        ensures spans { Reads (λ v. map named_shown v.items) result (spans self.now) }
         ensures names { IfOk result (λ v. AreNamedSpans self.now v.items) }
     {
         let table = self.table()?;
         let extents = extents_of(alloc, self.sections())?;
-        let spans = spans_of_table(alloc, self.file, self.encoding, table, &extents)?;
+        let spans = spans_of_table(alloc, table, &extents)?;
         Ok(spans)
     }
 }

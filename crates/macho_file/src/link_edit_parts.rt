@@ -16,9 +16,9 @@ use std::marker::Model;
 /// The ranges of the link-edit data that `next` has not returned yet, in the order of the commands.
 #[derive(Drop)]
 pub struct LinkEditParts<'a> {
-    walk: Walk<'a>,
-    command: Option<Command>,
-    next: u32,
+    pub(crate) walk: Walk<'a>,
+    pub(crate) command: Option<Command>,
+    pub(crate) next: u32,
 }
 
 impl<'a> Model for LinkEditParts<'a> {
@@ -34,18 +34,6 @@ impl<'a> Model for LinkEditParts<'a> {
         ++ flat_map (parts_of p.walk.file) p.walk.rest };
 
     ghost invariant = { λ p. IsSomeInside p.walk.file p.command };
-}
-
-impl<'a> LinkEditParts<'a> {
-    pub(crate) fn new(walk: Walk<'a>) -> LinkEditParts<'a>
-        ensures { result ≡ flat_map (parts_of walk.entry.file) walk.entry.rest }
-    {
-        LinkEditParts {
-            walk,
-            command: None,
-            next: 0,
-        }
-    }
 }
 
 /// Returns range `i` of a command, and none if there is no command.

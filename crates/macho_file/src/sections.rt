@@ -17,10 +17,10 @@ use std::marker::Model;
 /// The sections of all segments that `next` has not returned yet, in file order.
 #[derive(Drop)]
 pub struct Sections<'a> {
-    walk: Walk<'a>,
-    form: Encoding,
-    place: u64,
-    left: u32,
+    pub(crate) walk: Walk<'a>,
+    pub(crate) form: Encoding,
+    pub(crate) place: u64,
+    pub(crate) left: u32,
 }
 
 impl<'a> Model for Sections<'a> {
@@ -35,20 +35,6 @@ impl<'a> Model for Sections<'a> {
         ++ flat_map (sections_of s.walk.file) s.walk.rest };
 
     ghost invariant = { λ s. s.place + s.left * section_len s.form ≤ length s.walk.file };
-}
-
-impl<'a> Sections<'a> {
-    #[tactic(auto, unfolding(crate::specs::Tables::sections_from))]
-    pub(crate) fn new(walk: Walk<'a>) -> Sections<'a>
-        ensures { result ≡ flat_map (sections_of walk.entry.file) walk.entry.rest }
-    {
-        Sections {
-            form: walk.encoding(),
-            walk,
-            place: 0,
-            left: 0,
-        }
-    }
 }
 
 impl<'a> Iterator for Sections<'a> {

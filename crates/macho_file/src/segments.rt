@@ -38,8 +38,8 @@ pub fn next_segment(walk: &mut Walk<'_>) -> Option<Command>
 /// The segments that `next` has not returned yet, in file order.
 #[derive(Drop)]
 pub struct Segments<'a> {
-    walk: Walk<'a>,
-    first: u32,
+    pub(crate) walk: Walk<'a>,
+    pub(crate) first: u32,
 }
 
 impl<'a> Model for Segments<'a> {
@@ -53,15 +53,6 @@ impl<'a> Model for Segments<'a> {
 
     ghost invariant = { λ s.
         s.first + length (flat_map (sections_of s.walk.file) s.walk.rest) < 2 ^ 32 };
-}
-
-impl<'a> Segments<'a> {
-    pub(crate) fn new(walk: Walk<'a>) -> Segments<'a>
-        requires { length (flat_map (sections_of walk.file) walk.rest) < 2 ^ 32 }
-        ensures { result ≡ segments_from walk.entry.file 0 walk.entry.rest }
-    {
-        Segments { walk, first: 0 }
-    }
 }
 
 impl<'a> Iterator for Segments<'a> {

@@ -1,5 +1,5 @@
 -- The symbols of a table that take part.
-use Rattle.std.specs.Prelude.{◌≡◌, ℕ, All, List, ◌++◌, Result, Ok, true}
+use Rattle.std.specs.Prelude.{◌≡◌, ℕ, All, List, ◌++◌, Result, Ok, Err, MatchResult, true}
 use Rattle.std.specs.List.{filter}
 use Rattle.size_core.specs.declared.fault.BadFile.{BadFile}
 use Rattle.size_core.specs.Checks.{◌>>=◌}
@@ -26,6 +26,10 @@ prepend front reading = do
 abbrev pub ForBad : SpanAnswer → (BadFile → Type 0) → Type 0
 ForBad (Bad bad) P = P bad
 ForBad NoMemory P = Unit {0}
+
+-- The result is this reading: its value, or its fault, unless there was not enough memory.
+abbrev pub Reads : {X Y : Type 0} → (X → Y) → Result X SpanAnswer → Result Y BadFile → Type 0
+Reads shown result reading = MatchResult result (λ x. reading ≡ Ok (shown x)) (λ e. ForBad e (λ bad. reading ≡ Err bad))
 
 -- Each of these symbols takes part.
 pub record TakePart (all : List Extent) (taking : List SymbolRecord) : Type 0 where

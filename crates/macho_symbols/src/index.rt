@@ -1,8 +1,6 @@
 //! An index of symbols by position.
 
-ghost use Rattle.std.specs.Prelude.{◌≡◌, ◌+◌, ◌*◌, ◌≤◌, ◌<◌, ◌^◌, IfOk, length, map, nat_lt, nat_le, true, false};
-ghost use Rattle.std.specs.List.Sorted.{IsNonDecreasingBy, IsPartitionPoint};
-ghost use Rattle.macho_symbols.specs.declared.index.Key.{Key as KeySpec};
+ghost use Rattle.std.specs.Prelude.{◌≡◌, ◌+◌, ◌*◌, ◌<◌, ◌^◌, IfOk, length, map};
 ghost use Rattle.macho_symbols.specs.Index.{AreAddresses, IsIndex, keys_from, position};
 ghost use Rattle.macho_symbols.specs.Shown.{placed_shown};
 
@@ -53,28 +51,4 @@ pub fn index_of(alloc: Global, symbols: &[PlacedSymbol<'_>]) -> Result<Vec<Key>,
     let mut keys = keys_of(alloc, symbols)?;
     keys.sort_by_key(|key| key.position)?;
     Ok(keys)
-}
-
-/// Returns how many keys are below a position.
-pub fn keys_before(keys: &[Key], position: u128) -> usize
-    requires { IsNonDecreasingBy (λ (k : KeySpec). k.position) keys.now }
-    ensures bound { result ≤ length keys.now }
-    ensures point { IsPartitionPoint
-        (λ (k : KeySpec). nat_lt k.position position ≡ true)
-        (λ (k : KeySpec). nat_lt k.position position ≡ false)
-        keys.now result }
-{
-    keys.partition_point(|key| key.position < position)
-}
-
-/// Returns how many keys are at a position or below it.
-pub fn keys_up_to(keys: &[Key], position: u128) -> usize
-    requires { IsNonDecreasingBy (λ (k : KeySpec). k.position) keys.now }
-    ensures bound { result ≤ length keys.now }
-    ensures point { IsPartitionPoint
-        (λ (k : KeySpec). nat_le k.position position ≡ true)
-        (λ (k : KeySpec). nat_le k.position position ≡ false)
-        keys.now result }
-{
-    keys.partition_point(|key| key.position <= position)
 }

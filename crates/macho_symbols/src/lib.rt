@@ -4,6 +4,7 @@
 
 mod answer;
 mod extent;
+mod file_table;
 mod index;
 mod names;
 mod span_symbols;
@@ -13,6 +14,7 @@ mod symbol_table;
 
 pub use answer::SpanAnswer;
 pub use extent::Extent;
+pub use file_table::FileTable;
 pub use spans::{NamedSpan, spans_of_table};
 pub use symbol::PlacedSymbol;
-pub use symbol_table::{SymbolTable, symbol_of, table_at};
+pub use symbol_table::{SymbolTable, table_at};

@@ -1,19 +1,16 @@
 //! The symbols that take part in the search for spans.
 
-ghost use Rattle.std.specs.Prelude.{◌≡◌, ℕ, List, true, ◌+◌, ◌≤◌, ◌<◌, ◌^◌, ◌++◌, ◌∷◌, [], IfOk, MatchResult, OnOk, Ok, Err, length, map, if◌then◌else◌};
-ghost use Rattle.macho_records.specs.Header.{HasHeader};
+ghost use Rattle.std.specs.Prelude.{◌≡◌, ℕ, List, true, ◌+◌, ◌≤◌, ◌<◌, ◌^◌, ◌++◌, ◌∷◌, [], IfOk, OnOk, length, map, if◌then◌else◌};
 ghost use Rattle.macho_symbols.specs.Names.{AreNamed, IsNamed};
 ghost use Rattle.macho_symbols.specs.Shown.{placed_shown};
 ghost use Rattle.macho_symbols.specs.Spans.{extent_numbered, lies_in, takes_part};
-ghost use Rattle.macho_symbols.specs.Symbols.{HasTable};
-ghost use Rattle.macho_symbols.specs.Taken.{ForBad, taken_from};
+ghost use Rattle.macho_symbols.specs.Taken.{Reads, taken_from};
 
 use crate::answer::SpanAnswer;
 use crate::extent::Extent;
+use crate::file_table::FileTable;
 use crate::names::Names;
 use crate::symbol::PlacedSymbol;
-use crate::symbol_table::{SymbolTable, next_symbol, strings_of};
-use byte_cursor::Encoding;
 use macho_records::{N_SECT, N_STAB, N_TYPE};
 use size_core::NoMemory;
 use std::alloc::Global;
@@ -72,23 +69,18 @@ fn push_if_taking_part<'a>(
 #[tactic(auto, using(crate::proofs::NameLemmas::none_named, crate::proofs::TakenLemmas::taken_for_bad, crate::proofs::TakenLemmas::taken_next, crate::proofs::TakenLemmas::taken_bad, crate::proofs::TakenLemmas::taken_end, crate::proofs::TakenLemmas::taken_none, crate::proofs::TakenLemmas::few_more))]
 pub fn symbols_taking_part<'a>(
     alloc: Global,
-    file: &'a [u8],
-    encoding: Encoding,
-    table: SymbolTable,
+    table: FileTable<'a>,
     extents: &[Extent],
 ) -> Result<Vec<PlacedSymbol<'a>>, SpanAnswer>
-    requires header { HasHeader file.now encoding }
-    requires table { HasTable file.now table }
-    ensures value { MatchResult result
-        (λ v. taken_from file.now table extents.now 0 table.nsyms ≡ Ok (map placed_shown v.items))
-        (λ e. ForBad e (λ bad. taken_from file.now table extents.now 0 table.nsyms ≡ Err bad)) }
-    ensures few { IfOk result (λ v. length (map placed_shown v.items) ≤ table.nsyms) }
-    ensures named { IfOk result (λ v. AreNamed file.now v.items) }
+    ensures value { let t = table.entry in Reads (λ v. map placed_shown v.items) result
+        (taken_from t.file.now t.fields extents.now 0 t.fields.nsyms) }
+    ensures few { IfOk result (λ v. length (map placed_shown v.items) ≤ table.entry.fields.nsyms) }
+    ensures named { IfOk result (λ v. AreNamed table.entry.file.now v.items) }
 {
-    let mut names = Names::of(alloc, strings_of(file, table));
+    let mut names = Names::of(alloc, table.strings());
     let mut taking = Vec::new(alloc);
-    'rows: for k in 0..table.nsyms {
-        let symbol = next_symbol(file, encoding, table, k, &mut names)?;
+    'rows: for k in 0..table.fields.nsyms {
+        let symbol = table.next_symbol(k, &mut names)?;
         push_if_taking_part(&mut taking, extents, symbol)?;
     }
     Ok(taking)

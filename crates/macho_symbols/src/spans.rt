@@ -1,23 +1,20 @@
 //! The spans of symbols.
 
-ghost use Rattle.std.specs.Prelude.{◌≡◌, ℕ, List, IfSome, ◌-◌, ◌<◌, ◌^◌, ◌++◌, ◌∷◌, [], IfOk, MatchOption, MatchResult, OnOk, Some, Ok, Err, length, map, not, slice_get, take, true, false, if◌then◌else◌};
+ghost use Rattle.std.specs.Prelude.{◌≡◌, ℕ, List, IfSome, ◌-◌, ◌<◌, ◌^◌, ◌++◌, ◌∷◌, [], IfOk, MatchOption, OnOk, Some, length, map, not, slice_get, take, true, false, if◌then◌else◌};
 ghost use Rattle.std.specs.List.{list_any};
 ghost use Rattle.macho_symbols.specs.Index.{AreAddresses, IsIndex};
 ghost use Rattle.byte_cursor.specs.Numbers.{text};
 ghost use Rattle.macho_symbols.specs.Names.{AreNamed, AreNamedSpans};
 ghost use Rattle.macho_symbols.specs.Shown.{named_shown, placed_shown};
-ghost use Rattle.macho_symbols.specs.Taken.{ForBad, TakePart};
+ghost use Rattle.macho_symbols.specs.Taken.{Reads, TakePart};
 ghost use Rattle.macho_symbols.specs.Spans.{extent_end, extent_numbered, is_at, least_above, span_of, spans_of_taking, table_spans, takes_part};
-ghost use Rattle.macho_symbols.specs.Symbols.{HasTable};
-ghost use Rattle.macho_records.specs.Header.{HasHeader};
 
 use crate::answer::SpanAnswer;
 use crate::extent::Extent;
-use crate::index::{Key, index_of, keys_before, keys_up_to, position};
+use crate::file_table::FileTable;
+use crate::index::{Key, index_of, position};
 use crate::span_symbols::symbols_taking_part;
 use crate::symbol::PlacedSymbol;
-use crate::symbol_table::SymbolTable;
-use byte_cursor::Encoding;
 use size_core::NoMemory;
 use std::alloc::Global;
 
@@ -50,7 +47,8 @@ fn is_first(symbols: &[PlacedSymbol<'_>], keys: &[Key], i: usize, symbol: &Place
     ensures { result
         ≡ not (list_any (is_at (placed_shown symbol.now)) (take i (map placed_shown symbols.now))) }
 {
-    let first = keys_before(keys, position(symbol));
+    let at = position(symbol);
+    let first = keys.partition_point(|key| key.position < at);
     keys[first].number as usize == i
 }
 
@@ -60,7 +58,8 @@ fn next_value(symbols: &[PlacedSymbol<'_>], keys: &[Key], symbol: &PlacedSymbol<
     requires addresses { AreAddresses (map placed_shown symbols.now) }
     ensures { result ≡ least_above (placed_shown symbol.now) (map placed_shown symbols.now) }
 {
-    let next = keys_up_to(keys, position(symbol));
+    let at = position(symbol);
+    let next = keys.partition_point(|key| key.position <= at);
     if next >= keys.len() {
         return None;
     }
@@ -182,19 +181,14 @@ fn spans_of<'a>(
 #[tactic(auto, using(crate::proofs::SpanLemmas::spans_are, crate::proofs::SpanLemmas::taken_part))]
 pub fn spans_of_table<'a>(
     alloc: Global,
-    file: &'a [u8],
-    encoding: Encoding,
-    table: SymbolTable,
+    table: FileTable<'a>,
     extents: &[Extent],
 ) -> Result<Vec<NamedSpan<'a>>, SpanAnswer>
-    requires header { HasHeader file.now encoding }
-    requires table { HasTable file.now table }
-    ensures spans { MatchResult result
-        (λ v. table_spans file.now table extents.now ≡ Ok (map named_shown v.items))
-        (λ e. ForBad e (λ bad. table_spans file.now table extents.now ≡ Err bad)) }
-    ensures names { IfOk result (λ v. AreNamedSpans file.now v.items) }
+    ensures spans { Reads (λ v. map named_shown v.items) result
+        (table_spans table.entry.file.now table.entry.fields extents.now) }
+    ensures names { IfOk result (λ v. AreNamedSpans table.entry.file.now v.items) }
 {
-    let taking = symbols_taking_part(alloc, file, encoding, table, extents)?;
+    let taking = symbols_taking_part(alloc, table, extents)?;
     let spans = spans_of(alloc, extents, &taking)?;
     Ok(spans)
 }

@@ -1,29 +1,17 @@
 -- Rows in order, and rows that are inserted into them.
-use Rattle.std.specs.Prelude.{◌≡◌, ◌+◌, ◌<◌, ◌≤◌, ◌^◌, ◌-◌, ◌⊎◌, ℕ, Bool, true, false, if◌then◌else◌, List, [], ◌∷◌, ◌++◌, length, slice_index_or, All}
+use Rattle.std.specs.Prelude.{◌≡◌, ◌+◌, ◌<◌, ◌≤◌, ◌^◌, ◌-◌, ◌⊎◌, ℕ, Bool, false, if◌then◌else◌, List, [], ◌∷◌, ◌++◌, length, slice_index_or, All}
 use Rattle.std.specs.List.{sum_by, AllByRecursion}
-use Rattle.std.specs.List.Sorted.{IsPartitionPoint, IsPermutation, IsStrictlySortedBy}
-use Rattle.std.specs.Ordering.{is_gt, is_le, is_lt}
+use Rattle.std.specs.List.Sorted.{IsPermutation, IsStrictlySortedBy}
+use Rattle.std.specs.Ordering.{is_lt}
 use Rattle.std.specs.declared.cmp.Ordering.{Ordering}
 use Rattle.std.specs.declared.cmp.Ordering.TheVariants.{Less, Equal, Greater}
 use Rattle.path_rows.specs.declared.row.RollupRow.{RollupRow}
-use Rattle.path_rows.specs.Paths.{is_path, path_cmp, row_cmp}
+use Rattle.path_rows.specs.Paths.{is_path, row_cmp}
 use Rattle.path_rows.specs.Sums.{file_where, vm_where}
 
 -- The order of rows by their paths, the greatest first.
 abbrev pub falling : RollupRow → RollupRow → Ordering
 falling a b = row_cmp b a
-
--- Whether the path of a row is above this path.
-abbrev pub is_above : List (List ℕ) → RollupRow → Bool
-is_above p r = is_gt (path_cmp r.path p)
-
--- Whether the path of a row is at most this path.
-abbrev pub is_upto : List (List ℕ) → RollupRow → Bool
-is_upto p r = is_le (path_cmp r.path p)
-
--- A test holds of the first n rows, and of no other.
-abbrev pub Splits : (RollupRow → Bool) → List RollupRow → ℕ → Type 0
-Splits test rows n = IsPartitionPoint (λ r. test r ≡ true) (λ r. test r ≡ false) rows n
 
 -- A row with the sizes of another one added to its own.
 abbrev pub larger : RollupRow → RollupRow → RollupRow

@@ -1,11 +1,11 @@
 //! Merges rows into a sorted list of rows, in which each path is once.
 
 ghost use Rattle.std.specs.Prelude.{false, ◌≡◌, ◌+◌, ◌-◌, ◌<◌, ◌≤◌, [], ◌∷◌, ◌++◌, OnOk, OnErr, length, reverse, drop, take, vec_len, vec_capacity};
-ghost use Rattle.std.specs.List.Sorted.{IsSorted, IsStrictlySortedBy, IsPartitionedBy};
+ghost use Rattle.std.specs.List.Sorted.{IsSorted, IsStrictlySortedBy};
 ghost use Rattle.std.specs.Ordering.{is_lt};
-ghost use Rattle.path_rows.specs.Paths.{path_cmp, row_cmp};
-ghost use Rattle.path_rows.specs.Rows.{Climbs, EndsUpto, EndsUptoFirst, FitTogether, Splits};
-ghost use Rattle.path_rows.specs.Rows.{enlarged, falling, is_above, is_upto, joins_last, pushed, with_row, with_rows};
+ghost use Rattle.path_rows.specs.Paths.{row_cmp};
+ghost use Rattle.path_rows.specs.Rows.{Climbs, EndsUpto, EndsUptoFirst, FitTogether};
+ghost use Rattle.path_rows.specs.Rows.{falling, joins_last, pushed, with_row, with_rows};
 
 use crate::order::compare_paths;
 use crate::row::RollupRow;
@@ -32,43 +32,12 @@ fn move_after(rows: &mut Vec<RollupRow>, kept: usize, to: &mut Vec<RollupRow>)
     }
 }
 
-// How many of these rows are above a path. The greatest path is first.
-fn count_above(rows: &[RollupRow], path: &Path) -> usize
-    requires { IsPartitionedBy (is_above path.now) rows.now }
-    ensures bound { result ≤ length rows.now }
-    ensures split { Splits (is_above path.now) rows.now result }
-{
-    rows.partition_point(|row| compare_paths(&row.path, path).is_gt())
-}
-
-// How many of these rows are not above a path. The least path is first.
-fn count_upto(rows: &[RollupRow], path: &Path) -> usize
-    requires { IsPartitionedBy (is_upto path.now) rows.now }
-    ensures bound { result ≤ length rows.now }
-    ensures split { Splits (is_upto path.now) rows.now result }
-{
-    rows.partition_point(|row| compare_paths(&row.path, path).is_le())
-}
-
 fn joins(rows: &[RollupRow], path: &Path) -> bool
     ensures { result ≡ joins_last rows.now path.now }
 {
     match rows.last() {
         Some(last) => compare_paths(&last.path, path) == Ordering::Equal,
         None => false,
-    }
-}
-
-// Adds the sizes of a row to those of the last one.
-fn enlarge(rows: &mut Vec<RollupRow>, row: &RollupRow)
-    requires { FitTogether rows.old.items (row.now ∷ []) }
-    ensures rows { rows.new.items ≡ enlarged rows.old.items row.now }
-    ensures len { vec_len rows.new ≡ vec_len rows.old }
-    ensures capacity { vec_capacity rows.new ≡ vec_capacity rows.old }
-{
-    if let Some(last) = rows.last_mut() {
-        last.vm += row.vm;
-        last.file += row.file;
     }
 }
 
@@ -81,7 +50,10 @@ fn push(rows: &mut Vec<RollupRow>, row: RollupRow)
     ensures capacity { vec_capacity rows.new ≡ vec_capacity rows.old }
 {
     if joins(rows.as_slice(), &row.path) {
-        enlarge(rows, &row);
+        if let Some(last) = rows.last_mut() {
+            last.vm += row.vm;
+            last.file += row.file;
+        }
     } else {
         rows.push_reserved(row);
     }
@@ -101,7 +73,7 @@ fn insert(rows: &mut Vec<RollupRow>, above: &mut Vec<RollupRow>, row: RollupRow)
         ≤ vec_len rows.old + vec_len above.old + 1 }
     ensures capacity { vec_capacity rows.new ≡ vec_capacity rows.old }
 {
-    let kept = count_above(above.as_slice(), &row.path);
+    let kept = above.partition_point(|old| compare_paths(&old.path, &row.path).is_gt());
     move_after(above, kept, rows);
     push(rows, row);
 }
@@ -129,7 +101,7 @@ fn count_below(rows: &[RollupRow], new: &[RollupRow]) -> usize
     ensures ends { EndsUptoFirst (take result rows.now) (reverse new.now) }
 {
     match new.last() {
-        Some(row) => count_upto(rows, &row.path),
+        Some(row) => rows.partition_point(|old| compare_paths(&old.path, &row.path).is_le()),
         None => rows.len(),
     }
 }

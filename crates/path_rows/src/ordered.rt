@@ -3,7 +3,7 @@
 ghost use Rattle.std.specs.Prelude.{◌≡◌, ◌+◌, ◌^◌, ◌<◌, [], ◌∷◌, ◌++◌, Some, IfOk, OnOk, OnErr, length, map, reverse, slice_get};
 ghost use Rattle.std.specs.List.Sorted.{IsSorted, IsStrictlySortedBy};
 ghost use Rattle.path_rows.specs.Paths.{row_cmp};
-ghost use Rattle.path_rows.specs.Parts.{alone};
+ghost use Rattle.path_rows.specs.Parts.{AreAlone, alone, rows_at};
 ghost use Rattle.path_rows.specs.Rows.{FitTogether, Merges, falling, with_rows};
 ghost use Rattle.path_rows.specs.Tree.{rows_in};
 
@@ -77,13 +77,11 @@ fn plant(alloc: Global, list: &mut Vec<RollupRow>, tree: &mut Tree) -> Result<()
 
 // Inserts the rows of branches into a tree, the last one first.
 fn insert_all(tree: &mut Tree, mut branches: Vec<Box<Branch>>)
-    requires alone { map (λ b. b.value) branches.items
-        ≡ map (λ b. alone b.value.row) branches.items }
+    requires alone { AreAlone branches.items }
     requires ordered { IsStrictlySortedBy row_cmp (rows_in tree.old) }
-    requires fits { FitTogether (rows_in tree.old) (map (λ b. b.value.row) branches.items) }
+    requires fits { FitTogether (rows_in tree.old) (rows_at branches.items) }
     requires count { length (rows_in tree.old) + length branches.items < 2 ^ 64 }
-    ensures { rows_in tree.new
-        ≡ with_rows (rows_in tree.old) (reverse (map (λ b. b.value.row) branches.items)) }
+    ensures { rows_in tree.new ≡ with_rows (rows_in tree.old) (reverse (rows_at branches.items)) }
 {
     while branches.len() > 0 {
         let count = rising(branches.as_slice());

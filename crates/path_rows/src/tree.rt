@@ -1,10 +1,10 @@
 //! Rows in the order of their paths, in a balanced tree.
 
-ghost use Rattle.std.specs.Prelude.{◌≡◌, ◌+◌, ◌-◌, ◌^◌, ◌<◌, ◌≤◌, Some, [], ◌∷◌, ◌++◌, length, map, reverse, slice_get, vec_len, IfErr, IfOk, IsTrue};
+ghost use Rattle.std.specs.Prelude.{◌≡◌, ◌+◌, ◌-◌, ◌^◌, ◌<◌, ◌≤◌, Some, [], ◌∷◌, ◌++◌, length, reverse, slice_get, vec_len, IfErr, IfOk, IsTrue};
 ghost use Rattle.std.specs.List.Sorted.{IsStrictlySortedBy};
 ghost use Rattle.path_rows.specs.Paths.{row_cmp};
 ghost use Rattle.path_rows.specs.Rows.{FitTogether, IsSplit, RisesAt, RisesFrom, larger, with_rows};
-ghost use Rattle.path_rows.specs.Parts.{IsAlone, all_of, alone};
+ghost use Rattle.path_rows.specs.Parts.{AreAlone, IsAlone, all_of, alone, rows_at};
 ghost use Rattle.path_rows.specs.Tree.{rows_in};
 
 use crate::order::compare_paths;
@@ -66,7 +66,7 @@ impl Tree {
     {
         match self {
             Tree::Leaf => 0,
-            Tree::Fork(top) => top.len(),
+            Tree::Fork(top) => top.len,
         }
     }
 
@@ -106,20 +106,11 @@ impl Branch {
         };
         match Box::new(alloc, branch) {
             Ok(branch) => Ok(branch),
-            Err(failed) => Err(failed.value.into_row()),
+            Err(failed) => {
+                let branch = failed.value;
+                Err(branch.row)
+            }
         }
-    }
-
-    fn into_row(self) -> RollupRow
-        ensures { result ≡ self.row }
-    {
-        self.row
-    }
-
-    fn len(&self) -> usize
-        ensures { result ≡ length (all_of self.now) }
-    {
-        self.len
     }
 
     // Compares the paths of two rows, by their first bytes if these differ.
@@ -395,13 +386,11 @@ pub fn unite(rows: Tree, new: Tree) -> Tree
 
 /// Makes a balanced tree of the last branches of a list, each of one row. The last one of the list becomes the least.
 pub fn build(branches: &mut Vec<Box<Branch>>, count: usize) -> Tree
-    requires alone { map (λ b. b.value) branches.old.items
-        ≡ map (λ b. alone b.value.row) branches.old.items }
+    requires alone { AreAlone branches.old.items }
     requires count { count ≤ vec_len branches.old }
-    ensures rows { map (λ b. b.value.row) branches.old.items
-        ≡ map (λ b. b.value.row) branches.new.items ++ reverse (rows_in result) }
-    ensures alone { map (λ b. b.value) branches.new.items
-        ≡ map (λ b. alone b.value.row) branches.new.items }
+    ensures rows { rows_at branches.old.items
+        ≡ rows_at branches.new.items ++ reverse (rows_in result) }
+    ensures alone { AreAlone branches.new.items }
     ensures count { length (rows_in result) ≡ count }
     ensures len { vec_len branches.new + count ≡ vec_len branches.old }
 {
@@ -422,8 +411,7 @@ pub fn build(branches: &mut Vec<Box<Branch>>, count: usize) -> Tree
 fn climbs(branches: &[Box<Branch>], count: usize) -> bool
     requires some { 0 < count }
     requires within { count < length branches.now }
-    ensures { IsTrue result
-        → RisesAt (map (λ b. b.value.row) branches.now) (length branches.now - count - 1) }
+    ensures { IsTrue result → RisesAt (rows_at branches.now) (length branches.now - count - 1) }
 {
     let next = branches.len() - count;
     branches[next].compare(&branches[next - 1]) == Ordering::Less
@@ -434,8 +422,7 @@ pub fn rising(branches: &[Box<Branch>]) -> usize
     requires some { 0 < length branches.now }
     ensures some { 0 < result }
     ensures bound { result ≤ length branches.now }
-    ensures rising { RisesFrom (map (λ b. b.value.row) branches.now)
-        (length branches.now - result) }
+    ensures rising { RisesFrom (rows_at branches.now) (length branches.now - result) }
 {
     let mut count = 1;
     while count < branches.len() {

@@ -1,5 +1,5 @@
 -- Claims by number, with their labels.
-use Rattle.std.specs.Prelude.{◌<◌, ◌≤◌, ◌-◌, ℕ, List, length, get_or}
+use Rattle.std.specs.Prelude.{◌<◌, ◌≤◌, ◌-◌, ℕ, List, All, length, get_or}
 use Rattle.size_core.specs.declared.claim.Claim.{Claim}
 use Rattle.size_core.specs.declared.claim.Side.TheVariants.{Both}
 use Rattle.size_core.specs.declared.claim.Span.{Span}
@@ -11,6 +11,10 @@ use Rattle.place_explain.specs.declared.named.NamedClaim.{NamedClaim}
 pub record IsNumber (claims : List Claim) (n : ℕ) : Type 0 where
   pub above : 0 < n
   pub within : n ≤ length claims
+
+-- The label of each claim is a number of the pool.
+abbrev pub AreNumbered : List (List ℕ) → List Claim → Type 0
+AreNumbered pool claims = All (λ (c : Claim). c.label < length pool) claims
 
 -- An empty span.
 abbrev pub no_span : Span

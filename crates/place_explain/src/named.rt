@@ -1,10 +1,9 @@
 //! The claims that cover a byte, with their numbers and labels.
 
 ghost use Rattle.std.specs.Prelude.{◌≡◌, ◌+◌, ◌<◌, ◌==◌, min, if◌then◌else◌, All, IfOk, IsTrue, length, map};
-ghost use Rattle.size_core.specs.declared.claim.Claim.{Claim as ClaimSpec};
 ghost use Rattle.size_model.specs.Numbered.{numbered_view, text_of};
 ghost use Rattle.place_explain.specs.Explanation.{explained, label_of_first};
-ghost use Rattle.place_explain.specs.Naming.{named_at, IsNumber};
+ghost use Rattle.place_explain.specs.Naming.{named_at, AreNumbered, IsNumber};
 ghost use Rattle.place_explain.specs.Numbers.{within_limit};
 ghost use Rattle.place_explain.specs.Places.{is_inside};
 
@@ -65,25 +64,6 @@ pub struct NumberedClaims<'c, 'p> {
     pub unmapped: usize,
 }
 
-// The claim with this number, and its label.
-fn named_claim(
-    alloc: Global,
-    claims: &[Claim],
-    pool: &LabelPool,
-    number: u64,
-) -> Result<NamedClaim, NoMemory>
-    requires numbered { All (λ (c : ClaimSpec). c.label < length pool.now) claims.now }
-    requires number { IsNumber claims.now number }
-    ensures { IfOk result (λ c. c ≡ named_at pool.now claims.now number) }
-{
-    let claim = &claims[number as usize - 1];
-    Ok(NamedClaim {
-        number,
-        side: claim.side,
-        label: Bytes::of(alloc, pool.get(claim.label))?,
-    })
-}
-
 // The number of claims that a limit keeps of `len` claims. A limit of 0 keeps all.
 fn count_within(limit: u32, len: usize) -> usize
     ensures { result ≡ (if limit == 0 then len else min len (limit + 1)) }
@@ -95,41 +75,48 @@ fn count_within(limit: u32, len: usize) -> usize
     }
 }
 
-// The claims with these numbers, as far as the limit keeps them.
-fn named_claims(
-    alloc: Global,
-    numbers: &Numbers,
-    claims: &[Claim],
-    pool: &LabelPool,
-    limit: u32,
-) -> Result<NamedClaims, NoMemory>
-    requires numbered { All (λ (c : ClaimSpec). c.label < length pool.now) claims.now }
-    requires numbers { All (IsNumber claims.now) numbers.now }
-    ensures { IfOk result (λ v. v
-        ≡ map (named_at pool.now claims.now) (within_limit limit numbers.now)) }
-{
-    let mut named = NamedClaims::new(alloc);
-    for k in 0..count_within(limit, numbers.len()) {
-        let claim = named_claim(alloc, claims, pool, *numbers.get(k))?;
-        named.push(claim)?;
+impl NumberedClaims<'_, '_> {
+    // The claim with this number, and its label.
+    fn named_claim(self, alloc: Global, number: u64) -> Result<NamedClaim, NoMemory>
+        requires numbered { AreNumbered self.pool.now self.claims.now }
+        requires number { IsNumber self.claims.now number }
+        ensures { IfOk result
+            (λ c. c ≡ named_at self.entry.pool.now self.entry.claims.now number) }
+    {
+        let claim = &self.claims[number as usize - 1];
+        Ok(NamedClaim {
+            number,
+            side: claim.side,
+            label: Bytes::of(alloc, self.pool.get(claim.label))?,
+        })
     }
-    Ok(named)
-}
 
-// The label of the first of these claims, or else the label for uncovered bytes.
-fn label_of_first(
-    alloc: Global,
-    claims: &NamedClaims,
-    pool: &LabelPool,
-    unmapped: usize,
-) -> Result<Bytes, NoMemory>
-    requires { unmapped < length pool.now }
-    ensures { IfOk result (λ b. b ≡ label_of_first (text_of pool.now unmapped) claims.now) }
-{
-    if claims.len() == 0 {
-        return Bytes::of(alloc, pool.get(unmapped));
+    // The claims with these numbers, as far as the limit keeps them.
+    fn named(self, alloc: Global, numbers: &Numbers, limit: u32) -> Result<NamedClaims, NoMemory>
+        requires numbered { AreNumbered self.pool.now self.claims.now }
+        requires numbers { All (IsNumber self.claims.now) numbers.now }
+        ensures { IfOk result (λ v. v ≡ map (named_at self.entry.pool.now self.entry.claims.now)
+            (within_limit limit numbers.now)) }
+    {
+        let mut named = NamedClaims::new(alloc);
+        for k in 0..count_within(limit, numbers.len()) {
+            let claim = self.named_claim(alloc, *numbers.get(k))?;
+            named.push(claim)?;
+        }
+        Ok(named)
     }
-    claims.get(0).label.copy()
+
+    // The label of the first of these claims, or else the label for uncovered bytes.
+    fn label_of_first(self, alloc: Global, claims: &NamedClaims) -> Result<Bytes, NoMemory>
+        requires { self.unmapped < length self.pool.now }
+        ensures { IfOk result (λ b. b
+            ≡ label_of_first (text_of self.entry.pool.now self.entry.unmapped) claims.now) }
+    {
+        if claims.len() == 0 {
+            return Bytes::of(alloc, self.pool.get(self.unmapped));
+        }
+        claims.get(0).label.copy()
+    }
 }
 
 /// The explanation of a byte of the file of this base by a data source, before labels are rewritten. A `limit` above 0
@@ -142,22 +129,16 @@ pub fn explain_source(
     limit: u32,
 ) -> Result<Explained, NoMemory>
     requires inside { IsTrue (is_inside base.now.len base.now.loads place.now) }
-    requires numbered { All (λ (c : ClaimSpec). c.label < length source.pool.now)
-        source.claims.now }
+    requires numbered { AreNumbered source.pool.now source.claims.now }
     requires unmapped { source.unmapped < length source.pool.now }
     ensures { IfOk result (λ e. e
         ≡ explained base.now.len base.now.loads place.now limit
         (numbered_view source.entry.pool.now source.entry.claims.now source.entry.unmapped)) }
 {
-    let NumberedClaims {
-        claims,
-        pool,
-        unmapped,
-    } = source;
     let file_len = base.len();
-    let numbers = explain(alloc, base, file_len, claims, place)?;
-    let claims = named_claims(alloc, &numbers, claims, pool, limit)?;
-    let label = label_of_first(alloc, &claims, pool, unmapped)?;
+    let numbers = explain(alloc, base, file_len, source.claims, place)?;
+    let claims = source.named(alloc, &numbers, limit)?;
+    let label = source.label_of_first(alloc, &claims)?;
     let more = (numbers.len() - claims.len()) as u64;
     Ok(Explained {
         label,

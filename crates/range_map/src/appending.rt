@@ -2,19 +2,11 @@
 
 ghost use Rattle.std.specs.Prelude.{◌≡◌, ◌+◌, ◌-◌, ◌^◌, ◌<◌, ◌≤◌, [], ◌∷◌, ◌++◌, OnOk};
 ghost use Rattle.size_model.specs.Cut.{IsLaid, IsTidy, end_of};
-ghost use Rattle.range_map.specs.Emit.{Fills, touches, joins_last, lengthened};
+ghost use Rattle.range_map.specs.Emit.{Fills, joins_last, lengthened};
 ghost use Rattle.range_map.specs.Ranges.{EndsBy};
 
 use size_model::Piece;
 use std::alloc::AllocError;
-
-// Whether two pieces are adjacent and have the same label.
-fn touches(last: &Piece, piece: &Piece) -> bool
-    requires { end_of last.now ≤ piece.now.start }
-    ensures { result ≡ touches last.now piece.now }
-{
-    last.start + last.len == piece.start && last.label == piece.label
-}
 
 // Whether the last piece is adjacent to the new one and has its label.
 fn joins(out: &[Piece], piece: &Piece) -> bool
@@ -22,7 +14,7 @@ fn joins(out: &[Piece], piece: &Piece) -> bool
     ensures { result ≡ joins_last out.now piece.now }
 {
     match out.last() {
-        Some(last) => touches(last, piece),
+        Some(last) => last.start + last.len == piece.start && last.label == piece.label,
         None => false,
     }
 }

@@ -5,7 +5,8 @@ ghost use Rattle.size_model.specs.Cut.{end_of, label_in, place_count, IsLaid, Is
 ghost use Rattle.range_map.specs.Ranges.{EndsBy, IsMap, IsRange, KeepsPlaces};
 
 use crate::appending::{emit, fill};
-use crate::sweep::laid;
+use crate::starts::Starts;
+use crate::sweep::pieces_of;
 use size_core::{NoMemory, Steps};
 use size_model::Piece;
 use std::alloc::Global;
@@ -94,7 +95,8 @@ impl RangeMap {
         ensures laid { IfOk result (IsLaid claims.now) }
         ensures few { IfOk result (λ map. length map ≤ 2 * length claims.now) }
     {
-        let pieces = laid(alloc, claims)?;
+        let starts = Starts::of(alloc, claims)?;
+        let pieces = pieces_of(alloc, claims, &starts)?;
         Ok(RangeMap { alloc, pieces })
     }
 

@@ -69,13 +69,6 @@ fn start_of_pair(starts: &[(u128, usize)], i: usize) -> u128
     }
 }
 
-fn number_of_packed(keys: &[u128], i: usize) -> usize
-    requires { i < length keys.now }
-    ensures { result ≡ number_at (map pair_of keys.now) i }
-{
-    (keys[i] % NUMBERS) as usize
-}
-
 impl Starts {
     /// The starts of these ranges.
     pub fn of(alloc: Global, claims: &[Piece]) -> Result<Starts, AllocError>
@@ -107,7 +100,7 @@ impl Starts {
         ensures { result ≡ number_at (pairs_of self.now) i }
     {
         match self {
-            Starts::Packed(keys) => number_of_packed(keys.as_slice(), i),
+            Starts::Packed(keys) => (keys[i] % NUMBERS) as usize,
             Starts::Pairs(starts) => starts[i].1,
         }
     }

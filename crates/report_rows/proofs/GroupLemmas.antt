@@ -8,6 +8,7 @@ use Rattle.std.proofs.lemmas.List.Sums.{sum_by-cons, sum_by-take-le, sum_by-take
 use Rattle.path_rows.specs.declared.row.RollupRow.{RollupRow}
 use Rattle.report_rows.specs.declared.row.RowKind.{RowKind}
 use Rattle.report_rows.specs.declared.row.RowKind.TheVariants.{Label}
+use Rattle.report_rows.specs.declared.groups.Group.{Group}
 use Rattle.report_rows.specs.declared.groups.Kind.TheVariants as kinds
 use Rattle.report_rows.specs.declared.row.RowOptions.{RowOptions}
 use Rattle.report_rows.specs.Groups.{row_from, table_at, labels_at, IsPart, IsGroup, IsBorder}
@@ -18,6 +19,10 @@ use Rattle.report_rows.specs.Rows.{Entry}
 use Rattle.report_rows.proofs.AscendLemmas.{IsDeep, between}
 use Rattle.report_rows.proofs.RowLemmas.{seen-labels}
 use Rattle.report_rows.proofs.RunLemmas.{IsRun, mid, run-under}
+
+-- The default group, for an index past the end.
+abbrev pub any_group : Group
+any_group = record { key = record { 0 = 0 }; from = 0; to = 0; kind = kinds.Label; vm = 0; file = 0 }
 
 -- The rows that references refer to.
 abbrev pub seen : List (Bor RollupRow) → List RollupRow

@@ -50,11 +50,11 @@ not-below Equal Greater q e = refl
 not-below Greater b q e = refl
 
 -- What the code's comparison means.
-pub upto-in-order : (g h : Group) → is_le (group_ord.ghosts.cmp g h) ≡ true → is_lt (group_cmp h g) ≡ false
-upto-in-order g h e = turn group_cmp group-total h g ∙ not-above (nat_cmp h.key.0 g.key.0) (nat_cmp g.from h.from) _ e
+pub upto-in-order : (g h : Group) (o : Ordering) → o ≡ group_ord.ghosts.cmp g h → is_le o ≡ true → is_lt (group_cmp h g) ≡ false
+upto-in-order g h o is e = turn group_cmp group-total h g ∙ not-above (nat_cmp h.key.0 g.key.0) (nat_cmp g.from h.from) _ (ap is_le (sym is) ∙ e)
 
-pub above-in-order : (g h : Group) → is_le (group_ord.ghosts.cmp g h) ≡ false → is_lt (group_cmp g h) ≡ false
-above-in-order g h e = not-below (nat_cmp h.key.0 g.key.0) (nat_cmp g.from h.from) _ e
+pub above-in-order : (g h : Group) (o : Ordering) → o ≡ group_ord.ghosts.cmp g h → is_le o ≡ false → is_lt (group_cmp g h) ≡ false
+above-in-order g h o is e = not-below (nat_cmp h.key.0 g.key.0) (nat_cmp g.from h.from) _ (ap is_le (sym is) ∙ e)
 
 same-sums : (n m v w f h : ℕ) → n ≡ m → v ≡ w → f ≡ h → ◌≡◌ {A = LeftOut} (record { count = n; vm = v; file = f }) (record { count = m; vm = w; file = h })
 same-sums n m v w f h a b e = rw (a, b, e) refl

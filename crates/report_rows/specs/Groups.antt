@@ -48,6 +48,11 @@ pub record IsPart (depth level : ℕ) (rows : List RollupRow) : Type 0 where
   pub vm_fits : vm_sum rows ≤ 2 ^ 63 - 1
   pub file_fits : file_sum rows ≤ 2 ^ 63 - 1
 
+-- The rows of a part, at one of its levels.
+pub record IsLevel (depth level : ℕ) (rows : List RollupRow) : Type 0 where
+  pub part : IsPart depth level rows
+  pub below : level < depth
+
 -- A group of all rows with one label.
 pub record IsGroup (o : RowOptions) (level : ℕ) (rows : List RollupRow) (g : Group) : Type 0 where
   pub some : g.from < g.to

@@ -2,13 +2,14 @@
 
 ghost use Rattle.std.specs.Prelude.{◌≡◌, ◌≢◌, ◌+◌, ◌-◌, ◌^◌, ◌<◌, ◌≤◌, ◌++◌, [], ◌∷◌, ℕ, All, length, map, filter, get_or, IfOk, OnOk, if◌then◌else◌};
 ghost use Rattle.std.specs.List.Sorted.{IsPermutation, IsSorted};
-ghost use Rattle.report_rows.specs.Groups.{table_at, labels_at, group_cmp, group_label, group_entry, AreFirst, IsPart, IsGroup, IsBorder, IsRange, Fits, others_group};
+ghost use Rattle.report_rows.specs.Groups.{table_at, labels_at, group_cmp, group_label, group_entry, AreFirst, IsLevel, IsGroup, IsBorder, IsRange, Fits, others_group};
 ghost use Rattle.report_rows.specs.Keys.{is_shown};
 ghost use Rattle.report_rows.specs.Rows.{entries_of, has_shown};
 ghost use Rattle.report_rows.specs.Tables.{vm_sum, file_sum, first_labels};
 
 use crate::keys::{is_shown, key};
-use crate::leading::{has_small_limit, leading_entries};
+use crate::leading::{has_small_limit, top_entries};
+use crate::levels::Levels;
 use crate::limits::{Grouped, leaves_out, place};
 use crate::paths::{HasPath, run_len};
 use crate::row::RowOptions;
@@ -70,19 +71,12 @@ impl<'a> HasPath for &'a RollupRow {
 }
 
 /// The group whose first row is at `from`. No earlier row has its label.
-pub fn make_group(
-    options: &RowOptions,
-    depth: u32,
-    rows: &[&RollupRow],
-    level: u32,
-    from: usize,
-) -> Group
-    requires part { IsPart depth level (map (λ r. r.now) rows.now) }
-    requires below { level < depth }
+pub fn make_group(levels: Levels, rows: &[&RollupRow], level: u32, from: usize) -> Group
+    requires part { IsLevel levels.depth level (map (λ r. r.now) rows.now) }
     requires inside { from < length rows.now }
     requires border { IsBorder (labels_at level (map (λ r. r.now) rows.now)) from }
     ensures first { result.from ≡ from }
-    ensures group { IsGroup options.now level (map (λ r. r.now) rows.now) result }
+    ensures group { IsGroup levels.options level (map (λ r. r.now) rows.now) result }
     ensures border { IsBorder (labels_at level (map (λ r. r.now) rows.now)) result.to }
     ensures same { let labels = labels_at level (map (λ r. r.now) rows.now) in
         (k : ℕ) → from ≤ k → k < result.to → get_or labels k [] ≡ get_or labels from [] }
@@ -90,7 +84,7 @@ pub fn make_group(
     let to = from + run_len(&rows[from..], level as usize);
     let (vm, file) = sums(&rows[from..to]);
     Group {
-        key: Reverse(key(options, vm, file)),
+        key: Reverse(key(&levels.options, vm, file)),
         from,
         to,
         kind: Kind::Label,
@@ -112,38 +106,22 @@ fn keep(options: &RowOptions, groups: &mut Vec<Group>, group: Group) -> Result<(
 }
 
 // The groups of a level with a shown size above 0, in the order of the rows.
-fn groups_of(
-    alloc: Global,
-    options: &RowOptions,
-    depth: u32,
-    rows: &[&RollupRow],
-    level: u32,
-) -> Result<Vec<Group>, NoMemory>
-    requires part { IsPart depth level (map (λ r. r.now) rows.now) }
-    requires below { level < depth }
+fn groups_of(levels: Levels, rows: &[&RollupRow], level: u32) -> Result<Vec<Group>, NoMemory>
+    requires { IsLevel levels.depth level (map (λ r. r.now) rows.now) }
     ensures labels { let all = map (λ r. r.now) rows.now in let table = table_at level all in
         IfOk result (λ groups. map (group_label level all) groups.items
-        ≡ filter (has_shown options.now table) (first_labels table)) }
+        ≡ filter (has_shown levels.options table) (first_labels table)) }
     ensures groups { IfOk result
-        (λ groups. All (IsGroup options.now level (map (λ r. r.now) rows.now)) groups.items) }
+        (λ groups. All (IsGroup levels.options level (map (λ r. r.now) rows.now)) groups.items) }
 {
-    let mut groups = Vec::with_capacity(alloc, rows.len())?;
+    let mut groups = Vec::with_capacity(levels.alloc, rows.len())?;
     let mut from = 0;
     while from < rows.len() {
-        let group = make_group(options, depth, rows, level, from);
-        keep(options, &mut groups, group)?;
+        let group = make_group(levels, rows, level, from);
+        keep(&levels.options, &mut groups, group)?;
         from = group.to;
     }
     Ok(groups)
-}
-
-// Sorts groups.
-#[tactic(auto, using(crate::proofs::SortLemmas::derived_sorted))]
-fn sort(groups: &mut Vec<Group>)
-    ensures permutation { IsPermutation groups.old.items groups.new.items }
-    ensures sorted { IsSorted group_cmp groups.new.items }
-{
-    groups.sort_unstable();
 }
 
 // Returns these groups, sorted, and a last one.
@@ -190,47 +168,36 @@ impl Grouped for Group {
 }
 
 // The groups that come first, as many as the limit, with one group for the others. Those aren't sorted.
-fn first_groups(
-    alloc: Global,
-    options: &RowOptions,
-    mut groups: Vec<Group>,
-) -> Result<Vec<Group>, NoMemory>
-    requires some { 0 < options.now.limit }
-    requires more { options.now.limit < length groups.items }
+fn first_groups(levels: Levels, mut groups: Vec<Group>) -> Result<Vec<Group>, NoMemory>
+    requires some { 0 < levels.options.limit }
+    requires more { levels.options.limit < length groups.items }
     requires fits { Fits groups.items }
-    ensures { IfOk result (λ first. AreFirst options.now groups.items first.items) }
+    ensures { IfOk result (λ first. AreFirst levels.options groups.items first.items) }
 {
-    let kept = options.limit as usize;
+    let kept = levels.options.limit as usize;
     let (front, last, left) = groups.select_nth_unstable(kept - 1);
-    let mut first = sorted_with(alloc, front, *last)?;
-    let others = Group::together(options, left);
+    let mut first = sorted_with(levels.alloc, front, *last)?;
+    let others = Group::together(&levels.options, left);
     place(&mut first, others)?;
     Ok(first)
 }
 
 /// The groups of a level of these rows, within the limit, in the order of a report.
-pub fn entries(
-    alloc: Global,
-    options: &RowOptions,
-    depth: u32,
-    rows: &[&RollupRow],
-    level: u32,
-) -> Result<Vec<Group>, NoMemory>
-    requires part { IsPart depth level (map (λ r. r.now) rows.now) }
-    requires below { level < depth }
+pub fn entries(levels: Levels, rows: &[&RollupRow], level: u32) -> Result<Vec<Group>, NoMemory>
+    requires { IsLevel levels.depth level (map (λ r. r.now) rows.now) }
     ensures entries { let all = map (λ r. r.now) rows.now in
         IfOk result (λ groups. map (group_entry level all) groups.items
-        ≡ entries_of options.now (table_at level all)) }
+        ≡ entries_of levels.options (table_at level all)) }
     ensures ranges { IfOk result
         (λ groups. All (IsRange level (map (λ r. r.now) rows.now)) groups.items) }
 {
-    if has_small_limit(options) {
-        return leading_entries(alloc, options, depth, rows, level);
+    if has_small_limit(&levels.options) {
+        return top_entries(levels, rows, level);
     }
-    let mut groups = groups_of(alloc, options, depth, rows, level)?;
-    if leaves_out(options, groups.len()) {
-        return first_groups(alloc, options, groups);
+    let mut groups = groups_of(levels, rows, level)?;
+    if leaves_out(&levels.options, groups.len()) {
+        return first_groups(levels, groups);
     }
-    sort(&mut groups);
+    groups.sort_unstable();
     Ok(groups)
 }

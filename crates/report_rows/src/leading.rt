@@ -5,13 +5,14 @@ ghost use Rattle.std.specs.Prelude.{true, false, ◌≡◌, ◌<◌, ◌≤◌, 
 ghost use Rattle.std.specs.List.Sorted.{IsSorted};
 ghost use Rattle.std.specs.Ordering.{is_lt};
 ghost use Rattle.report_rows.specs.declared.groups.Group.{Group};
-ghost use Rattle.report_rows.specs.Groups.{table_at, group_cmp, group_entry, IsPart, IsRange};
+ghost use Rattle.report_rows.specs.Groups.{table_at, group_cmp, group_entry, IsLevel, IsRange};
 ghost use Rattle.report_rows.specs.Keys.{is_shown};
 ghost use Rattle.report_rows.specs.Leading.{CanAdd, Inserts, Leads, WithOthers, one_group, with_group};
 ghost use Rattle.report_rows.specs.Rows.{entries_of};
 
 use crate::groups::{Group, Kind, make_group};
 use crate::keys::{is_shown, key};
+use crate::levels::Levels;
 use crate::limits::place;
 use crate::row::RowOptions;
 use rollup::RollupRow;
@@ -70,14 +71,6 @@ impl LeftOut {
     }
 }
 
-// Whether a group comes before another in a report, or is equal to it.
-fn comes_first(group: &Group, other: &Group) -> bool
-    ensures yes { result ≡ true → is_lt (group_cmp other.now group.now) ≡ false }
-    ensures no { result ≡ false → is_lt (group_cmp group.now other.now) ≡ false }
-{
-    group.cmp(other).is_le()
-}
-
 // The index after the last group that comes before this one. The search begins at the end, since few groups come
 // before many of those that are kept.
 fn position(kept: &[Group], group: &Group) -> usize
@@ -88,7 +81,7 @@ fn position(kept: &[Group], group: &Group) -> usize
 {
     let mut index = kept.len();
     while index > 0 {
-        if comes_first(&kept[index - 1], group) {
+        if kept[index - 1].cmp(group).is_le() {
             return index;
         }
         index -= 1;
@@ -140,7 +133,7 @@ impl Leading {
             return insert(&mut self.kept, group);
         }
         let last = self.kept[count - 1];
-        if comes_first(&last, &group) {
+        if last.cmp(&group).is_le() {
             self.left_out.add(&group);
             return Ok(());
         }
@@ -183,28 +176,21 @@ impl Leading {
 
 /// The groups of a level of these rows, within the limit, in the order of a report. Only groups within the limit are
 /// kept while the rows are read.
-pub fn leading_entries(
-    alloc: Global,
-    options: &RowOptions,
-    depth: u32,
-    rows: &[&RollupRow],
-    level: u32,
-) -> Result<Vec<Group>, NoMemory>
-    requires part { IsPart depth level (map (λ r. r.now) rows.now) }
-    requires below { level < depth }
-    requires some { 0 < options.now.limit }
+pub fn top_entries(levels: Levels, rows: &[&RollupRow], level: u32) -> Result<Vec<Group>, NoMemory>
+    requires part { IsLevel levels.depth level (map (λ r. r.now) rows.now) }
+    requires some { 0 < levels.options.limit }
     ensures entries { let all = map (λ r. r.now) rows.now in
         IfOk result (λ groups. map (group_entry level all) groups.items
-        ≡ entries_of options.now (table_at level all)) }
+        ≡ entries_of levels.options (table_at level all)) }
     ensures ranges { IfOk result
         (λ groups. All (IsRange level (map (λ r. r.now) rows.now)) groups.items) }
 {
-    let mut leading = Leading::new(alloc);
+    let mut leading = Leading::new(levels.alloc);
     let mut from = 0;
     while from < rows.len() {
-        let group = make_group(options, depth, rows, level, from);
-        leading.add(options, group)?;
+        let group = make_group(levels, rows, level, from);
+        leading.add(&levels.options, group)?;
         from = group.to;
     }
-    leading.finish(options)
+    leading.finish(&levels.options)
 }

@@ -6,6 +6,7 @@ mod groups;
 mod keys;
 mod laws;
 mod leading;
+mod levels;
 mod limits;
 mod listing;
 mod paths;
@@ -17,6 +18,7 @@ pub use laws::{
     first_level_stays, one_tree_fits, rows_are_in_order, rows_show_paths, shown_sizes_add_up,
     sizes_by_prefix,
 };
+pub use levels::Levels;
 pub use limits::{Grouped, limit};
 pub use listing::rows;
 pub use paths::{HasPath, run_len};

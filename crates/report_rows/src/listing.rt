@@ -8,17 +8,11 @@ ghost use Rattle.report_rows.specs.Tables.{vm_sum, file_sum};
 ghost use Rattle.report_rows.specs.Trees.{IsTree, AddsUp};
 
 use crate::groups::{Group, Kind, entries, sums};
+use crate::levels::Levels;
 use crate::row::{Row, RowKind, RowOptions, RowTree, Rows};
 use rollup::{Rollup, RollupRow};
 use size_core::NoMemory;
 use std::alloc::Global;
-
-// The number of levels of a report, and its options, which are those of each level.
-#[derive(Clone, Copy)]
-struct Levels {
-    depth: u32,
-    options: RowOptions,
-}
 
 // The row of a group.
 fn make_row(rows: &[&RollupRow], level: u32, group: &Group) -> Result<Row, NoMemory>
@@ -40,13 +34,7 @@ fn make_row(rows: &[&RollupRow], level: u32, group: &Group) -> Result<Row, NoMem
 }
 
 // Appends the rows of the levels from this one on.
-fn list(
-    alloc: Global,
-    levels: Levels,
-    rows: &[&RollupRow],
-    level: u32,
-    out: &mut Rows,
-) -> Result<(), NoMemory>
+fn list(levels: Levels, rows: &[&RollupRow], level: u32, out: &mut Rows) -> Result<(), NoMemory>
     requires part { IsPart levels.depth level (map (λ r. r.now) rows.now) }
     requires within { level ≤ levels.depth }
     ensures { OnOk result (out.new
@@ -56,11 +44,11 @@ fn list(
     if level == levels.depth {
         return Ok(());
     }
-    let groups = entries(alloc, &levels.options, levels.depth, rows, level)?;
+    let groups = entries(levels, rows, level)?;
     for group in &groups {
         let below = &rows[group.from..group.to];
         out.push(make_row(rows, level, group)?)?;
-        list(alloc, levels, below, level + 1, out)?;
+        list(levels, below, level + 1, out)?;
     }
     Ok(())
 }
@@ -84,10 +72,11 @@ fn tree(
 {
     let mut out = Rows::new(alloc);
     let levels = Levels {
+        alloc,
         depth,
         options: *options,
     };
-    list(alloc, levels, rows, 0, &mut out)?;
+    list(levels, rows, 0, &mut out)?;
     let (vm, file) = sums(rows);
     Ok(RowTree {
         depth,

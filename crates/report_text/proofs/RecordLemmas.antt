@@ -1,5 +1,5 @@
 -- How a table grows record by record.
-use Rattle.std.proofs.Common.{◌≡◌, ℕ, zero, suc, ◌+◌, ◌<◌, ◌≤◌, Bool, true, false, cond, List, [], ◌∷◌, ◌++◌, Option, Some, length, map, take, drop, slice_get, refl, sym, ap, subst, ◌∙◌, arith}
+use Rattle.std.proofs.Common.{replicate, ◌≡◌, ℕ, zero, suc, ◌+◌, ◌-◌, ◌≤◌, Bool, true, false, cond, List, [], ◌∷◌, ◌++◌, Option, Some, length, map, take, drop, slice_get, refl, sym, ap, subst, ◌∙◌, arith}
 use Rattle.std.specs.Prelude.{nat_lt}
 use Rattle.std.specs.List.{flat_map}
 use Rattle.std.proofs.lemmas.Bool.{ltb-true, ltb-false}
@@ -34,6 +34,15 @@ pub row-fields : (depth : ℕ) (above : Fields) (r : Row) (sizes p q : Fields) �
 unfolding row_fields
 row-fields depth above r sizes p q path fields = fields ∙ rw path refl
 
+-- The fields of a row's path.
+pub path-fields : (depth level count : ℕ) (above : Fields) (r : Row) (text : List ℕ) (p q s : Fields) → level ≡ r.level → count ≡ depth - (level + 1) → text ≡ kind_text r.kind → p ≡ above
+    → q ≡ p ++ (text ∷ []) → s ≡ q ++ replicate count [] → s ≡ path_fields depth above r
+unfolding path_fields
+path-fields depth level count above r text p q s at rest is path with_text all =
+    all ∙ ap (λ (x : Fields). x ++ replicate count []) (with_text ∙ ap (λ (x : Fields). x ++ (text ∷ [])) path ∙ ap (λ (t : List ℕ). above ++ (t ∷ [])) is)
+    ∙ ap (λ (n : ℕ). (above ++ (kind_text r.kind ∷ [])) ++ replicate n []) (rest ∙ ap (λ (n : ℕ). depth - (n + 1)) at)
+    ∙ append_assoc above (kind_text r.kind ∷ []) (replicate (depth - (r.level + 1)) [])
+
 -- The record of a row without children.
 pub leaf-written : {X : Type 0} (f : Fields → List ℕ) (as_row : X → Row) (sizes : X → Fields) (depth : ℕ) (above : Fields) (xs : List X) (i : ℕ) (x row : X) (text : List ℕ) (has : Bool)
     → slice_get xs i ≡ Some x → slice_get xs i ≡ Some row → has ≡ has_children (as_row row) (map as_row (drop (i + 1) xs)) → has ≡ false
@@ -42,14 +51,6 @@ leaf-written f as_row sizes depth above xs i x row text has at is test childless
     let none = sym test ∙ childless in
     let same : x ≡ row = cc in
     ap (λ y. text ++ y) (ap (λ y. f (row_fields depth above (as_row y) (sizes y))) same ∙ rw none (sym (append-nil (f (row_fields depth above (as_row row) (sizes row))))))
-
--- Each level is below the depth.
-pub level-below : {X : Type 0} (as_row : X → Row) (depth highest : ℕ) (xs : List X) (i : ℕ) (x : X) → AreLevels depth highest (map as_row xs) → slice_get xs i ≡ Some x → (as_row x).level < depth
-level-below as_row depth highest [] i x all e = cc e
-level-below as_row depth highest (n ∷ xs) zero x all e =
-    let same : n ≡ x = cc e in
-    subst (λ y. (as_row y).level < depth) same all.1
-level-below as_row depth highest (n ∷ xs) (suc i) x all e = level-below as_row depth ((as_row n).level + 1) xs i x all.3 e
 
 -- A tree of rows that are used unchanged.
 pub plain_tree : (depth : ℕ) (rows : List Row) → IsTree depth rows → IsTree depth (map (λ (r : Row). r) rows)

@@ -32,12 +32,16 @@ side_text File = codes " file "
 side_text Vm = codes " vm "
 side_text Both = codes " both "
 
--- A claim's line: its rank, its number, its side and its label.
-unfoldable pub claim_line : Bool → List ℕ → NamedClaim → List ℕ
-claim_line wide rank c = rank ++ (decimal c.number ++ name_line wide (side_text c.side) c.label)
+-- The rest of a claim's line after its rank: its number, its side and its label.
+unfoldable pub claim_text : Bool → NamedClaim → List ℕ
+claim_text wide c = decimal c.number ++ name_line wide (side_text c.side) c.label
+
+-- A claim's line.
+abbrev pub claim_line : Bool → List ℕ → NamedClaim → List ℕ
+claim_line wide rank c = rank ++ claim_text wide c
 
 -- The line of a claim that isn't the first one.
-unfoldable pub beaten_line : Bool → NamedClaim → List ℕ
+abbrev pub beaten_line : Bool → NamedClaim → List ℕ
 beaten_line wide c = claim_line wide (codes "  beaten #") c
 
 -- The lines of the claims that cover the location. The first claim gives the label.

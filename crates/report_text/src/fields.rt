@@ -1,17 +1,20 @@
 //! The fields of a report's records.
 
-ghost use Rattle.std.specs.Prelude.{◌≡◌, ◌<◌, ◌++◌, ◌∷◌, [], map, replicate, IfOk, OnOk};
+ghost use Rattle.std.specs.Prelude.{◌≡◌, ◌++◌, ◌∷◌, [], map, replicate, IfOk, OnOk};
 ghost use Rattle.report_text.specs.Between.{HasText};
 ghost use Rattle.report_text.specs.Labels.{kind_of, kind_text};
-ghost use Rattle.report_text.specs.Records.{header_fields, vm_first, path_fields};
+ghost use Rattle.report_text.specs.Records.{header_fields, vm_first};
 
 use crate::labels::push_others;
-use crate::rows::{Name, ReportRow};
+use crate::rows::Name;
 use size_core::{Domain, Names, NoMemory};
 use std::alloc::Global;
 
+/// The fields of a record.
+pub type Fields<'a> = Vec<&'a [u8]>;
+
 /// Appends a field.
-pub fn push<'a>(fields: &mut Vec<&'a [u8]>, field: &'a [u8]) -> Result<(), NoMemory>
+pub fn push<'a>(fields: &mut Fields<'a>, field: &'a [u8]) -> Result<(), NoMemory>
     ensures { OnOk result (map (λ f. f.now) fields.new.items
         ≡ map (λ f. f.now) fields.old.items ++ field.now ∷ []) }
 {
@@ -21,7 +24,7 @@ pub fn push<'a>(fields: &mut Vec<&'a [u8]>, field: &'a [u8]) -> Result<(), NoMem
 
 /// Appends a field for each shown size.
 pub fn push_shown<'a>(
-    fields: &mut Vec<&'a [u8]>,
+    fields: &mut Fields<'a>,
     domain: Domain,
     vm: &'a [u8],
     file: &'a [u8],
@@ -40,7 +43,7 @@ pub fn push_shown<'a>(
 }
 
 // The names of data sources, as fields.
-fn names<'a>(alloc: Global, sources: &'a Names) -> Result<Vec<&'a [u8]>, NoMemory>
+fn names<'a>(alloc: Global, sources: &'a Names) -> Result<Fields<'a>, NoMemory>
     ensures { IfOk result (λ v. map (λ f. f.now) v.items ≡ sources.now) }
 {
     let mut fields = Vec::new(alloc);
@@ -52,11 +55,7 @@ fn names<'a>(alloc: Global, sources: &'a Names) -> Result<Vec<&'a [u8]>, NoMemor
 
 /// The fields of the header record.
 #[tactic(auto, unfolding(crate::specs::Records::header_fields))]
-pub fn header<'a>(
-    alloc: Global,
-    sources: &'a Names,
-    domain: Domain,
-) -> Result<Vec<&'a [u8]>, NoMemory>
+pub fn header<'a>(alloc: Global, sources: &'a Names, domain: Domain) -> Result<Fields<'a>, NoMemory>
     ensures { IfOk result (λ v. map (λ f. f.now) v.items ≡ header_fields sources.now domain) }
 {
     let mut fields = names(alloc, sources)?;
@@ -75,8 +74,8 @@ pub fn others_text(alloc: Global, name: Name) -> Result<Vec<u8>, NoMemory>
     Ok(text)
 }
 
-// The text of a row. `others` is the text of an Others row.
-fn kind_text<'a>(name: Name<'a>, others: &'a [u8]) -> &'a [u8]
+/// The text of a row. `others` is the text of an Others row.
+pub fn kind_text<'a>(name: Name<'a>, others: &'a [u8]) -> &'a [u8]
     requires { HasText (kind_of name) others.now }
     ensures { result.now ≡ kind_text (kind_of name.entry) }
 {
@@ -86,8 +85,8 @@ fn kind_text<'a>(name: Name<'a>, others: &'a [u8]) -> &'a [u8]
     }
 }
 
-// Appends `count` empty fields.
-fn push_empty<'a>(fields: &mut Vec<&'a [u8]>, count: usize) -> Result<(), NoMemory>
+/// Appends `count` empty fields.
+pub fn push_empty<'a>(fields: &mut Fields<'a>, count: usize) -> Result<(), NoMemory>
     ensures { OnOk result (map (λ f. f.now) fields.new.items
         ≡ map (λ f. f.now) fields.old.items ++ replicate count []) }
 {
@@ -97,34 +96,13 @@ fn push_empty<'a>(fields: &mut Vec<&'a [u8]>, count: usize) -> Result<(), NoMemo
     Ok(())
 }
 
-// The labels of a path, as fields.
-fn labels<'a, 'p: 'a>(alloc: Global, path: &[&'p [u8]]) -> Result<Vec<&'a [u8]>, NoMemory>
+/// The labels of a path, as fields.
+pub fn labels<'a, 'p: 'a>(alloc: Global, path: &[&'p [u8]]) -> Result<Fields<'a>, NoMemory>
     ensures { IfOk result (λ v. map (λ f. f.now) v.items ≡ map (λ f. f.now) path.now) }
 {
     let mut fields = Vec::new(alloc);
     for label in path {
         push(&mut fields, *label)?;
     }
-    Ok(fields)
-}
-
-/// The fields of a row's path. `above` has the labels of the rows above it. `others` is the row's text if it is an
-/// Others row.
-#[tactic(auto, unfolding(crate::specs::Records::path_fields))]
-pub fn path_fields<'a, 'p: 'a, R: ReportRow>(
-    alloc: Global,
-    depth: u32,
-    above: &[&'p [u8]],
-    row: &'a R,
-    others: &'a [u8],
-) -> Result<Vec<&'a [u8]>, NoMemory>
-    requires below { (R.as_row row.now).level < depth }
-    requires text { HasText (R.as_row row.now).kind others.now }
-    ensures { IfOk result (λ v. map (λ f. f.now) v.items
-        ≡ path_fields depth (map (λ f. f.now) above.now) (R.as_row row.now)) }
-{
-    let mut fields = labels(alloc, above)?;
-    push(&mut fields, kind_text(row.name(), others))?;
-    push_empty(&mut fields, (depth - (row.level() + 1)) as usize)?;
     Ok(fields)
 }

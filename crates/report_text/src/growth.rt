@@ -4,8 +4,8 @@ ghost use Rattle.std.specs.Prelude.{◌≡◌, ◌++◌, length, OnOk, OnErr};
 ghost use Rattle.size_growth.specs.Trees.{IsGrowthTree, new_row};
 ghost use Rattle.report_text.specs.Growth.{sign, growth_text, change_text, growth_column, growth_columns, growth_report_text, growth, growth_fields, growth_csv_text, growth_tsv_text};
 
-use crate::fields::push_shown;
-use crate::lines::{LineFormat, lines, push_column};
+use crate::fields::{Fields, push_shown};
+use crate::lines::{ColumnWidths, TreeLines};
 use crate::numbers::{push_percent, push_size};
 use crate::pieces::{push, push_text};
 use crate::records::table;
@@ -39,7 +39,7 @@ impl ReportRow for GrowthRow {
 
     fn push_sizes<'b>(
         &self,
-        fields: &mut Vec<&'b [u8]>,
+        fields: &mut Fields<'b>,
         domain: Domain,
         vm: &'b mut Buffer,
         file: &'b mut Buffer,
@@ -109,13 +109,11 @@ fn push_growth_column(alloc: Global, out: &mut Vec<u8>, new: u64, base: u64) -> 
     push_change(&mut change, new, base)?;
     let mut amount = Vec::new(alloc);
     push_growth(&mut amount, new, base)?;
-    push_column(
-        out,
-        CHANGE_WIDTH,
-        change.as_slice(),
-        GROWTH_WIDTH,
-        amount.as_slice(),
-    )
+    let widths = ColumnWidths {
+        part: CHANGE_WIDTH,
+        amount: GROWTH_WIDTH,
+    };
+    widths.push_column(out, change.as_slice(), amount.as_slice())
 }
 
 // Appends the columns of the shown sizes.
@@ -192,8 +190,13 @@ pub fn growth_text(
         ≡ out.old.items ++ growth_report_text tree.now domain wide) }
     ensures err { OnErr result (out.new.items ≡ out.old.items) }
 {
-    let text = lines(alloc, tree, LineFormat { domain, wide })?;
-    push_text(out, text)
+    let lines = TreeLines {
+        alloc,
+        tree,
+        domain,
+        wide,
+    };
+    push_text(out, lines.text()?)
 }
 
 /// Appends the CSV records of a growth tree. A header has the names of the data sources and of the shown sizes. Each

@@ -1,7 +1,7 @@
 //! The lines of a report.
 
 ghost use Rattle.std.specs.Prelude.{◌≡◌, ◌++◌, IfOk, OnOk};
-ghost use Rattle.report_text.specs.Lines.{column, title, titles, title_line, row_line, total_line, lines};
+ghost use Rattle.report_text.specs.Lines.{column, title, titles, title_line, row_line, lines};
 
 use crate::labels::push_label;
 use crate::pieces::{push, push_right, push_spaces};
@@ -9,31 +9,27 @@ use crate::rows::{ReportRow, ReportTree};
 use size_core::{Domain, NoMemory};
 use std::alloc::Global;
 
-/// How a report shows rows as lines.
+/// The widths of the two parts of a column.
 #[derive(Clone, Copy)]
-pub struct LineFormat {
-    /// The sizes that have a column.
-    pub domain: Domain,
-    /// Whether long labels are written whole.
-    pub wide: bool,
+pub struct ColumnWidths {
+    /// The width of the percentage.
+    pub part: usize,
+    /// The width of the size.
+    pub amount: usize,
 }
 
-/// Appends a column: a percentage and a size, each right-aligned.
-#[tactic(auto, unfolding(crate::specs::Lines::column))]
-pub fn push_column(
-    out: &mut Vec<u8>,
-    part_places: usize,
-    part: &[u8],
-    amount_places: usize,
-    amount: &[u8],
-) -> Result<(), NoMemory>
-    ensures { OnOk result (out.new.items
-        ≡ out.old.items ++ column part_places part.now amount_places amount.now) }
-{
-    push_right(out, part_places, part)?;
-    push(out, b" ")?;
-    push_right(out, amount_places, amount)?;
-    push(out, b"  ")
+impl ColumnWidths {
+    /// Appends a column: a percentage and a size, each right-aligned.
+    #[tactic(auto, unfolding(crate::specs::Lines::column))]
+    pub fn push_column(self, out: &mut Vec<u8>, part: &[u8], amount: &[u8]) -> Result<(), NoMemory>
+        ensures { OnOk result (out.new.items
+            ≡ out.old.items ++ column self.part part.now self.amount amount.now) }
+    {
+        push_right(out, self.part, part)?;
+        push(out, b" ")?;
+        push_right(out, self.amount, amount)?;
+        push(out, b"  ")
+    }
 }
 
 // Appends a column's title.
@@ -68,55 +64,48 @@ fn push_title_line(out: &mut Vec<u8>, places: usize, domain: Domain) -> Result<(
     push(out, b"LABEL\n")
 }
 
-// Appends a row's line.
-#[tactic(auto, unfolding(crate::specs::Lines::row_line))]
-fn push_row<T: ReportTree>(
-    alloc: Global,
-    out: &mut Vec<u8>,
-    format: LineFormat,
-    tree: &T,
-    row: &T::Entry,
-) -> Result<(), NoMemory>
-    ensures { OnOk result (out.new.items ≡ out.old.items
-        ++ row_line T.Entry.as_row (T.columns format.domain tree.now) format.wide row.now) }
-{
-    tree.push_columns(alloc, out, format.domain, row)?;
-    push_spaces(out, 2 * row.level() as usize)?;
-    push_label(alloc, out, row.name(), format.wide)?;
-    push(out, b"\n")
+/// A tree of rows to write as lines.
+#[derive(Drop)]
+pub struct TreeLines<'t, T> {
+    /// The allocator.
+    pub alloc: Global,
+    /// The tree.
+    pub tree: &'t T,
+    /// The sizes that have a column.
+    pub domain: Domain,
+    /// Whether long labels are written whole.
+    pub wide: bool,
 }
 
-// Appends the line for the total.
-#[tactic(auto, unfolding(crate::specs::Lines::total_line))]
-fn push_total<T: ReportTree>(
-    alloc: Global,
-    out: &mut Vec<u8>,
-    domain: Domain,
-    tree: &T,
-) -> Result<(), NoMemory>
-    ensures { OnOk result (out.new.items ≡ out.old.items ++ total_line (T.total domain tree.now)) }
-{
-    tree.push_total(alloc, out, domain)?;
-    push(out, b"TOTAL\n")
-}
-
-/// The lines of a tree.
-#[tactic(auto, unfolding(crate::specs::Lines::lines))]
-pub fn lines<T: ReportTree>(
-    alloc: Global,
-    tree: &T,
-    format: LineFormat,
-) -> Result<Vec<u8>, NoMemory>
-    ensures { IfOk result (λ v. v.items
-        ≡ lines T.PLACES format.domain T.Entry.as_row (T.columns format.domain tree.now)
-        format.wide (T.rows tree.now) (T.total format.domain tree.now)) }
-{
-    let mut text = Vec::new(alloc);
-    push_title_line(&mut text, T::PLACES, format.domain)?;
-    let rows = tree.rows();
-    for i in 0..rows.len() {
-        push_row(alloc, &mut text, format, tree, rows.get(i))?;
+impl<'t, T: ReportTree> TreeLines<'t, T> {
+    // Appends a row's line.
+    #[tactic(auto, unfolding(crate::specs::Lines::row_line))]
+    fn push_row(&self, out: &mut Vec<u8>, row: &T::Entry) -> Result<(), NoMemory>
+        ensures { let columns = T.columns self.now.domain self.now.tree.now in
+            OnOk result (out.new.items
+            ≡ out.old.items ++ row_line T.Entry.as_row columns self.now.wide row.now) }
+    {
+        self.tree.push_columns(self.alloc, out, self.domain, row)?;
+        push_spaces(out, 2 * row.level() as usize)?;
+        push_label(self.alloc, out, row.name(), self.wide)?;
+        push(out, b"\n")
     }
-    push_total(alloc, &mut text, format.domain, tree)?;
-    Ok(text)
+
+    /// The lines of the tree.
+    #[tactic(auto, unfolding(crate::specs::Lines::lines, crate::specs::Lines::total_line))]
+    pub fn text(&self) -> Result<Vec<u8>, NoMemory>
+        ensures { let tree = self.now.tree.now in let domain = self.now.domain in
+            IfOk result (λ v. v.items ≡ lines T.PLACES domain T.Entry.as_row
+            (T.columns domain tree) self.now.wide (T.rows tree) (T.total domain tree)) }
+    {
+        let mut text = Vec::new(self.alloc);
+        push_title_line(&mut text, T::PLACES, self.domain)?;
+        let rows = self.tree.rows();
+        for i in 0..rows.len() {
+            self.push_row(&mut text, rows.get(i))?;
+        }
+        self.tree.push_total(self.alloc, &mut text, self.domain)?;
+        push(&mut text, b"TOTAL\n")?;
+        Ok(text)
+    }
 }

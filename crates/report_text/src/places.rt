@@ -1,7 +1,7 @@
 //! The explanation of a location.
 
-ghost use Rattle.std.specs.Prelude.{◌≡◌, ◌++◌, IfOk, OnOk, OnErr, codes};
-ghost use Rattle.report_text.specs.Places.{number_line, name_line, space_text, place_line, side_text, claim_line, beaten_line, claim_lines, more_line, source_lines, place_report_text};
+ghost use Rattle.std.specs.Prelude.{◌≡◌, ◌++◌, OnOk, OnErr, codes};
+ghost use Rattle.report_text.specs.Places.{number_line, name_line, space_text, place_line, side_text, claim_text, claim_lines, more_line, source_lines, place_report_text};
 
 use crate::labels::push_shortened;
 use crate::numbers::push_decimal;
@@ -75,27 +75,13 @@ fn side_text(side: Side) -> &'static [u8]
     }
 }
 
-// Appends a claim's line.
-#[tactic(auto, unfolding(crate::specs::Places::claim_line))]
-fn push_claim(
-    out: &mut Vec<u8>,
-    rank: &[u8],
-    claim: &NamedClaim,
-    wide: bool,
-) -> Result<(), NoMemory>
-    ensures { OnOk result (out.new.items ≡ out.old.items ++ claim_line wide rank.now claim.now) }
+// Appends the rest of a claim's line after its rank.
+#[tactic(auto, unfolding(crate::specs::Places::claim_text))]
+fn push_claim(out: &mut Vec<u8>, claim: &NamedClaim, wide: bool) -> Result<(), NoMemory>
+    ensures { OnOk result (out.new.items ≡ out.old.items ++ claim_text wide claim.now) }
 {
-    push(out, rank)?;
     push_decimal(out, claim.number as u128)?;
     push_name_line(out, side_text(claim.side), claim.label.as_slice(), wide)
-}
-
-// Appends the line of a claim that isn't the first one.
-#[tactic(auto, unfolding(crate::specs::Places::beaten_line))]
-fn push_beaten(out: &mut Vec<u8>, claim: &NamedClaim, wide: bool) -> Result<(), NoMemory>
-    ensures { OnOk result (out.new.items ≡ out.old.items ++ beaten_line wide claim.now) }
-{
-    push_claim(out, b"  beaten #", claim, wide)
 }
 
 // Appends the lines of the claims that cover a location.
@@ -105,9 +91,11 @@ fn push_claims(out: &mut Vec<u8>, claims: &NamedClaims, wide: bool) -> Result<()
     if claims.len() == 0 {
         return push(out, b"  first none\n");
     }
-    push_claim(out, b"  first #", claims.get(0), wide)?;
+    push(out, b"  first #")?;
+    push_claim(out, claims.get(0), wide)?;
     for k in 1..claims.len() {
-        push_beaten(out, claims.get(k), wide)?;
+        push(out, b"  beaten #")?;
+        push_claim(out, claims.get(k), wide)?;
     }
     Ok(())
 }
@@ -134,28 +122,11 @@ fn push_source(out: &mut Vec<u8>, source: &PlaceSource, wide: bool) -> Result<()
     push_more(out, source.more)
 }
 
-// The lines of a location.
-#[tactic(auto, unfolding(crate::specs::Places::place_report_text))]
-fn lines(
-    alloc: Global,
-    place: &Place,
-    sources: &[PlaceSource],
-    wide: bool,
-) -> Result<Vec<u8>, NoMemory>
-    ensures { IfOk result (λ v. v.items ≡ place_report_text place.now sources.now wide) }
-{
-    let mut text = Vec::new(alloc);
-    push_place(&mut text, place)?;
-    for source in sources {
-        push_source(&mut text, source, wide)?;
-    }
-    Ok(text)
-}
-
 /// Appends the explanation of a location: a line for the location, and then for each data source its name, the
 /// location's label, the claims that cover the location, and the number of further claims. The claims are in order,
 /// each with its number, its side and its label. A name or a label of more than 60 bytes is shortened unless `wide`. If
 /// memory runs out, `out` is unchanged.
+#[tactic(auto, unfolding(crate::specs::Places::place_report_text))]
 pub fn place_text(
     alloc: Global,
     place: &Place,
@@ -167,6 +138,10 @@ pub fn place_text(
         ≡ out.old.items ++ place_report_text place.now sources.now wide) }
     ensures err { OnErr result (out.new.items ≡ out.old.items) }
 {
-    let text = lines(alloc, place, sources, wide)?;
+    let mut text = Vec::new(alloc);
+    push_place(&mut text, place)?;
+    for source in sources {
+        push_source(&mut text, source, wide)?;
+    }
     push_text(out, text)
 }

@@ -6,15 +6,14 @@ ghost use Rattle.csv.specs.Writing.{row_text};
 ghost use Rattle.report_rows.specs.Trees.{IsTree, has_children};
 ghost use Rattle.report_text.specs.Between.{IsReady, HasCome, entered};
 ghost use Rattle.report_text.specs.Labels.{kind_of};
-ghost use Rattle.report_text.specs.Records.{delimited, row_fields, leaf_record, table_text};
+ghost use Rattle.report_text.specs.Records.{delimited, leaf_record, table_text};
 
-use crate::fields::{header, others_text, path_fields, push};
+use crate::fields::{header, kind_text, labels, others_text, push, push_empty};
 use crate::rows::{Name, ReportRow, ReportTree};
 use csv::{Writer, WriterBuilder};
 use itoa::Buffer;
 use size_core::{Domain, List, Names, NoMemory};
 use std::alloc::Global;
-use std::io::Write;
 
 // How the records of a tree are written: with this byte between fields, for paths of up to `depth` labels, and with a
 // field for each size of `domain`.
@@ -36,42 +35,15 @@ fn new_writer(alloc: Global, delimiter: u8) -> Writer<Vec<u8>>
 }
 
 // Writes a record.
-fn put<W: Write + Drop>(
-    writer: &mut Writer<W>,
-    delimiter: u8,
-    fields: &[&[u8]],
-) -> Result<(), NoMemory>
-    ensures { OnOk result ((text : List ℕ) → IsReady W.contents delimiter writer.old text
-        → IsReady W.contents delimiter writer.new
+fn put(writer: &mut Writer<Vec<u8>>, delimiter: u8, fields: &[&[u8]]) -> Result<(), NoMemory>
+    ensures { OnOk result ((text : List ℕ) → IsReady (λ v. Some v.items) delimiter writer.old text
+        → IsReady (λ v. Some v.items) delimiter writer.new
         (text ++ row_text (delimited delimiter) (map (λ f. f.now) fields.now))) }
 {
     match writer.write_fields(fields) {
         Ok(()) => Ok(()),
         Err(_) => Err(NoMemory),
     }
-}
-
-// Writes the record of a row. `above` has the labels of the rows above it.
-fn put_row<'a, W: Write + Drop, R: ReportRow>(
-    format: RecordFormat,
-    writer: &mut Writer<W>,
-    above: &[&'a [u8]],
-    row: &'a R,
-) -> Result<(), NoMemory>
-    requires { (R.as_row row.now).level < format.depth }
-    ensures { OnOk result ((text : List ℕ) → IsReady W.contents format.delimiter writer.old text
-        → IsReady W.contents format.delimiter writer.new
-        (text ++ row_text (delimited format.delimiter)
-        (row_fields format.depth (map (λ f. f.now) above.now) (R.as_row row.now)
-        (R.sizes format.domain row.now)))) }
-{
-    let mut vm = Buffer::new();
-    let mut file = Buffer::new();
-    let others = others_text(format.alloc, row.name())?;
-    let mut fields = path_fields(format.alloc, format.depth, above, row, others.as_slice())?;
-    row.push_sizes(&mut fields, format.domain, &mut vm, &mut file)?;
-    put(writer, format.delimiter, fields.as_slice())?;
-    Ok(())
 }
 
 /// Whether a row has children: the next row has a greater level.
@@ -86,20 +58,18 @@ pub fn has_children<R: ReportRow>(rows: &List<R>, i: usize) -> bool
     rows.get(i).level() < rows.get(i + 1).level()
 }
 
-// Writes the record of a row, if it has no children.
-fn put_leaf<'a, W: Write + Drop, R: ReportRow>(
+// Writes the record of a row, if it has no children. `above` has the labels of the rows above it.
+fn put_leaf<'a, R: ReportRow>(
     format: RecordFormat,
-    writer: &mut Writer<W>,
+    writer: &mut Writer<Vec<u8>>,
     rows: &'a List<R>,
     above: &[&'a [u8]],
     i: usize,
 ) -> Result<(), NoMemory>
-    requires inside { i < length rows.now }
-    requires below { (row : R) → slice_get rows.now i ≡ Some row
-        → (R.as_row row).level < format.depth }
+    requires { i < length rows.now }
     ensures { OnOk result ((text : List ℕ) (row : R) → slice_get rows.now i ≡ Some row
-        → IsReady W.contents format.delimiter writer.old text
-        → IsReady W.contents format.delimiter writer.new
+        → IsReady (λ v. Some v.items) format.delimiter writer.old text
+        → IsReady (λ v. Some v.items) format.delimiter writer.new
         (text ++ flat_map (row_text (delimited format.delimiter))
         (leaf_record format.depth (map (λ f. f.now) above.now) (R.as_row row)
         (R.sizes format.domain row) (map R.as_row (drop (i + 1) rows.now))))) }
@@ -108,7 +78,15 @@ fn put_leaf<'a, W: Write + Drop, R: ReportRow>(
         return Ok(());
     }
     let row = rows.get(i);
-    put_row(format, writer, above, row)?;
+    let mut vm = Buffer::new();
+    let mut file = Buffer::new();
+    let others = others_text(format.alloc, row.name())?;
+    let mut fields = labels(format.alloc, above)?;
+    push(&mut fields, kind_text(row.name(), others.as_slice()))?;
+    let filled = row.level() as usize + 1;
+    push_empty(&mut fields, (format.depth as usize).saturating_sub(filled))?;
+    row.push_sizes(&mut fields, format.domain, &mut vm, &mut file)?;
+    put(writer, format.delimiter, fields.as_slice())?;
     Ok(())
 }
 
@@ -125,20 +103,18 @@ fn enter<'a>(path: &mut Vec<&'a [u8]>, name: Name<'a>) -> Result<(), NoMemory>
 
 // Writes the record of one row, if it has no children, and adds the row's label to `path`. Before that, `path` has the
 // labels of the rows that the row can be under.
-fn step<'a, W: Write + Drop, R: ReportRow>(
+fn step<'a, R: ReportRow>(
     format: RecordFormat,
-    writer: &mut Writer<W>,
+    writer: &mut Writer<Vec<u8>>,
     rows: &'a List<R>,
     path: &mut Vec<&'a [u8]>,
     i: usize,
 ) -> Result<(), NoMemory>
-    requires inside { i < length rows.now }
-    requires below { (row : R) → slice_get rows.now i ≡ Some row
-        → (R.as_row row).level < format.depth }
+    requires { i < length rows.now }
     ensures { OnOk result ((whole : List ℕ)
-        → HasCome W.contents format.delimiter R.as_row (R.sizes format.domain) format.depth
+        → HasCome (λ v. Some v.items) format.delimiter R.as_row (R.sizes format.domain) format.depth
         rows.now whole i (map (λ f. f.now) path.old.items) writer.old
-        → HasCome W.contents format.delimiter R.as_row (R.sizes format.domain) format.depth
+        → HasCome (λ v. Some v.items) format.delimiter R.as_row (R.sizes format.domain) format.depth
         rows.now whole (i + 1) (map (λ f. f.now) path.new.items) writer.new) }
 {
     let row = rows.get(i);

@@ -6,6 +6,7 @@ ghost use Rattle.report_rows.specs.declared.row.Row.{Row};
 ghost use Rattle.report_text.specs.Labels.{kind_of};
 ghost use Rattle.report_text.specs.Records.{Fields};
 
+use crate::fields::Fields;
 use itoa::Buffer;
 use size_core::{Domain, List, NoMemory};
 use std::alloc::Global;
@@ -38,7 +39,7 @@ pub trait ReportRow: Drop {
     /// Appends the fields of the row's shown sizes. Their digits are written into the buffers.
     fn push_sizes<'b>(
         &self,
-        fields: &mut Vec<&'b [u8]>,
+        fields: &mut Fields<'b>,
         domain: Domain,
         vm: &'b mut Buffer,
         file: &'b mut Buffer,

@@ -5,8 +5,8 @@ ghost use Rattle.report_rows.specs.Trees.{IsTree};
 ghost use Rattle.report_text.specs.Lines.{size_column, columns, report_text};
 ghost use Rattle.report_text.specs.Records.{size_fields, csv_text, tsv_text};
 
-use crate::fields::push_shown;
-use crate::lines::{LineFormat, lines, push_column};
+use crate::fields::{Fields, push_shown};
+use crate::lines::{ColumnWidths, TreeLines};
 use crate::numbers::{push_percent, push_size};
 use crate::pieces::push_text;
 use crate::records::table;
@@ -47,7 +47,7 @@ impl ReportRow for Row {
 
     fn push_sizes<'b>(
         &self,
-        fields: &mut Vec<&'b [u8]>,
+        fields: &mut Fields<'b>,
         domain: Domain,
         vm: &'b mut Buffer,
         file: &'b mut Buffer,
@@ -67,13 +67,11 @@ fn push_size_column(alloc: Global, out: &mut Vec<u8>, size: u64, total: u64) -> 
     push_percent(&mut percent, size, total)?;
     let mut amount = Vec::new(alloc);
     push_size(&mut amount, size)?;
-    push_column(
-        out,
-        PERCENT_WIDTH,
-        percent.as_slice(),
-        SIZE_WIDTH,
-        amount.as_slice(),
-    )
+    let widths = ColumnWidths {
+        part: PERCENT_WIDTH,
+        amount: SIZE_WIDTH,
+    };
+    widths.push_column(out, percent.as_slice(), amount.as_slice())
 }
 
 // Appends the shown columns of a file size and a VM size.
@@ -158,8 +156,13 @@ pub fn text(
     ensures ok { OnOk result (out.new.items ≡ out.old.items ++ report_text tree.now domain wide) }
     ensures err { OnErr result (out.new.items ≡ out.old.items) }
 {
-    let text = lines(alloc, tree, LineFormat { domain, wide })?;
-    push_text(out, text)
+    let lines = TreeLines {
+        alloc,
+        tree,
+        domain,
+        wide,
+    };
+    push_text(out, lines.text()?)
 }
 
 /// Appends the CSV records of a tree. A header has the names of the data sources and of the shown sizes. Each row

@@ -55,10 +55,6 @@ positions-counted layout (m ∷ ms) test marks over =
     count-same (is_counted_at test marks (layers Vm (m ∷ ms))) (λ p. is_mapped layout.loads p && (passes marks (numbers_at (layers Vm (m ∷ ms)) p) && test (numbers_at (layers Vm (m ∷ ms)) p))) 0 (2 ^ 96) (λ p low high.
     ap (λ b. b && (passes marks (numbers_at (layers Vm (m ∷ ms)) p) && test (numbers_at (layers Vm (m ∷ ms)) p))) (told layout m ms p over (is_mapped layout.loads p) refl))
 
-pub limit-fits : (loads : List Load) (maps : List Maps) → vm_limit loads maps ≤ 2 ^ 97
-limit-fits loads [] = omega (arith, count-le-length (is_mapped loads) 0 (2 ^ 96))
-limit-fits loads (m ∷ ms) = omega arith
-
 pub pieces-add : (maps : List Maps) → piece_count maps ≡ piece_total (layers File maps) + piece_total (layers Vm maps)
 pieces-add [] = refl
 pieces-add (m ∷ ms) =

@@ -1,6 +1,7 @@
 -- Labels by their ranks, and paths by the ranks of their labels.
 use Rattle.std.proofs.Common.{◌≡◌, ◌+◌, ◌<◌, ℕ, zero, suc, false, List, [], ◌∷◌, ◌++◌, length, get_or, set, map, eqb, inl, inr, ◌⊎◌, refl, sym, ap, subst, ◌∙◌, arith, is_lt}
 use Rattle.std.specs.Prelude.{All}
+use Rattle.std.specs.Global.{Vec}
 use Rattle.std.specs.List.{IsDistinct, range_with_len}
 use Rattle.std.specs.List.Sorted.{IsPermutation, IsSorted, IsStrictlySortedBy}
 use Rattle.std.specs.Cmp.{IsTotalOrder}
@@ -19,10 +20,9 @@ use Rattle.std.proofs.lemmas.Map.Keys.{IsDistinct-IsPermutation, IsDistinct-from
 use Rattle.std.proofs.lemmas.Map.Text.{is_eq-slice_cmp}
 use Rattle.std.proofs.lemmas.Option.{get_or_from_slice_get, slice_get-get_or}
 use Rattle.size_model.specs.Numbered.{text_of}
-use Rattle.rollup.specs.declared.fresh.Ranked.{Ranked}
 use Rattle.rollup.specs.declared.fresh.Keyed.{Keyed}
 use Rattle.path_rows.specs.declared.row.RollupRow.{RollupRow}
-use Rattle.rollup.specs.Order.{AreIndices, IsKeyed, IsRanked, RankLabels, digits_after, falling_keys, falling_ranks, keyed_row, label_cmp, rank_in, ranked_row}
+use Rattle.rollup.specs.Order.{AreIndices, IsKeyed, IsRanked, RankLabels, digits_after, keyed_row, label_cmp, rank_in}
 use Rattle.path_rows.specs.Rows.{falling}
 use Rattle.rollup.specs.Sizes.{Entry, no_entry, row_of}
 use Rattle.path_rows.specs.Paths.{path_cmp}
@@ -157,6 +157,14 @@ module _ (pool : List (List ℕ)) (numbers : List ℕ) (all : IsPermutation (ran
           let rank_b : rank_in indices b ≡ j = subst (λ x. rank_in indices x ≡ j) bj (h.index j lj) in
           ap (λ x. nat_cmp x (rank_in indices b)) rank_a ∙ (ap (nat_cmp i) rank_b ∙ (at_indices i j strict li lj ∙ (ap (λ x. label_cmp pool x (get_or numbers j 0)) ai ∙ ap (label_cmp pool a) bj)))
 
+-- The order by ranks, the greatest first.
+abbrev pub falling_ranks : Keyed (Vec ℕ) → Keyed (Vec ℕ) → Ordering
+falling_ranks a b = slice_cmp nat_cmp b.key.items a.key.items
+
+-- The order by keys, the greatest first.
+abbrev pub falling_keys : Keyed ℕ → Keyed ℕ → Ordering
+falling_keys a b = nat_cmp b.key a.key
+
 -- Paths compare as the ranks of their labels do.
 module _ (pool : List (List ℕ)) (ranks : List ℕ) (h : RankLabels pool ranks) where
   path_by_ranks : (xs ys : List ℕ) → All (λ n. n < length pool) xs → All (λ n. n < length pool) ys → path_cmp (map (text_of pool) xs) (map (text_of pool) ys) ≡ slice_cmp nat_cmp (map (rank_in ranks) xs) (map (rank_in ranks) ys)
@@ -188,18 +196,18 @@ module _ (pool : List (List ℕ)) (ranks : List ℕ) (h : RankLabels pool ranks)
         ∙ (ap (λ q. is_lt (falling (row y) q)) (get_or-map row (r ∷ rs) k r d (omega arith))
         ∙ (ap is_lt (rows_by_ranks x y (within k r (omega arith)) (within (k + 1) r (omega arith)) (keyed k r (omega arith)) (keyed (k + 1) r (omega arith))) ∙ sorted k r low (omega arith)))
 
-  pub rows_fall : (es : List Entry) (ranked : List Ranked) → All (λ (e : Entry). All (λ n. n < length pool) e.numbers) es → All (IsRanked ranks es) ranked → IsSorted falling_ranks ranked → IsSorted falling (map (ranked_row pool es) ranked)
-  rows_fall es rs below each sorted = keys_fall (λ (r : Ranked). r.entry) (λ (r : Ranked). r.ranks.items) es below rs (λ k d lt. (each k d lt).within) (λ k d lt. (each k d lt).along) sorted
+  pub rows_fall : (es : List Entry) (ranked : List (Keyed (Vec ℕ))) → All (λ (e : Entry). All (λ n. n < length pool) e.numbers) es → All (IsRanked ranks es) ranked → IsSorted falling_ranks ranked → IsSorted falling (map (keyed_row pool es) ranked)
+  rows_fall es rs below each sorted = keys_fall (λ (r : Keyed (Vec ℕ)). r.entry) (λ (r : Keyed (Vec ℕ)). r.key.items) es below rs (λ k d lt. (each k d lt).within) (λ k d lt. (each k d lt).along) sorted
 
-  pub keyed_fall : (depth : ℕ) (es : List Entry) (keyed : List Keyed) → All (λ (e : Entry). All (λ n. n < length pool) e.numbers) es → All (IsKeyed ranks depth es) keyed → IsSorted falling_keys keyed → IsSorted falling (map (keyed_row pool es) keyed)
+  pub keyed_fall : (depth : ℕ) (es : List Entry) (keyed : List (Keyed ℕ)) → All (λ (e : Entry). All (λ n. n < length pool) e.numbers) es → All (IsKeyed ranks depth es) keyed → IsSorted falling_keys keyed → IsSorted falling (map (keyed_row pool es) keyed)
   keyed_fall depth es ks below each sorted =
-      keys_fall (λ (k : Keyed). k.entry) along es below ks (λ k d lt. (each k d lt).within) (λ k d lt. refl)
+      keys_fall (λ (k : Keyed ℕ). k.entry) along es below ks (λ k d lt. (each k d lt).within) (λ k d lt. refl)
       (λ k d low lt. ap is_lt (same_order (get_or ks k d) (get_or ks (k + 1) d) (each k d (omega arith)) (each (k + 1) d lt)) ∙ sorted k d low lt)
     where
-      along : Keyed → List ℕ
+      along : Keyed ℕ → List ℕ
       along k = map (rank_in ranks) (get_or es k.entry no_entry).numbers
 
-      same_order : (x y : Keyed) → IsKeyed ranks depth es x → IsKeyed ranks depth es y → slice_cmp nat_cmp (along x) (along y) ≡ nat_cmp x.key y.key
+      same_order : (x y : Keyed ℕ) → IsKeyed ranks depth es x → IsKeyed ranks depth es y → slice_cmp nat_cmp (along x) (along y) ≡ nat_cmp x.key y.key
       same_order x y hx hy =
           let long : length (along x) ≡ length (along y) = omega (arith, length-map (get_or es x.entry no_entry).numbers (rank_in ranks), length-map (get_or es y.entry no_entry).numbers (rank_in ranks), hx.deep, hy.deep) in
           sym (ap (λ n. nat_cmp n y.key) hx.key ∙ (ap (nat_cmp (digits_after (length ranks) 0 (along x))) hy.key ∙ digits_cmp (length ranks) (along x) (along y) 0 0 long hx.below hy.below))
@@ -218,10 +226,6 @@ entry_rows {R} entry pool es ranked sorted numbered moved =
     fill_by_all row_at (map (row_of pool) es) (length es) (row_of pool no_entry) (length-map es (row_of pool)) (λ k lt. get_or-map (row_of pool) es k no_entry (row_of pool no_entry) lt) in
     subst (λ l. IsPermutation l (map made sorted)) (map_map entry row_at ranked ∙ (ap (map row_at) numbered ∙ sym in_order)) (IsPermutation-map made ranked sorted moved)
 
-pub same_rows : (pool : List (List ℕ)) (es : List Entry) (ranked sorted : List Ranked) → map (λ (r : Ranked). r.entry) ranked ≡ range_with_len 0 (length es) → IsPermutation ranked sorted
-    → IsPermutation (map (row_of pool) es) (map (ranked_row pool es) sorted)
-same_rows pool es ranked sorted = entry_rows (λ (r : Ranked). r.entry) pool es ranked sorted
-
-pub same_keyed_rows : (pool : List (List ℕ)) (es : List Entry) (keyed sorted : List Keyed) → map (λ (k : Keyed). k.entry) keyed ≡ range_with_len 0 (length es) → IsPermutation keyed sorted
+pub same_rows : {K : Type 0} (pool : List (List ℕ)) (es : List Entry) (keyed sorted : List (Keyed K)) → map (λ (k : Keyed K). k.entry) keyed ≡ range_with_len 0 (length es) → IsPermutation keyed sorted
     → IsPermutation (map (row_of pool) es) (map (keyed_row pool es) sorted)
-same_keyed_rows pool es keyed sorted = entry_rows (λ (k : Keyed). k.entry) pool es keyed sorted
+same_rows {K} pool es keyed sorted = entry_rows (λ (k : Keyed K). k.entry) pool es keyed sorted

@@ -1,5 +1,5 @@
 -- What is known of a rollup after a file.
-use Rattle.std.proofs.Common.{◌≡◌, ◌+◌, ◌-◌, ◌<◌, ◌≤◌, ◌^◌, ℕ, Bool, true, cond, List, [], map, length, refl, sym, ap, subst, ◌∙◌, ◌⊎◌, arith}
+use Rattle.std.proofs.Common.{◌≡◌, ◌+◌, ◌-◌, ◌<◌, ◌≤◌, ◌^◌, ℕ, Bool, true, cond, List, map, length, refl, sym, ap, subst, ◌∙◌, ◌⊎◌, arith}
 use Rattle.std.specs.Prelude.{All, slice_index_or}
 use Rattle.std.specs.List.{sum_by}
 use Rattle.std.specs.List.Sorted.{IsPermutation}

@@ -1,13 +1,15 @@
 -- Labels and paths by their ranks.
 use Rattle.std.specs.Prelude.{◌≡◌, ◌+◌, ◌*◌, ◌<◌, ℕ, List, [], ◌∷◌, All, map, length, slice_index_or}
 use Rattle.std.specs.Cmp.Lexicographic.{slice_cmp}
+use Rattle.std.specs.Global.{Vec}
+use Rattle.std.specs.List.Sorted.{IsPermutation, IsSorted}
 use Rattle.std.specs.Ordering.{nat_cmp}
 use Rattle.std.specs.declared.cmp.Ordering.{Ordering}
 use Rattle.size_model.specs.Numbered.{text_of}
-use Rattle.rollup.specs.declared.fresh.Ranked.{Ranked}
 use Rattle.rollup.specs.declared.fresh.Keyed.{Keyed}
 use Rattle.rollup.specs.declared.order.WordedLabel.{WordedLabel}
 use Rattle.path_rows.specs.declared.row.RollupRow.{RollupRow}
+use Rattle.path_rows.specs.Rows.{FitTogether, falling}
 use Rattle.path_rows.specs.Words.{IsLessByWord, word_after}
 use Rattle.rollup.specs.Sizes.{Entry, no_entry, row_of}
 
@@ -42,17 +44,9 @@ pub record RankLabels (pool : List (List ℕ)) (ranks : List ℕ) : Type 0 where
   pub same : (a b : ℕ) → a < length pool → b < length pool → nat_cmp (rank_in ranks a) (rank_in ranks b) ≡ label_cmp pool a b
 
 -- `r` has the index of an entry and the ranks of its labels.
-pub record IsRanked (ranks : List ℕ) (es : List Entry) (r : Ranked) : Type 0 where
+pub record IsRanked (ranks : List ℕ) (es : List Entry) (r : Keyed (Vec ℕ)) : Type 0 where
   pub within : r.entry < length es
-  pub along : r.ranks.items ≡ map (rank_in ranks) (slice_index_or es r.entry no_entry).numbers
-
--- The order by ranks, the greatest first.
-abbrev pub falling_ranks : Ranked → Ranked → Ordering
-falling_ranks a b = slice_cmp nat_cmp b.ranks.items a.ranks.items
-
--- The row of a ranked entry.
-abbrev pub ranked_row : List (List ℕ) → List Entry → Ranked → RollupRow
-ranked_row pool es r = row_of pool (slice_index_or es r.entry no_entry)
+  pub along : r.key.items ≡ map (rank_in ranks) (slice_index_or es r.entry no_entry).numbers
 
 -- A number `n`, followed by these digits to a base.
 abbrev pub digits_after : ℕ → ℕ → List ℕ → ℕ
@@ -61,16 +55,22 @@ digits_after base n (x ∷ xs) = digits_after base (n * base + x) xs
 
 -- `k` has the index of an entry with `depth` labels, and a key whose digits are the ranks of these labels. Each digit
 -- is below the base, which is the number of ranks.
-pub record IsKeyed (ranks : List ℕ) (depth : ℕ) (es : List Entry) (k : Keyed) : Type 0 where
+pub record IsKeyed (ranks : List ℕ) (depth : ℕ) (es : List Entry) (k : Keyed ℕ) : Type 0 where
   pub within : k.entry < length es
   pub deep : length (slice_index_or es k.entry no_entry).numbers ≡ depth
   pub below : All (λ r. r < length ranks) (map (rank_in ranks) (slice_index_or es k.entry no_entry).numbers)
   pub key : k.key ≡ digits_after (length ranks) 0 (map (rank_in ranks) (slice_index_or es k.entry no_entry).numbers)
 
--- The order by keys, the greatest first.
-abbrev pub falling_keys : Keyed → Keyed → Ordering
-falling_keys a b = nat_cmp b.key a.key
-
 -- The row of a keyed entry.
-abbrev pub keyed_row : List (List ℕ) → List Entry → Keyed → RollupRow
+abbrev pub keyed_row : {K : Type 0} → List (List ℕ) → List Entry → Keyed K → RollupRow
 keyed_row pool es k = row_of pool (slice_index_or es k.entry no_entry)
+
+-- The labels of the entries are in the pool, and the sizes of all rows fit together.
+pub record HaveRows (pool : List (List ℕ)) (es : List Entry) : Type 0 where
+  pub below : All (λ (e : Entry). All (λ n. n < length pool) e.numbers) es
+  pub fits : FitTogether [] (map (row_of pool) es)
+
+-- The rows of these entries, the greatest path first.
+pub record AreNewRows (pool : List (List ℕ)) (es : List Entry) (rows : List RollupRow) : Type 0 where
+  pub same : IsPermutation (map (row_of pool) es) rows
+  pub falls : IsSorted falling rows

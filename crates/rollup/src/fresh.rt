@@ -1,36 +1,34 @@
 //! The rows of one file.
 
-ghost use Rattle.std.specs.Prelude.{◌≡◌, ◌^◌, ◌<◌, [], IfOk, OnOk, All, length, map, slice_index_or};
+ghost use Rattle.std.specs.Prelude.{◌≡◌, ◌<◌, [], IfOk, All, length, map, slice_index_or};
 ghost use Rattle.std.specs.List.{range_with_len};
 ghost use Rattle.std.specs.Option.{ForSome};
-ghost use Rattle.std.specs.List.Sorted.{IsPermutation, IsSorted};
 ghost use Rattle.size_model.specs.Numbered.{text_of};
-ghost use Rattle.path_rows.specs.Rows.{FitTogether, falling};
-ghost use Rattle.rollup.specs.Order.{IsKeyed, IsRanked, RankLabels, digits_after, falling_keys, falling_ranks, keyed_row, rank_in, ranked_row};
+ghost use Rattle.path_rows.specs.Rows.{FitTogether};
+ghost use Rattle.rollup.specs.Order.{AreNewRows, HaveRows, IsKeyed, IsRanked, RankLabels, digits_after, keyed_row, rank_in};
 ghost use Rattle.rollup.specs.Sizes.{Entry, no_entry, row_of};
 
-use crate::order::{rank_at, ranks_of};
+use crate::order::ranks_of;
 use crate::sizes::PathSizes;
 use path_rows::RollupRow;
 use size_core::{Bytes, LabelPool, NoMemory, Path};
 use std::alloc::{AllocError, Global};
 
-/// An entry of a file's sizes, and the ranks of its labels.
+/// An entry of a file's sizes, and the key that puts it in order.
 #[derive(Drop)]
-pub struct Ranked {
-    /// The ranks of its labels in their order.
-    pub ranks: Vec<usize>,
+pub struct Keyed<K> {
+    /// The key: the ranks of its labels in their order, or the number whose digits they are.
+    pub key: K,
     /// The index of the entry.
     pub entry: usize,
 }
 
-/// An entry, and the ranks of its labels as the digits of one number.
+// The entries of a file, and the pool of their labels.
 #[derive(Clone, Copy)]
-pub struct Keyed {
-    /// The number whose digits are the ranks.
-    pub key: usize,
-    /// The index of the entry.
-    pub entry: usize,
+struct Entries<'s> {
+    alloc: Global,
+    pool: &'s LabelPool,
+    sizes: &'s PathSizes,
 }
 
 fn ranks_along(alloc: Global, ranks: &[usize], numbers: &[usize]) -> Result<Vec<usize>, AllocError>
@@ -38,38 +36,24 @@ fn ranks_along(alloc: Global, ranks: &[usize], numbers: &[usize]) -> Result<Vec<
 {
     let mut along = Vec::with_capacity(alloc, numbers.len())?;
     for number in numbers {
-        along.push(rank_at(ranks, *number))?;
+        along.push(ranks.get(*number).copied().unwrap_or(0))?;
     }
     Ok(along)
 }
 
-fn ranked_entries(
-    alloc: Global,
-    ranks: &[usize],
-    sizes: &PathSizes,
-) -> Result<Vec<Ranked>, AllocError>
-    ensures entries { IfOk result (λ v. map (λ (r : Ranked). r.entry) v.items
-        ≡ range_with_len 0 (length sizes.now)) }
-    ensures ranks { IfOk result (λ v. All (IsRanked ranks.now sizes.now) v.items) }
+// The entries with the ranks of their labels.
+fn ranked_entries(file: Entries<'_>, ranks: &[usize]) -> Result<Vec<Keyed<Vec<usize>>>, AllocError>
+    ensures entries { IfOk result (λ v. map (λ r. r.entry) v.items
+        ≡ range_with_len 0 (length file.entry.sizes.now)) }
+    ensures ranks { IfOk result (λ v. All (IsRanked ranks.now file.entry.sizes.now) v.items) }
 {
-    let mut ranked = Vec::with_capacity(alloc, sizes.len())?;
-    for entry in 0..sizes.len() {
-        let (numbers, _) = sizes.get(entry);
-        let along = ranks_along(alloc, ranks, numbers)?;
-        ranked.push(Ranked {
-            ranks: along,
-            entry,
-        })?;
+    let mut ranked = Vec::with_capacity(file.alloc, file.sizes.len())?;
+    for entry in 0..file.sizes.len() {
+        let (numbers, _) = file.sizes.get(entry);
+        let key = ranks_along(file.alloc, ranks, numbers)?;
+        ranked.push(Keyed { key, entry })?;
     }
     Ok(ranked)
-}
-
-// Sorts the greatest path first. Most paths come in ascending runs, which a stable sort merges.
-fn sort_falling(ranked: &mut Vec<Ranked>) -> Result<(), AllocError>
-    ensures same { IsPermutation ranked.old.items ranked.new.items }
-    ensures sorted { OnOk result (IsSorted falling_ranks ranked.new.items) }
-{
-    ranked.sort_by(|a, b| b.ranks.as_slice().cmp(&a.ranks.as_slice()))
 }
 
 // The path of the labels with these numbers.
@@ -85,41 +69,30 @@ fn spell(alloc: Global, pool: &LabelPool, numbers: &[usize]) -> Result<Path, NoM
 }
 
 // The row of an entry.
-fn row_at(
-    alloc: Global,
-    pool: &LabelPool,
-    sizes: &PathSizes,
-    i: usize,
-) -> Result<RollupRow, NoMemory>
-    requires within { i < length sizes.now }
-    requires below { All (λ n. n < length pool.now) (slice_index_or sizes.now i no_entry).numbers }
-    requires vm { (slice_index_or sizes.now i no_entry).vm < 2 ^ 64 }
-    requires file { (slice_index_or sizes.now i no_entry).file < 2 ^ 64 }
-    ensures { IfOk result (λ r. r ≡ row_of pool.now (slice_index_or sizes.now i no_entry)) }
+fn row_at(file: Entries<'_>, i: usize) -> Result<RollupRow, NoMemory>
+    requires within { i < length file.sizes.now }
+    requires rows { HaveRows file.pool.now file.sizes.now }
+    ensures { IfOk result
+        (λ r. r ≡ row_of file.entry.pool.now (slice_index_or file.entry.sizes.now i no_entry)) }
 {
-    let (numbers, size) = sizes.get(i);
+    let (numbers, size) = file.sizes.get(i);
     Ok(RollupRow {
-        path: spell(alloc, pool, numbers)?,
+        path: spell(file.alloc, file.pool, numbers)?,
         vm: size.vm as u64,
         file: size.file as u64,
     })
 }
 
-fn rows_of(
-    alloc: Global,
-    pool: &LabelPool,
-    sizes: &PathSizes,
-    ranked: &[Ranked],
-) -> Result<Vec<RollupRow>, NoMemory>
-    requires within { All (λ (r : Ranked). r.entry < length sizes.now) ranked.now }
-    requires below { All (λ (e : Entry). All (λ n. n < length pool.now) e.numbers) sizes.now }
-    requires vm { All (λ (e : Entry). e.vm < 2 ^ 64) sizes.now }
-    requires file { All (λ (e : Entry). e.file < 2 ^ 64) sizes.now }
-    ensures { IfOk result (λ v. v.items ≡ map (ranked_row pool.now sizes.now) ranked.now) }
+// The rows of these entries.
+fn rows_of<K>(file: Entries<'_>, keyed: &[Keyed<K>]) -> Result<Vec<RollupRow>, NoMemory>
+    requires within { All (λ k. k.entry < length file.sizes.now) keyed.now }
+    requires rows { HaveRows file.pool.now file.sizes.now }
+    ensures { IfOk result
+        (λ v. v.items ≡ map (keyed_row file.entry.pool.now file.entry.sizes.now) keyed.now) }
 {
-    let mut rows = Vec::with_capacity(alloc, ranked.len())?;
-    for entry in ranked {
-        rows.push(row_at(alloc, pool, sizes, entry.entry)?)?;
+    let mut rows = Vec::with_capacity(file.alloc, keyed.len())?;
+    for entry in keyed {
+        rows.push(row_at(file, entry.entry)?)?;
     }
     Ok(rows)
 }
@@ -134,7 +107,7 @@ fn key_of(ranks: &[usize], numbers: &[usize]) -> Option<usize>
     let base = ranks.len();
     let mut key = 0usize;
     for number in numbers {
-        let rank = rank_at(ranks, *number);
+        let rank = *ranks.get(*number)?;
         if rank >= base {
             return None;
         }
@@ -154,19 +127,18 @@ fn first_depth(sizes: &PathSizes) -> usize {
 
 // The entries with their keys, if each has one and has `depth` labels.
 fn keyed_entries(
-    alloc: Global,
+    file: Entries<'_>,
     ranks: &[usize],
-    sizes: &PathSizes,
     depth: usize,
-) -> Result<Option<Vec<Keyed>>, AllocError>
+) -> Result<Option<Vec<Keyed<usize>>>, AllocError>
     ensures entries { IfOk result (λ o. ForSome o
-        (λ v. map (λ (k : Keyed). k.entry) v.items ≡ range_with_len 0 (length sizes.now))) }
+        (λ v. map (λ k. k.entry) v.items ≡ range_with_len 0 (length file.entry.sizes.now))) }
     ensures keys { IfOk result (λ o. ForSome o
-        (λ v. All (IsKeyed ranks.now depth sizes.now) v.items)) }
+        (λ v. All (IsKeyed ranks.now depth file.entry.sizes.now) v.items)) }
 {
-    let mut keyed = Vec::with_capacity(alloc, sizes.len())?;
-    for entry in 0..sizes.len() {
-        let (numbers, _) = sizes.get(entry);
+    let mut keyed = Vec::with_capacity(file.alloc, file.sizes.len())?;
+    for entry in 0..file.sizes.len() {
+        let (numbers, _) = file.sizes.get(entry);
         if numbers.len() != depth {
             return Ok(None);
         }
@@ -178,56 +150,20 @@ fn keyed_entries(
     Ok(Some(keyed))
 }
 
-// Sorts the greatest key first.
-fn sort_keyed(keyed: &mut Vec<Keyed>)
-    ensures same { IsPermutation keyed.old.items keyed.new.items }
-    ensures sorted { IsSorted falling_keys keyed.new.items }
-{
-    keyed.sort_unstable_by(|a, b| b.key.cmp(&a.key));
-}
-
-// The rows of keyed entries, in the same order.
-fn rows_of_keyed(
-    alloc: Global,
-    pool: &LabelPool,
-    sizes: &PathSizes,
-    keyed: &[Keyed],
-) -> Result<Vec<RollupRow>, NoMemory>
-    requires within { All (λ (k : Keyed). k.entry < length sizes.now) keyed.now }
-    requires below { All (λ (e : Entry). All (λ n. n < length pool.now) e.numbers) sizes.now }
-    requires vm { All (λ (e : Entry). e.vm < 2 ^ 64) sizes.now }
-    requires file { All (λ (e : Entry). e.file < 2 ^ 64) sizes.now }
-    ensures { IfOk result (λ v. v.items ≡ map (keyed_row pool.now sizes.now) keyed.now) }
-{
-    let mut rows = Vec::with_capacity(alloc, keyed.len())?;
-    for entry in keyed {
-        rows.push(row_at(alloc, pool, sizes, entry.entry)?)?;
-    }
-    Ok(rows)
-}
-
 // The rows of a file, the greatest path first, if each entry has a key: keys are compared as plain numbers, and no entry
 // needs a vector for its ranks.
-fn keyed_rows(
-    alloc: Global,
-    pool: &LabelPool,
-    sizes: &PathSizes,
-    ranks: &[usize],
-) -> Result<Option<Vec<RollupRow>>, NoMemory>
-    requires below { All (λ (e : Entry). All (λ n. n < length pool.now) e.numbers) sizes.now }
-    requires fits { FitTogether [] (map (row_of pool.now) sizes.now) }
-    requires labels { RankLabels pool.now ranks.now }
-    ensures same { IfOk result (λ o. ForSome o
-        (λ v. IsPermutation (map (row_of pool.now) sizes.now) v.items)) }
-    ensures falls { IfOk result (λ o. ForSome o
-        (λ v. IsSorted falling v.items)) }
+fn keyed_rows(file: Entries<'_>, ranks: &[usize]) -> Result<Option<Vec<RollupRow>>, NoMemory>
+    requires rows { HaveRows file.pool.now file.sizes.now }
+    requires labels { RankLabels file.pool.now ranks.now }
+    ensures { IfOk result (λ o. ForSome o
+        (λ v. AreNewRows file.entry.pool.now file.entry.sizes.now v.items)) }
 {
-    let depth = first_depth(sizes);
-    let Some(mut keyed) = keyed_entries(alloc, ranks, sizes, depth)? else {
+    let depth = first_depth(file.sizes);
+    let Some(mut keyed) = keyed_entries(file, ranks, depth)? else {
         return Ok(None);
     };
-    sort_keyed(&mut keyed);
-    let rows = rows_of_keyed(alloc, pool, sizes, keyed.as_slice())?;
+    keyed.sort_unstable_by(|a, b| b.key.cmp(&a.key));
+    let rows = rows_of(file, keyed.as_slice())?;
     Ok(Some(rows))
 }
 
@@ -239,14 +175,20 @@ pub fn new_rows(
 ) -> Result<Vec<RollupRow>, NoMemory>
     requires below { All (λ (e : Entry). All (λ n. n < length pool.now) e.numbers) sizes }
     requires fits { FitTogether [] (map (row_of pool.now) sizes) }
-    ensures same { IfOk result (λ v. IsPermutation (map (row_of pool.now) sizes) v.items) }
-    ensures falls { IfOk result (λ v. IsSorted falling v.items) }
+    ensures { IfOk result (λ v. AreNewRows pool.now sizes v.items) }
 {
     let ranks = ranks_of(alloc, pool)?;
-    if let Some(rows) = keyed_rows(alloc, pool, &sizes, ranks.as_slice())? {
+    let file = Entries {
+        alloc,
+        pool,
+        sizes: &sizes,
+    };
+    if let Some(rows) = keyed_rows(file, ranks.as_slice())? {
         return Ok(rows);
     }
-    let mut ranked = ranked_entries(alloc, ranks.as_slice(), &sizes)?;
-    sort_falling(&mut ranked)?;
-    rows_of(alloc, pool, &sizes, ranked.as_slice())
+
+    // Most paths come in ascending runs, which a stable sort merges.
+    let mut ranked = ranked_entries(file, ranks.as_slice())?;
+    ranked.sort_by(|a, b| b.key.as_slice().cmp(&a.key.as_slice()))?;
+    rows_of(file, ranked.as_slice())
 }

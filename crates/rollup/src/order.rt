@@ -1,11 +1,11 @@
 //! The ranks of labels, by their bytes.
 
-ghost use Rattle.std.specs.Prelude.{◌≡◌, ◌<◌, IfOk, OnOk, All, length, map};
+ghost use Rattle.std.specs.Prelude.{◌≡◌, IfOk, All, length, map};
 ghost use Rattle.std.specs.List.{IsDistinct, range_with_len};
 ghost use Rattle.std.specs.Str.{bytes_eq};
-ghost use Rattle.std.specs.List.Sorted.{IsPermutation, IsSorted, IsStrictlySortedBy};
+ghost use Rattle.std.specs.List.Sorted.{IsPermutation, IsStrictlySortedBy};
 ghost use Rattle.size_model.specs.Numbered.{text_of};
-ghost use Rattle.rollup.specs.Order.{AreIndices, IsWorded, RankLabels, label_cmp, rank_in, worded_cmp};
+ghost use Rattle.rollup.specs.Order.{AreIndices, IsWorded, RankLabels, label_cmp, worded_cmp};
 
 use path_rows::word_of_label;
 use size_core::{LabelPool, NoMemory};
@@ -23,12 +23,6 @@ fn label_of(pool: &LabelPool, number: usize) -> &[u8]
     }
 }
 
-fn compare_numbers(pool: &LabelPool, a: usize, b: usize) -> Ordering
-    ensures { result ≡ label_cmp pool.now a b }
-{
-    label_of(pool, a).cmp(&label_of(pool, b))
-}
-
 /// The number of a label, and its first bytes.
 #[derive(Clone, Copy)]
 pub struct WordedLabel {
@@ -43,7 +37,7 @@ fn compare_worded(pool: &LabelPool, a: WordedLabel, b: WordedLabel) -> Ordering
     ensures { result ≡ worded_cmp pool.now a b }
 {
     match a.word.cmp(&b.word) {
-        Ordering::Equal => compare_numbers(pool, a.number, b.number),
+        Ordering::Equal => label_of(pool, a.number).cmp(&label_of(pool, b.number)),
         order => order,
     }
 }
@@ -63,15 +57,6 @@ fn worded_labels(alloc: Global, pool: &LabelPool) -> Result<Vec<WordedLabel>, No
     Ok(labels)
 }
 
-// Sorts the least label first. Most labels come in ascending runs, which a stable sort merges.
-fn sort_worded(pool: &LabelPool, labels: &mut Vec<WordedLabel>) -> Result<(), NoMemory>
-    ensures same { IsPermutation labels.old.items labels.new.items }
-    ensures sorted { OnOk result (IsSorted (worded_cmp pool.now) labels.new.items) }
-{
-    labels.sort_by(|a, b| compare_worded(pool, *a, *b))?;
-    Ok(())
-}
-
 fn numbers_of(alloc: Global, labels: &[WordedLabel]) -> Result<Vec<usize>, NoMemory>
     ensures { IfOk result (λ v. v.items ≡ map (λ (w : WordedLabel). w.number) labels.now) }
 {
@@ -88,7 +73,9 @@ fn numbers_in_order(alloc: Global, pool: &LabelPool) -> Result<Vec<usize>, NoMem
     ensures ascend { IfOk result (λ v. IsStrictlySortedBy (label_cmp pool.now) v.items) }
 {
     let mut labels = worded_labels(alloc, pool)?;
-    sort_worded(pool, &mut labels)?;
+
+    // Most labels come in ascending runs, which a stable sort merges.
+    labels.sort_by(|a, b| compare_worded(pool, *a, *b))?;
     numbers_of(alloc, labels.as_slice())
 }
 
@@ -110,11 +97,4 @@ pub fn ranks_of(alloc: Global, pool: &LabelPool) -> Result<Vec<usize>, NoMemory>
 {
     let numbers = numbers_in_order(alloc, pool)?;
     indices_of(alloc, numbers.as_slice())
-}
-
-/// The rank of the label with a number.
-pub fn rank_at(ranks: &[usize], number: usize) -> usize
-    ensures { result ≡ rank_in ranks.now number }
-{
-    ranks.get(number).copied().unwrap_or(0)
 }

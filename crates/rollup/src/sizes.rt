@@ -78,20 +78,6 @@ impl LabelSizes {
         }
     }
 
-    fn len(&self) -> usize
-        ensures len { result ≡ length self.now }
-        ensures small { result < 2 ^ 63 }
-    {
-        self.items.len()
-    }
-
-    // Drops what only `find` needs.
-    fn forget_indices(&mut self, alloc: Global)
-        ensures { self.new ≡ self.old }
-    {
-        self.indices = Vec::new(alloc);
-    }
-
     // The list at an index, and its sizes.
     fn get(&self, i: usize) -> (&[usize], Sizes)
         requires { i < length self.now }
@@ -190,8 +176,7 @@ impl ListSizes {
 
     // How many lists there are.
     fn len(&self) -> usize
-        ensures len { result ≡ length self.now }
-        ensures small { result < 2 ^ 63 }
+        ensures { result ≡ length self.now }
     {
         self.items.len()
     }
@@ -204,13 +189,6 @@ impl ListSizes {
         let item = self.items[i];
         let end = item.first + item.len;
         (&self.numbers[item.first..end], item.sizes)
-    }
-
-    // Drops what only `find` needs.
-    fn forget_hints(&mut self, alloc: Global)
-        ensures { self.new ≡ self.old }
-    {
-        self.hints = Hints::new(alloc);
     }
 
     // True only if the list at an index is this one.
@@ -304,19 +282,29 @@ impl PathSizes {
         }
     }
 
-    /// Drops what only `add` needs, once the last size was added.
-    pub fn forget_hints(&mut self, alloc: Global)
-        ensures { self.new ≡ self.old }
+    /// The sizes without what only `add` needs, once the last size was added.
+    pub fn without_hints(self, alloc: Global) -> PathSizes
+        ensures { result ≡ self }
     {
-        self.labels.forget_indices(alloc);
-        self.lists.forget_hints(alloc);
+        let PathSizes { labels, lists } = self;
+        PathSizes {
+            labels: LabelSizes {
+                items: labels.items,
+                indices: Vec::new(alloc),
+            },
+            lists: ListSizes {
+                items: lists.items,
+                numbers: lists.numbers,
+                hints: Hints::new(alloc),
+            },
+        }
     }
 
     /// How many lists there are.
     pub fn len(&self) -> usize
         ensures { result ≡ length self.now }
     {
-        self.labels.len() + self.lists.len()
+        self.labels.items.len() + self.lists.items.len()
     }
 
     /// The list at an index, and its sizes.
@@ -324,7 +312,7 @@ impl PathSizes {
         requires { i < length self.now }
         ensures { slice_get self.now i ≡ Some (entry_of result.0.now result.1) }
     {
-        let count = self.labels.len();
+        let count = self.labels.items.len();
         if i < count {
             return self.labels.get(i);
         }

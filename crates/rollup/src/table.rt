@@ -8,12 +8,16 @@ ghost use Rattle.dual_map.specs.Layout.{IsOver, LabelsBelow};
 ghost use Rattle.path_rows.specs.Sums.{file_where, vm_where};
 ghost use Rattle.rollup.specs.Totals.{IsTotals};
 ghost use Rattle.rollup.specs.Adding.{file_count, vm_count, piece_count};
+ghost use Rattle.rollup.specs.Counted.{vm_limit};
 ghost use Rattle.rollup.specs.Files.{AddsFile, CountsInto, FitsInto};
 ghost use Rattle.rollup.specs.Sizes.{IsEntry};
 
 use crate::answer::RollupAnswer;
-use crate::file::{FileSizes, sizes_of_file};
+use crate::cursor::Part;
+use crate::file::FileSizes;
 use crate::fresh::new_rows;
+use crate::sizes::PathSizes;
+use crate::walk::{Walked, walk};
 use dual_map::{Base, DualMap};
 use path_rows::{OrderedRows, RollupRow};
 use size_core::{LabelPool, NoMemory, Steps};
@@ -45,6 +49,18 @@ impl Model for Rollup {
 
 // The most that the lengths of all files, or their mapped sizes, add up to.
 const MOST: u128 = (1 << 63) - 1;
+
+// The end of the positions that are walked. Without maps there is no way to distinguish mapped positions from others,
+// so only their number counts.
+fn last_position(base: &Base, maps: &[DualMap]) -> u128
+    ensures { result ≡ vm_limit base.now.loads maps.now }
+{
+    if maps.is_empty() {
+        base.mapped_size()
+    } else {
+        1 << 96
+    }
+}
 
 impl Rollup {
     /// A rollup for paths of `depth` labels, to which no file was added.
@@ -165,7 +181,26 @@ impl Rollup {
         if u128::from(self.mapped) + mapped > MOST {
             return Err(RollupAnswer::MappedTooLarge);
         }
-        let sizes = sizes_of_file(self.alloc, base, maps, passes, steps)?;
+        let mut sizes = PathSizes::new(self.alloc);
+        let marks = passes;
+        let part = Part::File;
+        walk(
+            self.alloc,
+            &mut sizes,
+            Walked { maps, part, marks },
+            u128::from(len),
+            steps,
+        )?;
+        let last = last_position(base, maps);
+        let part = Part::Vm;
+        walk(
+            self.alloc,
+            &mut sizes,
+            Walked { maps, part, marks },
+            last,
+            steps,
+        )?;
+        let sizes = sizes.without_hints(self.alloc);
         let mapped = mapped as u64;
         Ok(FileSizes { sizes, len, mapped })
     }

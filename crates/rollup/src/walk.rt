@@ -86,17 +86,13 @@ fn labels_at(cursors: &[Cursor], at: u128, numbers: &mut Vec<usize>) -> Result<b
     Ok(true)
 }
 
-// Whether a label is marked true.
-fn is_marked(marks: &[bool], number: usize) -> bool
-    ensures { result ≡ slice_index_or marks.now number false }
-{
-    marks.get(number).copied().unwrap_or(false)
-}
-
+// Whether one of these labels is marked true.
 fn any_is_marked(marks: &[bool], numbers: &[usize]) -> bool
     ensures { result ≡ list_any (λ n. slice_index_or marks.now n false) numbers.now }
 {
-    numbers.iter().any(|n| is_marked(marks, *n))
+    numbers
+        .iter()
+        .any(|n| marks.get(*n).copied().unwrap_or(false))
 }
 
 // Whether the filter passes one of the labels.

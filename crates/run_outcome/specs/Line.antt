@@ -26,18 +26,18 @@ usage_text BadPlace = codes "bad place"
 usage_text TwoPlaces = codes "two places"
 usage_text PlaceFile = codes "a place needs one file"
 
--- The number of a kind of configuration fault, as the line prints it.
-abbrev pub config_number : ConfigKind → ℕ
-config_number Syntax = 1
-config_number BadString = 2
-config_number NotUtf8 = 3
-config_number UnknownField = 4
-config_number RepeatedField = 5
-config_number MissingField = 6
-config_number BadName = 7
-config_number BadBase = 8
-config_number BadReplacement = 9
-config_number TooMany = 10
+-- The text of a fault of the configuration, with the number of its kind.
+abbrev pub config_fault : ConfigKind → List ℕ
+config_fault Syntax = codes "config fault 1"
+config_fault BadString = codes "config fault 2"
+config_fault NotUtf8 = codes "config fault 3"
+config_fault UnknownField = codes "config fault 4"
+config_fault RepeatedField = codes "config fault 5"
+config_fault MissingField = codes "config fault 6"
+config_fault BadName = codes "config fault 7"
+config_fault BadBase = codes "config fault 8"
+config_fault BadReplacement = codes "config fault 9"
+config_fault TooMany = codes "config fault 10"
 
 -- The line for a file: its name, and what is wrong with it.
 abbrev pub file_line : Result Options UsageKind → ℕ → List ℕ → List ℕ
@@ -55,7 +55,7 @@ line_of asked (ReadFailed i) = file_line asked i (codes "cannot be read")
 line_of asked (TooLong i) = file_line asked i (codes "too long")
 line_of asked (Config kind offset) =
     codes "bloaty: " ++ file_name asked 0 ++ codes ": offset " ++ decimal offset
-    ++ codes ": config fault " ++ decimal (config_number kind) ++ codes "\n"
+    ++ codes ": " ++ config_fault kind ++ codes "\n"
 line_of asked (UnknownSource i) = codes "bloaty: unknown source: " ++ source_name asked i ++ codes "\n"
 line_of asked (PatternSyntax i) = pattern_line i (codes "bad syntax")
 line_of asked (PatternTooBig i) = pattern_line i (codes "too big")

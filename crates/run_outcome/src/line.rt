@@ -3,7 +3,7 @@
 ghost use Rattle.std.specs.Prelude.{◌≡◌, ◌≤◌, ◌<◌, ◌++◌, [], List, ℕ, Ok, Err, codes, decimal, slice_get, unwrap_or, OnOk, OnErr};
 ghost use Rattle.outside.specs.Writes.{Writes};
 ghost use Rattle.size_options.specs.declared.errors.UsageKind.{UsageKind as UsageKindSpec};
-ghost use Rattle.run_outcome.specs.Line.{config_number, line_of, pattern_line, usage_text};
+ghost use Rattle.run_outcome.specs.Line.{config_fault, file_line, line_of, pattern_line, usage_text};
 ghost use Rattle.run_outcome.specs.Names.{file_name, other_names, source_name};
 ghost use Rattle.run_outcome.specs.declared.outcome.Outcome.TheVariants.{Done, Usage, NoMemory as OutOfMemory};
 
@@ -34,21 +34,21 @@ fn usage_text(kind: UsageKind) -> &'static str
     }
 }
 
-// The number of a kind of configuration fault, as the line prints it.
-fn config_number(kind: ConfigKind) -> u64
-    ensures { result ≡ config_number kind }
+// The text of a fault of the configuration, with the number of its kind.
+fn config_fault(kind: ConfigKind) -> &'static [u8]
+    ensures { result.now ≡ config_fault kind }
 {
     match kind {
-        ConfigKind::Syntax => 1,
-        ConfigKind::BadString => 2,
-        ConfigKind::NotUtf8 => 3,
-        ConfigKind::UnknownField => 4,
-        ConfigKind::RepeatedField => 5,
-        ConfigKind::MissingField => 6,
-        ConfigKind::BadName => 7,
-        ConfigKind::BadBase => 8,
-        ConfigKind::BadReplacement => 9,
-        ConfigKind::TooMany => 10,
+        ConfigKind::Syntax => b"config fault 1",
+        ConfigKind::BadString => b"config fault 2",
+        ConfigKind::NotUtf8 => b"config fault 3",
+        ConfigKind::UnknownField => b"config fault 4",
+        ConfigKind::RepeatedField => b"config fault 5",
+        ConfigKind::MissingField => b"config fault 6",
+        ConfigKind::BadName => b"config fault 7",
+        ConfigKind::BadBase => b"config fault 8",
+        ConfigKind::BadReplacement => b"config fault 9",
+        ConfigKind::TooMany => b"config fault 10",
     }
 }
 
@@ -102,12 +102,11 @@ fn source_name(options: &Options, number: usize) -> &[u8]
 }
 
 // Writes the line for a file: its name, and what is wrong with it.
-fn tell_file<E: Sink>(err: &mut E, name: &[u8], text: &[u8]) -> Result<(), Failed>
-    ensures writes { let line = codes "bloaty: " ++ name.now ++ codes ": " ++ text.now
-        ++ codes "\n" in
-        Writes E.Sink result line err.old err.new }
+fn tell_file<E: Sink>(err: &mut E, options: &Options, file: usize, why: &[u8]) -> Result<(), Failed>
+    ensures { Writes E.Sink result (file_line (Ok options.now) file why.now) err.old err.new }
 {
-    write_pieces(err, &[b"bloaty: ", name, b": ", text, b"\n"])
+    let name = file_name(options, file);
+    write_pieces(err, &[b"bloaty: ", name, b": ", why, b"\n"])
 }
 
 // Writes the line for a fault of a file, with the file offset of the fault.
@@ -124,65 +123,13 @@ fn tell_fault<E: Sink>(err: &mut E, name: &[u8], offset: u64, fault: &[u8]) -> R
     )
 }
 
-// Writes the line for a fault of the configuration. The offset and the number are decimal digits.
-fn write_config<E: Sink>(
-    err: &mut E,
-    name: &[u8],
-    offset: &[u8],
-    number: &[u8],
-) -> Result<(), Failed>
-    ensures writes { let line = codes "bloaty: " ++ name.now ++ codes ": offset " ++ offset.now
-        ++ codes ": config fault " ++ number.now ++ codes "\n" in
-        Writes E.Sink result line err.old err.new }
-{
-    write_pieces(
-        err,
-        &[
-            b"bloaty: ",
-            name,
-            b": offset ",
-            offset,
-            b": config fault ",
-            number,
-            b"\n",
-        ],
-    )
-}
-
-// Writes the line for a fault of the configuration.
-fn tell_config<E: Sink>(
-    err: &mut E,
-    name: &[u8],
-    offset: u64,
-    kind: ConfigKind,
-) -> Result<(), Failed>
-    ensures writes { let line = codes "bloaty: " ++ name.now ++ codes ": offset " ++ decimal offset
-        ++ codes ": config fault " ++ decimal (config_number kind) ++ codes "\n" in
-        Writes E.Sink result line err.old err.new }
-{
-    let mut offset_digits = Buffer::new();
-    let offset = offset_digits.format(offset).as_bytes();
-    let mut digits = Buffer::new();
-    let number = digits.format(config_number(kind)).as_bytes();
-    write_config(err, name, offset, number)
-}
-
-// Writes the line for a pattern that is refused. The number is decimal digits.
-fn write_pattern<E: Sink>(err: &mut E, number: &[u8], text: &[u8]) -> Result<(), Failed>
-    ensures writes { let line = codes "bloaty: pattern " ++ number.now ++ codes ": "
-        ++ text.now ++ codes "\n" in
-        Writes E.Sink result line err.old err.new }
-{
-    write_pieces(err, &[b"bloaty: pattern ", number, b": ", text, b"\n"])
-}
-
 // Writes the line for a pattern that is refused.
 fn tell_pattern<E: Sink>(err: &mut E, number: usize, text: &[u8]) -> Result<(), Failed>
     ensures writes { Writes E.Sink result (pattern_line number text.now) err.old err.new }
 {
     let mut digits = Buffer::new();
     let number = digits.format(number).as_bytes();
-    write_pattern(err, number, text)
+    write_pieces(err, &[b"bloaty: pattern ", number, b": ", text, b"\n"])
 }
 
 /// Writes the line for arguments that are misused. Returns `Failed` if a write failed.
@@ -212,9 +159,11 @@ pub fn tell<E: Sink>(err: &mut E, options: &Options, outcome: &Outcome) -> Resul
     match *outcome {
         Outcome::Done => Ok(()),
         Outcome::Usage(kind) => tell_usage(err, kind),
-        Outcome::ReadFailed(i) => tell_file(err, file_name(options, i), b"cannot be read"),
-        Outcome::TooLong(i) => tell_file(err, file_name(options, i), b"too long"),
-        Outcome::Config(kind, offset) => tell_config(err, file_name(options, 0), offset, kind),
+        Outcome::ReadFailed(i) => tell_file(err, options, i, b"cannot be read"),
+        Outcome::TooLong(i) => tell_file(err, options, i, b"too long"),
+        Outcome::Config(kind, offset) => {
+            tell_fault(err, file_name(options, 0), offset, config_fault(kind))
+        }
         Outcome::UnknownSource(i) => write_pieces(
             err,
             &[b"bloaty: unknown source: ", source_name(options, i), b"\n"],
@@ -231,9 +180,9 @@ pub fn tell<E: Sink>(err: &mut E, options: &Options, outcome: &Outcome) -> Resul
             offset,
             fault.name().as_bytes(),
         ),
-        Outcome::TooManyClaims(i) => tell_file(err, file_name(options, i), b"too many claims"),
+        Outcome::TooManyClaims(i) => tell_file(err, options, i, b"too many claims"),
         Outcome::MappedTooLarge => write_pieces(err, &[b"bloaty: mapped size too large\n"]),
-        Outcome::NoMatch => tell_file(err, file_name(options, 2), b"no match"),
+        Outcome::NoMatch => tell_file(err, options, 2, b"no match"),
         Outcome::PlaceOutside => write_pieces(err, &[b"bloaty: place outside the file\n"]),
         Outcome::WriteFailed => write_pieces(err, &[b"bloaty: output failed\n"]),
         Outcome::NoMemory => tell_no_memory(err),

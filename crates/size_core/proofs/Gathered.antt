@@ -34,11 +34,3 @@ gather_append f a (suc m) n =
     let k : suc m + n ≡ suc (m + n) = omega arith in
     let at : a + suc m ≡ a + 1 + m = omega arith in
     rw (k, at, gather_append f (a + 1) m n) (sym (append_assoc (f a) (gather f (a + 1) m) (gather f (a + 1 + m) n)))
-
-pub gather_one : {X : Type 0} (f : ℕ → List X) (a : ℕ) → gather f a 1 ≡ f a
-unfolding gather
-gather_one f a = append-nil (f a)
-
-pub gather_none : {X : Type 0} (f : ℕ → List X) (a : ℕ) → gather f a 0 ≡ []
-unfolding gather
-gather_none f a = refl

@@ -17,7 +17,6 @@ use Rattle.size_growth.specs.declared.growth.GrowthPath.{GrowthPath}
 use Rattle.size_growth.specs.declared.growth.GrowthSizes.{GrowthSizes}
 use Rattle.size_growth.specs.declared.row.GrowthKind.TheVariants.{Others}
 use Rattle.size_growth.specs.Groups.{IsGroup, IsRange, group_entry, others_group}
-use Rattle.size_growth.specs.Keys.{growth_key}
 use Rattle.size_growth.specs.Paths.{sums}
 use Rattle.size_growth.specs.Rows.{Entry, by_key, children, entries_of, is_child, label_entry, limited, others_entry}
 use Rattle.size_growth.specs.Runs.{path_from, runs, table_at}

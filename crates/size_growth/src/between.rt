@@ -75,92 +75,86 @@ fn in_both(alloc: Global, new: &RollupRow, base: &RollupRow) -> Result<GrowthPat
     })
 }
 
-// Processes the lesser of the two next paths, or both if they are equal.
-fn pass_lesser(
+/// The rollups that are compared, and the allocator for the paths.
+#[derive(Clone, Copy)]
+struct Rollups<'r> {
     alloc: Global,
-    new: &Rollup,
-    base: &Rollup,
-    at: Processed,
-    paths: &mut Vec<GrowthPath>,
-) -> Result<Processed, NoMemory>
-    requires new { at.new < length new.now.rows }
-    requires base { at.base < length base.now.rows }
-    requires new_fits { length new.now.rows < 2 ^ 64 }
-    requires base_fits { length base.now.rows < 2 ^ 64 }
-    ensures left { IfOk result (λ to. paths.new.items ++ left new.now.rows base.now.rows to
-        ≡ paths.old.items ++ left new.now.rows base.now.rows at) }
-    ensures within { IfOk result (IsWithin new.now.rows base.now.rows) }
-    ensures further { IfOk result (λ to. at.new + at.base < to.new + to.base) }
-{
-    let ours = new.row(at.new);
-    let theirs = base.row(at.base);
-    match compare_paths(&ours.path, &theirs.path) {
-        Ordering::Less => {
-            paths.push(only_new(alloc, ours)?)?;
-            Ok(Processed {
-                new: at.new + 1,
-                base: at.base,
-            })
-        }
-        Ordering::Equal => {
-            paths.push(in_both(alloc, ours, theirs)?)?;
-            Ok(Processed {
-                new: at.new + 1,
-                base: at.base + 1,
-            })
-        }
-        Ordering::Greater => {
-            paths.push(only_base(alloc, theirs)?)?;
-            Ok(Processed {
-                new: at.new,
-                base: at.base + 1,
-            })
-        }
-    }
+    new: &'r Rollup,
+    base: &'r Rollup,
 }
 
-// Processes the next path, up to one row of the new rollup.
-fn pass(
-    alloc: Global,
-    new: &Rollup,
-    base: &Rollup,
-    at: Processed,
-    paths: &mut Vec<GrowthPath>,
-) -> Result<Processed, NoMemory>
-    requires new { at.new < length new.now.rows }
-    requires base { at.base ≤ length base.now.rows }
-    requires new_fits { length new.now.rows < 2 ^ 64 }
-    requires base_fits { length base.now.rows < 2 ^ 64 }
-    ensures left { IfOk result (λ to. paths.new.items ++ left new.now.rows base.now.rows to
-        ≡ paths.old.items ++ left new.now.rows base.now.rows at) }
-    ensures within { IfOk result (IsWithin new.now.rows base.now.rows) }
-    ensures further { IfOk result (λ to. at.new + at.base < to.new + to.base) }
-{
-    if at.base < base.len() {
-        return pass_lesser(alloc, new, base, at, paths);
+impl<'r> Rollups<'r> {
+    // Processes the lesser of the two next paths, or both if they are equal.
+    fn pass_lesser(&self, at: Processed, paths: &mut Vec<GrowthPath>) -> Result<Processed, NoMemory>
+        requires new { at.new < length self.now.new.now.rows }
+        requires base { at.base < length self.now.base.now.rows }
+        requires new_fits { length self.now.new.now.rows < 2 ^ 64 }
+        requires base_fits { length self.now.base.now.rows < 2 ^ 64 }
+        ensures left { let new = self.now.new.now.rows in let base = self.now.base.now.rows in
+            IfOk result (λ to. paths.new.items ++ left new base to
+            ≡ paths.old.items ++ left new base at) }
+        ensures within { IfOk result (IsWithin self.now.new.now.rows self.now.base.now.rows) }
+        ensures further { IfOk result (λ to. at.new + at.base < to.new + to.base) }
+    {
+        let ours = self.new.row(at.new);
+        let theirs = self.base.row(at.base);
+        match compare_paths(&ours.path, &theirs.path) {
+            Ordering::Less => {
+                paths.push(only_new(self.alloc, ours)?)?;
+                Ok(Processed {
+                    new: at.new + 1,
+                    base: at.base,
+                })
+            }
+            Ordering::Equal => {
+                paths.push(in_both(self.alloc, ours, theirs)?)?;
+                Ok(Processed {
+                    new: at.new + 1,
+                    base: at.base + 1,
+                })
+            }
+            Ordering::Greater => {
+                paths.push(only_base(self.alloc, theirs)?)?;
+                Ok(Processed {
+                    new: at.new,
+                    base: at.base + 1,
+                })
+            }
+        }
     }
-    paths.push(only_new(alloc, new.row(at.new))?)?;
-    Ok(Processed {
-        new: at.new + 1,
-        base: at.base,
-    })
-}
 
-// Processes the remaining rows of the base rollup. The new one has none left.
-fn pass_rest(
-    alloc: Global,
-    base: &Rollup,
-    at: Processed,
-    paths: &mut Vec<GrowthPath>,
-) -> Result<(), NoMemory>
-    requires { at.base ≤ length base.now.rows }
-    ensures { OnOk result (paths.new.items
-        ≡ paths.old.items ++ map base_path (drop at.base base.now.rows)) }
-{
-    for i in at.base..base.len() {
-        paths.push(only_base(alloc, base.row(i))?)?;
+    // Processes the next path, up to one row of the new rollup.
+    fn pass(&self, at: Processed, paths: &mut Vec<GrowthPath>) -> Result<Processed, NoMemory>
+        requires new { at.new < length self.now.new.now.rows }
+        requires base { at.base ≤ length self.now.base.now.rows }
+        requires new_fits { length self.now.new.now.rows < 2 ^ 64 }
+        ensures left { let new = self.now.new.now.rows in let base = self.now.base.now.rows in
+            IfOk result (λ to. paths.new.items ++ left new base to
+            ≡ paths.old.items ++ left new base at) }
+        ensures within { IfOk result (IsWithin self.now.new.now.rows self.now.base.now.rows) }
+        ensures further { IfOk result (λ to. at.new + at.base < to.new + to.base) }
+    {
+        if at.base < self.base.len() {
+            return self.pass_lesser(at, paths);
+        }
+        paths.push(only_new(self.alloc, self.new.row(at.new))?)?;
+        Ok(Processed {
+            new: at.new + 1,
+            base: at.base,
+        })
     }
-    Ok(())
+
+    // Processes the remaining rows of the base rollup. The new one has none left.
+    fn pass_rest(&self, at: Processed, paths: &mut Vec<GrowthPath>) -> Result<(), NoMemory>
+        requires { at.base ≤ length self.now.base.now.rows }
+        ensures { OnOk result (paths.new.items
+            ≡ paths.old.items ++ map base_path (drop at.base self.now.base.now.rows)) }
+    {
+        for i in at.base..self.base.len() {
+            paths.push(only_base(self.alloc, self.base.row(i))?)?;
+        }
+        Ok(())
+    }
 }
 
 impl Growth {
@@ -172,11 +166,12 @@ impl Growth {
         ensures sizes { IfOk result (λ g. IsBetween new.now.rows base.now.rows g.paths) }
     {
         let mut paths = Vec::with_capacity(alloc, new.len().max(base.len()))?;
+        let rollups = Rollups { alloc, new, base };
         let mut at = Processed { new: 0, base: 0 };
         while at.new < new.len() {
-            at = pass(alloc, new, base, at, &mut paths)?;
+            at = rollups.pass(at, &mut paths)?;
         }
-        pass_rest(alloc, base, at, &mut paths)?;
+        rollups.pass_rest(at, &mut paths)?;
         Ok(Growth {
             depth: new.depth(),
             paths,

@@ -2,16 +2,15 @@
 
 ghost use Rattle.std.specs.Prelude.{◌≡◌, ◌<◌, ◌++◌, ◌∷◌, [], All, IfOk, OnOk, filter, length, map, if◌then◌else◌};
 ghost use Rattle.size_growth.specs.Groups.{IsGroup, IsPart, IsRange, IsRun, Rise, group_entry, others_group};
-ghost use Rattle.size_growth.specs.Keys.{amount, file_amount, growth_key, has_changed, vm_amount};
+ghost use Rattle.size_growth.specs.Keys.{growth_key, has_changed};
 ghost use Rattle.size_growth.specs.Paths.{sums};
-ghost use Rattle.size_growth.specs.Rows.{children, entries_of, is_child, label_entry};
+ghost use Rattle.size_growth.specs.Rows.{entries_of, is_child, label_entry};
 ghost use Rattle.size_growth.specs.Runs.{runs, table_at};
 ghost use Rattle.size_growth.specs.Sizes.{Fits, sums_by};
 
 use crate::growth::{GrowthPath, GrowthSizes};
-use report_rows::{Grouped, HasPath, Kind, RowOptions, is_shown, key, limit, run_len};
+use report_rows::{Grouped, HasPath, Kind, Levels, RowOptions, is_shown, key, limit, run_len};
 use size_core::{NoMemory, Path};
-use std::alloc::Global;
 use std::cmp::Reverse;
 
 /// A group: the paths of a growth from index `from` up to `to`, which share a label; or labels that a limit
@@ -44,37 +43,22 @@ pub fn sums(paths: &[GrowthPath]) -> GrowthSizes
     sizes
 }
 
-// The absolute difference of a new size and a base size.
-fn amount(new: u64, base: u64) -> u64
-    ensures { result ≡ amount new base }
-{
-    if new < base { base - new } else { new - base }
-}
-
-fn vm_amount(sizes: &GrowthSizes) -> u64
-    ensures { result ≡ vm_amount sizes.now }
-{
-    amount(sizes.new_vm, sizes.base_vm)
-}
-
-fn file_amount(sizes: &GrowthSizes) -> u64
-    ensures { result ≡ file_amount sizes.now }
-{
-    amount(sizes.new_file, sizes.base_file)
-}
-
 // The sort key: the shown change that rows are sorted by.
 fn growth_key(options: &RowOptions, sizes: &GrowthSizes) -> u64
     ensures { result ≡ growth_key options.now sizes.now }
 {
-    key(options, vm_amount(sizes), file_amount(sizes))
+    let vm = sizes.new_vm.abs_diff(sizes.base_vm);
+    let file = sizes.new_file.abs_diff(sizes.base_file);
+    key(options, vm, file)
 }
 
 // Whether a shown size has changed.
 fn has_changed(options: &RowOptions, sizes: &GrowthSizes) -> bool
     ensures { result ≡ has_changed options.now sizes.now }
 {
-    is_shown(options, vm_amount(sizes), file_amount(sizes))
+    let vm = sizes.new_vm.abs_diff(sizes.base_vm);
+    let file = sizes.new_file.abs_diff(sizes.base_file);
+    is_shown(options, vm, file)
 }
 
 impl HasPath for GrowthPath {
@@ -86,24 +70,18 @@ impl HasPath for GrowthPath {
 }
 
 // The group whose first path is at `from`.
-fn make_group(
-    options: &RowOptions,
-    depth: u32,
-    paths: &[GrowthPath],
-    level: u32,
-    from: usize,
-) -> Group
-    requires part { IsPart depth paths.now }
-    requires below { level < depth }
+fn make_group(levels: Levels, paths: &[GrowthPath], level: u32, from: usize) -> Group
+    requires part { IsPart levels.depth paths.now }
+    requires below { level < levels.depth }
     requires inside { from < length paths.now }
     ensures from { result.from ≡ from }
-    ensures group { IsGroup options.now paths.now result }
+    ensures group { IsGroup levels.options paths.now result }
     ensures run { IsRun level paths.now from result.to }
 {
     let to = from + run_len(&paths[from..], level as usize);
     let sizes = sums(&paths[from..to]);
     Group {
-        key: Reverse(growth_key(options, &sizes)),
+        key: Reverse(growth_key(&levels.options, &sizes)),
         from,
         to,
         kind: Kind::Label,
@@ -123,46 +101,21 @@ fn keep(options: &RowOptions, groups: &mut Vec<Group>, group: Group) -> Result<(
 }
 
 // The groups of a level with a changed shown size, in the order of the paths.
-fn groups_of(
-    alloc: Global,
-    options: &RowOptions,
-    depth: u32,
-    paths: &[GrowthPath],
-    level: u32,
-) -> Result<Vec<Group>, NoMemory>
-    requires part { IsPart depth paths.now }
-    requires below { level < depth }
+fn groups_of(levels: Levels, paths: &[GrowthPath], level: u32) -> Result<Vec<Group>, NoMemory>
+    requires part { IsPart levels.depth paths.now }
+    requires below { level < levels.depth }
     ensures entries { IfOk result (λ groups. map (group_entry level paths.now) groups.items
-        ≡ filter (is_child options.now) (map label_entry (runs (table_at level paths.now)))) }
-    ensures groups { IfOk result (λ groups. All (IsGroup options.now paths.now) groups.items) }
+        ≡ filter (is_child levels.options) (map label_entry (runs (table_at level paths.now)))) }
+    ensures groups { IfOk result (λ groups. All (IsGroup levels.options paths.now) groups.items) }
     ensures rise { IfOk result (λ groups. Rise groups.items) }
 {
-    let mut groups = Vec::new(alloc);
+    let mut groups = Vec::new(levels.alloc);
     let mut from = 0;
     while from < paths.len() {
-        let group = make_group(options, depth, paths, level, from);
-        keep(options, &mut groups, group)?;
+        let group = make_group(levels, paths, level, from);
+        keep(&levels.options, &mut groups, group)?;
         from = group.to;
     }
-    Ok(groups)
-}
-
-// The labels of a level with a changed shown size, in the order of a report.
-fn children(
-    alloc: Global,
-    options: &RowOptions,
-    depth: u32,
-    paths: &[GrowthPath],
-    level: u32,
-) -> Result<Vec<Group>, NoMemory>
-    requires part { IsPart depth paths.now }
-    requires below { level < depth }
-    ensures entries { IfOk result (λ groups. map (group_entry level paths.now) groups.items
-        ≡ children options.now (table_at level paths.now)) }
-    ensures groups { IfOk result (λ groups. All (IsGroup options.now paths.now) groups.items) }
-{
-    let mut groups = groups_of(alloc, options, depth, paths, level)?;
-    groups.sort_unstable();
     Ok(groups)
 }
 
@@ -194,20 +147,15 @@ impl Grouped for Group {
 }
 
 /// The groups of a level of these paths, within the limit, in the order of a report.
-pub fn entries(
-    alloc: Global,
-    options: &RowOptions,
-    depth: u32,
-    paths: &[GrowthPath],
-    level: u32,
-) -> Result<Vec<Group>, NoMemory>
-    requires part { IsPart depth paths.now }
-    requires below { level < depth }
+pub fn entries(levels: Levels, paths: &[GrowthPath], level: u32) -> Result<Vec<Group>, NoMemory>
+    requires part { IsPart levels.depth paths.now }
+    requires below { level < levels.depth }
     ensures entries { IfOk result (λ groups. map (group_entry level paths.now) groups.items
-        ≡ entries_of options.now (table_at level paths.now)) }
+        ≡ entries_of levels.options (table_at level paths.now)) }
     ensures ranges { IfOk result (λ groups. All (IsRange paths.now) groups.items) }
 {
-    let mut groups = children(alloc, options, depth, paths, level)?;
-    limit(options, &mut groups)?;
+    let mut groups = groups_of(levels, paths, level)?;
+    groups.sort_unstable();
+    limit(&levels.options, &mut groups)?;
     Ok(groups)
 }

@@ -1,6 +1,6 @@
 //! Paths with their sizes in new files and in base files.
 
-ghost use Rattle.std.specs.Prelude.{◌≡◌, ◌<◌, Some, length, slice_get};
+ghost use Rattle.std.specs.Prelude.{◌≡◌, length};
 ghost use Rattle.size_growth.specs.Paths.{IsGrowth};
 ghost use Rattle.size_growth.specs.Sizes.{Fits, no_sizes, plus};
 
@@ -88,21 +88,5 @@ impl Growth {
         ensures known { IsGrowth self.now.depth self.now.paths }
     {
         self.paths.len()
-    }
-
-    /// The path at index `i`, counted from 0, with its sizes.
-    pub fn path(&self, i: usize) -> &GrowthPath
-        requires { i < length self.now.paths }
-        ensures { slice_get self.now.paths i ≡ Some result.now }
-    {
-        &self.paths[i]
-    }
-
-    /// The paths, sorted.
-    pub(crate) fn paths(&self) -> &[GrowthPath]
-        ensures value { result.now ≡ self.now.paths }
-        ensures known { IsGrowth self.now.depth self.now.paths }
-    {
-        self.paths.as_slice()
     }
 }

@@ -1,6 +1,6 @@
 //! The rows of all levels.
 
-ghost use Rattle.std.specs.Prelude.{◌≡◌, ◌-◌, ◌<◌, ◌≤◌, ◌++◌, All, IfOk, OnOk, length, map};
+ghost use Rattle.std.specs.Prelude.{◌≡◌, ◌-◌, ◌<◌, ◌≤◌, ◌++◌, All, IfOk, OnOk, length};
 ghost use Rattle.report_rows.specs.declared.groups.Kind.TheVariants.{Label};
 ghost use Rattle.size_growth.specs.Groups.{IsPart, group_entry};
 ghost use Rattle.size_growth.specs.Rows.{growth_tree, listing, row_of};
@@ -10,16 +10,9 @@ ghost use Rattle.size_growth.specs.Trees.{GrowsAlike, IsGrowthTree};
 use crate::groups::{Group, entries, sums};
 use crate::growth::{Growth, GrowthPath};
 use crate::row::{GrowthKind, GrowthRow, GrowthRows, GrowthTree};
-use report_rows::{Kind, RowOptions};
+use report_rows::{Kind, Levels, RowOptions};
 use size_core::{Domain, NoMemory, Sort};
 use std::alloc::Global;
-
-// The number of levels of a report, and its options, which are those of each level.
-#[derive(Clone, Copy)]
-struct Levels {
-    depth: u32,
-    options: RowOptions,
-}
 
 // The row of a group.
 fn make_row(paths: &[GrowthPath], level: u32, group: &Group) -> Result<GrowthRow, NoMemory>
@@ -40,7 +33,6 @@ fn make_row(paths: &[GrowthPath], level: u32, group: &Group) -> Result<GrowthRow
 
 // Appends the rows of the levels from this one on.
 fn list(
-    alloc: Global,
     levels: Levels,
     paths: &[GrowthPath],
     level: u32,
@@ -54,11 +46,11 @@ fn list(
     if level == levels.depth {
         return Ok(());
     }
-    let groups = entries(alloc, &levels.options, levels.depth, paths, level)?;
+    let groups = entries(levels, paths, level)?;
     for group in &groups {
         let below = &paths[group.from..group.to];
         out.push(make_row(paths, level, group)?)?;
-        list(alloc, levels, below, level + 1, out)?;
+        list(levels, below, level + 1, out)?;
     }
     Ok(())
 }
@@ -87,10 +79,14 @@ pub fn growth_rows(
         domain,
     };
     let depth = growth.depth();
-    let paths = growth.paths();
+    let paths = growth.paths.as_slice();
     let mut rows = GrowthRows::new(alloc);
-    let levels = Levels { depth, options };
-    list(alloc, levels, paths, 0, &mut rows)?;
+    let levels = Levels {
+        alloc,
+        depth,
+        options,
+    };
+    list(levels, paths, 0, &mut rows)?;
     Ok(GrowthTree {
         depth,
         sizes: sums(paths),

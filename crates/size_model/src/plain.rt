@@ -4,7 +4,7 @@
 ghost use Rattle.std.specs.Prelude.{◌≡◌, ◌≤◌, take, length};
 ghost use Rattle.size_model.specs.Claims.{span_has, address_in, offset_in, covers_offset, covers_address};
 ghost use Rattle.size_model.specs.Labels.{offset_label, address_label};
-ghost use Rattle.size_model.specs.Loads.{load_has_address, load_has_offset, load_len, mapped, addr, place_in, place};
+ghost use Rattle.size_model.specs.Loads.{load_has_address, load_has_offset, mapped, addr, place_in, place};
 ghost use Rattle.size_model.specs.Sizes.{label_of_offset, label_of_address};
 
 use crate::view::{FileView, SourceView};
@@ -27,13 +27,6 @@ struct Reach {
     file: Span,
 }
 
-// Returns how many bytes of the file a load maps, before the cut at the end of the file.
-fn load_len(load: &Load) -> u64
-    ensures { result ≡ load_len load.now }
-{
-    load.filesz.min(load.memsz)
-}
-
 // Returns whether a load covers an address of a space.
 fn load_has_address(load: &Load, space: u32, address: u64) -> bool
     ensures { result ≡ load_has_address load.now space address }
@@ -45,7 +38,8 @@ fn load_has_address(load: &Load, space: u32, address: u64) -> bool
 fn load_has_offset(len: u64, load: &Load, offset: u64) -> bool
     ensures { result ≡ load_has_offset len load.now offset }
 {
-    load.offset <= offset && offset - load.offset < load_len(load) && offset < len
+    let mapped = load.filesz.min(load.memsz);
+    load.offset <= offset && offset - load.offset < mapped && offset < len
 }
 
 // Returns the file offset that a load maps to an address. `None` after the part of the load that is in the
@@ -54,7 +48,9 @@ fn place_in(len: u64, load: &Load, address: u64) -> Option<u64>
     ensures { result ≡ place_in len load.now address }
 {
     let distance = address.saturating_sub(load.vaddr);
-    if distance < load_len(load) && load.offset as u128 + (distance as u128) < len as u128 {
+    if distance < load.filesz.min(load.memsz)
+        && load.offset as u128 + (distance as u128) < len as u128
+    {
         Some(load.offset + distance)
     } else {
         None

@@ -1,10 +1,17 @@
-use Rattle.std.proofs.Common.{◌≡◌, ◌∙◌, sym, ap, refl, List, [], ◌∷◌, ◌≢◌, Bool, true, false, subst, inl, inr, Ok, Err, Result}
-use Rattle.clap.specs.Words.{App, HasMatchesOf, Text, found_of, is_simple, matches_of, rows_of, takes, is_simple_and_free, fault_of, FailsBy, HasKind, IsAmong, Kinds, kind_of}
+use Rattle.std.proofs.Common.{◌≡◌, ◌∙◌, sym, ap, ap₂, refl, option_map, List, [], ◌∷◌, ◌≢◌, Bool, true, false, subst, inl, inr, Ok, Err, Result}
+use Rattle.clap.specs.Words.{App, Rule, all_of, first_of, first_value, matched_of, raw_values, HasMatchesOf, Text, rule_of, with_rule, found_of, is_simple, matches_of, rows_of, takes, is_simple_and_free, fault_of, FailsBy, HasKind, IsAmong, Kinds, kind_of}
+use Rattle.clap.proofs.WalkLemmas.{first_value-rows, raw_values-rows}
+use Rattle.clap.specs.declared.builder.arg.Arg.{Arg}
 use Rattle.clap.specs.declared.parser.matches.ArgMatches.{ArgMatches}
+use Rattle.clap.specs.declared.parser.matches.Found.{Found}
 use Rattle.clap.specs.declared.error.Error.{Error}
 use Rattle.clap.specs.declared.error.kind.ErrorKind.{ErrorKind}
 use Rattle.clap.specs.declared.error.kind.ErrorKind.TheVariants.{OutOfMemory}
 use Rattle.size_options.specs.Command.{errors_of, profile_app, rows_by, takes_words}
+
+-- A command with one more argument.
+pub arg_added : {before old new : App} (a : Arg) (r : Rule) → (a.global ≡ false → new ≡ with_rule old (rule_of a)) → a.global ≡ false → rule_of a ≡ r → old ≡ before → new ≡ with_rule before r
+arg_added a r shape local rule is = shape local ∙ ap₂ with_rule is rule
 
 pub profile_is_simple : is_simple profile_app ≡ true
 unfolding profile_app
@@ -53,3 +60,9 @@ unfolding errors_of
 some_refused a words r e is fails err other none =
     has_some (fault_of a words) e (subst (λ q. FailsBy (fault_of a words) q) err (fails (ap is_simple_and_free is ∙ profile_is_free))) other
     (ap (λ (b : App). fault_of b words) is ∙ none)
+
+pub value_is : (f : Found) (id : Text) → first_value f id ≡ first_of id (rows_of f)
+value_is f id = first_value-rows f id
+
+pub values_are : (f : Found) (id : Text) → option_map raw_values (matched_of f id) ≡ all_of id (rows_of f)
+values_are f id = raw_values-rows f id

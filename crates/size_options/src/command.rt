@@ -1,52 +1,11 @@
 //! The `clap` command that parses the command line.
 
-ghost use Rattle.std.specs.Prelude.{◌≡◌, false, IfOk};
-ghost use Rattle.clap.specs.Words.{app_of, rule_of};
-ghost use Rattle.size_options.specs.Command.{bare_app, debug_rules, file_rules, file_words, label_rules, letter_flag, letter_option};
-ghost use Rattle.size_options.specs.Command.{profile_app, report_rules, row_rules, with_rules, word_flag, word_option};
+ghost use Rattle.std.specs.Prelude.{◌≡◌, IfOk};
+ghost use Rattle.clap.specs.Words.{app_of};
+ghost use Rattle.size_options.specs.Command.{bare_app, debug_rules, file_rules, label_rules, profile_app, report_rules, row_rules, with_rules};
 
 use clap::{Arg, ArgAction, Command};
 use std::alloc::{AllocError, Global};
-
-// An option with one letter and a value.
-fn letter_option<'a>(alloc: Global, id: &'a str, letter: char) -> Arg<'a>
-    ensures rule { rule_of result ≡ letter_option letter id.entry.now }
-    ensures local { result.global ≡ false }
-{
-    Arg::new(alloc, id).short(letter)
-}
-
-// An option with a long name and a value.
-fn word_option<'a>(alloc: Global, id: &'a str) -> Arg<'a>
-    ensures rule { rule_of result ≡ word_option id.entry.now }
-    ensures local { result.global ≡ false }
-{
-    Arg::new(alloc, id).long(id)
-}
-
-// A flag with one letter.
-fn letter_flag<'a>(alloc: Global, id: &'a str, letter: char) -> Arg<'a>
-    ensures rule { rule_of result ≡ letter_flag letter id.entry.now }
-    ensures local { result.global ≡ false }
-{
-    Arg::new(alloc, id).short(letter).action(ArgAction::SetTrue)
-}
-
-// A flag with a long name.
-fn word_flag<'a>(alloc: Global, id: &'a str) -> Arg<'a>
-    ensures rule { rule_of result ≡ word_flag id.entry.now }
-    ensures local { result.global ≡ false }
-{
-    Arg::new(alloc, id).long(id).action(ArgAction::SetTrue)
-}
-
-// Any number of files, each a separate argument.
-fn file_words<'a>(alloc: Global) -> Arg<'a>
-    ensures rule { rule_of result ≡ file_words }
-    ensures local { result.global ≡ false }
-{
-    Arg::new(alloc, "FILE").action(ArgAction::Append)
-}
 
 // A command without arguments, and without flags for help and for the version.
 fn bare_command<'a>(alloc: Global) -> Command<'a>
@@ -63,10 +22,10 @@ fn with_row_options<'a>(command: Command<'a>, alloc: Global) -> Result<Command<'
     ensures { IfOk result (λ c. app_of c ≡ with_rules (app_of command.entry) row_rules) }
 {
     command
-        .arg(letter_option(alloc, "sources", 'd'))?
-        .arg(letter_option(alloc, "limit", 'n'))?
-        .arg(letter_option(alloc, "sort", 's'))?
-        .arg(word_option(alloc, "domain"))
+        .arg(Arg::new(alloc, "sources").short('d'))?
+        .arg(Arg::new(alloc, "limit").short('n'))?
+        .arg(Arg::new(alloc, "sort").short('s'))?
+        .arg(Arg::new(alloc, "domain").long("domain"))
 }
 
 // Adds the flags for the format of a report.
@@ -74,9 +33,21 @@ fn with_report_flags<'a>(command: Command<'a>, alloc: Global) -> Result<Command<
     ensures { IfOk result (λ c. app_of c ≡ with_rules (app_of command.entry) report_rules) }
 {
     command
-        .arg(letter_flag(alloc, "wide", 'w'))?
-        .arg(word_flag(alloc, "csv"))?
-        .arg(word_flag(alloc, "tsv"))
+        .arg(
+            Arg::new(alloc, "wide")
+                .short('w')
+                .action(ArgAction::SetTrue),
+        )?
+        .arg(
+            Arg::new(alloc, "csv")
+                .long("csv")
+                .action(ArgAction::SetTrue),
+        )?
+        .arg(
+            Arg::new(alloc, "tsv")
+                .long("tsv")
+                .action(ArgAction::SetTrue),
+        )
 }
 
 // Adds the options for labels and their filter.
@@ -84,8 +55,8 @@ fn with_label_options<'a>(command: Command<'a>, alloc: Global) -> Result<Command
     ensures { IfOk result (λ c. app_of c ≡ with_rules (app_of command.entry) label_rules) }
 {
     command
-        .arg(letter_option(alloc, "config", 'c'))?
-        .arg(word_option(alloc, "source-filter"))
+        .arg(Arg::new(alloc, "config").short('c'))?
+        .arg(Arg::new(alloc, "source-filter").long("source-filter"))
 }
 
 // Adds the options for a debug file and for a location to explain.
@@ -93,9 +64,9 @@ fn with_debug_options<'a>(command: Command<'a>, alloc: Global) -> Result<Command
     ensures { IfOk result (λ c. app_of c ≡ with_rules (app_of command.entry) debug_rules) }
 {
     command
-        .arg(word_option(alloc, "debug-file"))?
-        .arg(word_option(alloc, "debug-fileoff"))?
-        .arg(word_option(alloc, "debug-vmaddr"))
+        .arg(Arg::new(alloc, "debug-file").long("debug-file"))?
+        .arg(Arg::new(alloc, "debug-fileoff").long("debug-fileoff"))?
+        .arg(Arg::new(alloc, "debug-vmaddr").long("debug-vmaddr"))
 }
 
 // Adds the option `--synth`, and the files.
@@ -103,8 +74,8 @@ fn with_files<'a>(command: Command<'a>, alloc: Global) -> Result<Command<'a>, Al
     ensures { IfOk result (λ c. app_of c ≡ with_rules (app_of command.entry) file_rules) }
 {
     command
-        .arg(word_option(alloc, "synth"))?
-        .arg(file_words(alloc))
+        .arg(Arg::new(alloc, "synth").long("synth"))?
+        .arg(Arg::new(alloc, "FILE").action(ArgAction::Append))
 }
 
 /// The command with all its arguments.

@@ -1,7 +1,7 @@
 //! What the matches hold, argument by argument. Only this module and those below it use `clap`.
 
-ghost use Rattle.std.specs.Prelude.{◌≡◌, map, option_map};
-ghost use Rattle.clap.specs.Words.{all_of, first_of, found_of, rows_of};
+ghost use Rattle.std.specs.Prelude.{◌≡◌};
+ghost use Rattle.clap.specs.Words.{found_of, rows_of};
 ghost use Rattle.size_options.specs.Given.{given_in, is_on, texts_of};
 
 use clap::ArgMatches;
@@ -39,49 +39,36 @@ pub struct Given<'m, 'a> {
     pub files: Option<&'m [&'a str]>,
 }
 
-// The value of an option, if it is given.
-fn value_of<'a>(matches: &ArgMatches<'a>, id: &str) -> Option<&'a str>
-    ensures { option_map (λ s. s.now) result ≡ first_of id.now (rows_of (found_of matches.now)) }
-{
-    matches.get_str(id)
-}
-
 // Whether a flag is given.
+#[tactic(auto, using(crate::proofs::CommandLemmas::value_is))]
 fn is_on(matches: &ArgMatches<'_>, id: &str) -> bool
     ensures { result ≡ is_on id.now (rows_of (found_of matches.now)) }
 {
-    match value_of(matches, id) {
+    match matches.get_str(id) {
         Some(text) => text == "true",
         None => false,
     }
 }
 
-// The values of an argument, if it is given.
-fn values_of<'m, 'a>(matches: &'m ArgMatches<'a>, id: &str) -> Option<&'m [&'a str]>
-    ensures { option_map (λ s. map (λ v. v.now) s.now) result
-        ≡ all_of id.now (rows_of (found_of matches.entry.now)) }
-{
-    matches.get_raw(id)
-}
-
 /// The arguments that the matches hold.
+#[tactic(auto, using(crate::proofs::CommandLemmas::value_is, crate::proofs::CommandLemmas::values_are))]
 pub fn given_of<'m, 'a>(matches: &'m ArgMatches<'a>) -> Given<'m, 'a>
     ensures { texts_of result ≡ given_in (rows_of (found_of matches.entry.now)) }
 {
     Given {
-        sources: value_of(matches, "sources"),
-        limit: value_of(matches, "limit"),
-        sort: value_of(matches, "sort"),
-        domain: value_of(matches, "domain"),
+        sources: matches.get_str("sources"),
+        limit: matches.get_str("limit"),
+        sort: matches.get_str("sort"),
+        domain: matches.get_str("domain"),
         wide: is_on(matches, "wide"),
         csv: is_on(matches, "csv"),
         tsv: is_on(matches, "tsv"),
-        config: value_of(matches, "config"),
-        filter: value_of(matches, "source-filter"),
-        debug: value_of(matches, "debug-file"),
-        offset: value_of(matches, "debug-fileoff"),
-        address: value_of(matches, "debug-vmaddr"),
-        synth: value_of(matches, "synth"),
-        files: values_of(matches, "FILE"),
+        config: matches.get_str("config"),
+        filter: matches.get_str("source-filter"),
+        debug: matches.get_str("debug-file"),
+        offset: matches.get_str("debug-fileoff"),
+        address: matches.get_str("debug-vmaddr"),
+        synth: matches.get_str("synth"),
+        files: matches.get_raw("FILE"),
     }
 }

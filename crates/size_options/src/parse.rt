@@ -1,11 +1,11 @@
 //! Parsing the command line.
 
-ghost use Rattle.std.specs.Prelude.{◌≡◌, ◌≤◌, [], None, Ok, IfErr, IfOk, length, map, option_map, position, string_bytes};
+ghost use Rattle.std.specs.Prelude.{◌≡◌, ◌≤◌, [], None, Ok, IfErr, IfOk, length, option_map};
 ghost use Rattle.size_options.specs.Answers.{IsRefusalOf, KeepsLimits, word_errors};
 ghost use Rattle.size_options.specs.Asked.{asked, debug_tests, first_usage, usage_tests};
 ghost use Rattle.size_options.specs.Given.{texts_of};
 ghost use Rattle.size_options.specs.Values.{address_of, domain_of, is_bad, number_of, offset_of, small_number_of, sort_of};
-ghost use Rattle.size_options.specs.Words.{base_words, is_mark, mark_at, seen_words};
+ghost use Rattle.size_options.specs.Words.{mark_at, seen_words};
 
 use crate::errors::{OptionAnswer, UsageKind};
 use crate::given::{Given, given_of};
@@ -131,28 +131,15 @@ fn usage_of(given: &Given<'_, '_>, has_no_base: bool, has_mark: bool) -> Option<
     }
 }
 
-// The index of the first argument `--`.
-fn find_mark(words: &[String]) -> Option<usize>
-    ensures { result ≡ position (λ w. is_mark (string_bytes w)) words.now }
-{
-    words.iter().position(|word| word.as_str() == "--")
-}
-
 // The number of arguments before the first `--`, or of all arguments if there is none.
 fn mark_at(words: &[String]) -> usize
     ensures at { result ≡ mark_at (seen_words words.now) }
     ensures within { result ≤ length words.now }
 {
-    find_mark(words).unwrap_or(words.len())
-}
-
-// The arguments after the first `--`.
-fn base_words(words: &[String], mark: usize) -> &[String]
-    requires at { mark ≡ mark_at (seen_words words.now) }
-    requires within { mark ≤ length words.now }
-    ensures { map string_bytes result.now ≡ base_words (seen_words words.now) }
-{
-    &words[(mark + 1).min(words.len())..]
+    words
+        .iter()
+        .position(|word| word.as_str() == "--")
+        .unwrap_or(words.len())
 }
 
 /// Parses the command line. `words` are the arguments after the program's name. The first argument `--` ends
@@ -169,8 +156,9 @@ pub fn options(alloc: Global, words: &[String]) -> Result<Options, OptionAnswer>
     let end = mark_at(words);
     let matches = matches_of(alloc, &words[..end])?;
     let given = given_of(&matches);
+    let bases = &words[(end + 1).min(words.len())..];
     match usage_of(&given, end + 1 == words.len(), end < words.len()) {
         Some(kind) => Err(OptionAnswer::Usage(kind)),
-        None => Ok(options_of(alloc, &given, base_words(words, end))?),
+        None => Ok(options_of(alloc, &given, bases)?),
     }
 }

@@ -1,6 +1,6 @@
 //! The options of a run.
 
-ghost use Rattle.std.specs.Prelude.{◌≡◌, IfOk, map, option_and_then, option_map, string_bytes};
+ghost use Rattle.std.specs.Prelude.{◌≡◌, IfOk, map, option_map, string_bytes};
 ghost use Rattle.size_core.specs.declared.choices.Domain.TheVariants as domain;
 ghost use Rattle.size_core.specs.declared.choices.Sort.TheVariants as sort;
 ghost use Rattle.size_options.specs.Asked.{format_of, options_in};
@@ -69,13 +69,6 @@ fn shown_sizes_of(value: Option<&str>) -> Domain
     ensures { result ≡ value_or domain_of domain.Both (option_map (λ s. s.now) value.entry) }
 {
     value.and_then(domain_of).unwrap_or(Domain::Both)
-}
-
-// The value of `--synth`.
-fn synth_of(value: Option<&str>) -> Option<u32>
-    ensures { result ≡ option_and_then small_number_of (option_map (λ s. s.now) value.entry) }
-{
-    value.and_then(small_number_of)
 }
 
 // The location to explain: that of `--debug-fileoff`, or else that of `--debug-vmaddr`.
@@ -176,7 +169,7 @@ pub fn options_of(
         config,
         debug,
         place: place_of(given.offset, given.address),
-        synth: synth_of(given.synth),
+        synth: given.synth.and_then(small_number_of),
         files,
         bases: names_by(alloc, bases)?,
     })

@@ -3,7 +3,7 @@
 ghost use Rattle.std.specs.Prelude.{◌≡◌};
 ghost use Rattle.std.specs.List.{list_all};
 ghost use Rattle.std.specs.Char.{is_ascii_digit, is_ascii_hexdigit};
-ghost use Rattle.size_options.specs.Values.{address_in, address_of, decimal_of, domain_of, has_digits, hexadecimal_of, is_bad_list, is_short};
+ghost use Rattle.size_options.specs.Values.{address_in, address_of, decimal_of, domain_of, hexadecimal_of, is_bad_list};
 ghost use Rattle.size_options.specs.Values.{names_in, number_of, offset_of, small_number_of, sort_of, wide_number_of};
 
 use size_core::{Domain, Place, Sort};
@@ -13,13 +13,6 @@ const MOST_FUNCTIONS: u32 = 1_000_000;
 
 /// The maximum number of data sources.
 const MOST_SOURCES: usize = 8;
-
-// Whether the text has at least one byte and at most `most`.
-fn is_short(text: &str, most: usize) -> bool
-    ensures { result ≡ is_short most text.now }
-{
-    !text.is_empty() && text.len() <= most
-}
 
 // Whether each byte of the text is a decimal digit.
 fn is_digits(text: &str) -> bool
@@ -35,25 +28,11 @@ fn is_hexadecimal(text: &str) -> bool
     text.as_bytes().iter().all(|b| b.is_ascii_hexdigit())
 }
 
-// Whether the text is one to `most` decimal digits.
-fn has_digits(text: &str, most: usize) -> bool
-    ensures { result ≡ has_digits is_ascii_digit most text.now }
-{
-    is_short(text, most) && is_digits(text)
-}
-
-// Whether the text is one to sixteen hexadecimal digits.
-fn has_hexadecimal_digits(text: &str) -> bool
-    ensures { result ≡ has_digits is_ascii_hexdigit 16 text.now }
-{
-    is_short(text, 16) && is_hexadecimal(text)
-}
-
 /// A number below 2^32 of one to ten digits. The digits are checked first, because `parse` accepts a sign.
 pub fn number_of(text: &str) -> Option<u32>
     ensures { result ≡ number_of text.now }
 {
-    if !has_digits(text, 10) {
+    if text.is_empty() || text.len() > 10 || !is_digits(text) {
         return None;
     }
     text.parse::<u32>().ok()
@@ -70,7 +49,7 @@ pub fn small_number_of(text: &str) -> Option<u32>
 fn decimal_of(text: &str) -> Option<u64>
     ensures { result ≡ decimal_of text.now }
 {
-    if !has_digits(text, 20) {
+    if text.is_empty() || text.len() > 20 || !is_digits(text) {
         return None;
     }
     text.parse::<u64>().ok()
@@ -80,7 +59,7 @@ fn decimal_of(text: &str) -> Option<u64>
 fn hexadecimal_of(text: &str) -> Option<u64>
     ensures { result ≡ hexadecimal_of text.now }
 {
-    if !has_hexadecimal_digits(text) {
+    if text.is_empty() || text.len() > 16 || !is_hexadecimal(text) {
         return None;
     }
     u64::from_str_radix(text, 16).ok()

@@ -93,7 +93,7 @@ fn first_faults(rt: HostRuntime) {
 /// The program has its header and its commands. The last command locates the symbols.
 fn has_commands(rt: &impl Abort, macho: &MachoFile<'_>) {
     assert!(rt; macho.wide() && macho.order() == Order::Little);
-    assert_eq!(rt; macho.encoding().wide, macho.fork().wide());
+    assert_eq!(rt; macho.wide(), macho.fork().wide());
     assert_eq!(rt; (macho.kind(), macho.command_count()), (2, 4));
     let symbols = macho.command(3);
     assert_eq!(rt; (symbols.place, symbols.kind, symbols.size), (328, 2, 24));

@@ -36,12 +36,14 @@ abbrev pub or_else : Option (List ℕ) → List ℕ → List ℕ
 or_else None other = other
 or_else (Some name) other = name
 
--- The label of a section: the name of a custom section, or `[Custom]` if its name can't be read; the standard's name of
--- the id; or `[Section #id]` for an id that isn't in the standard (WebAssembly core 2.0, 5.5.3 Custom Section).
+-- The label of a custom section is its name, or `[Custom]` if the name can't be read. Other sections have the standard's
+-- name of the id, if it has one (WebAssembly core 2.0, 5.5.3 Custom Section).
+abbrev pub known_label : SectionRecord → Option (List ℕ)
+known_label s = if s.id == CUSTOM then Some (or_else s.name (codes "[Custom]")) else standard_name s.id
+
+-- The label of a section: the one that it has by the standard, or `[Section #id]`.
 abbrev pub section_label : SectionRecord → List ℕ
-section_label s =
-    if s.id == CUSTOM then or_else s.name (codes "[Custom]")
-    else or_else (standard_name s.id) (codes "[Section #" ++ decimal s.id ++ codes "]")
+section_label s = or_else (known_label s) (codes "[Section #" ++ decimal s.id ++ codes "]")
 
 -- The claim of a section: its bytes from the id to the end of the contents (WebAssembly core 2.0, 5.5.2 Sections).
 unfoldable pub section_claim : Wrap → SectionRecord → List LabelledClaim

@@ -3,9 +3,8 @@
 ghost use Rattle.std.specs.Prelude.{◌≡◌, ◌++◌, codes, decimal, IfOk};
 ghost use Rattle.std.specs.Option.{option_copied};
 ghost use Rattle.claim_sheet.specs.Adds.{Adds};
-ghost use Rattle.claim_sheet.specs.Reaches.{claim_on, wrapped};
 ghost use Rattle.wasm_file.specs.Shown.{section as section_of};
-ghost use Rattle.wasm_claims.specs.Claims.{or_else, section_claim, section_claims, standard_name};
+ghost use Rattle.wasm_claims.specs.Claims.{known_label, or_else, section_claim, section_claims, standard_name};
 
 use claim_sheet::{ClaimSheet, Reach, Wrap, append, span};
 use itoa::Buffer;
@@ -58,24 +57,14 @@ fn numbered_label(alloc: Global, id: u8) -> Result<Vec<u8>, NoMemory>
     Ok(text)
 }
 
-// Adds the claim of a section that isn't a custom section.
-fn add_standard(
-    alloc: Global,
-    reach: Reach,
-    id: u8,
-    wrap: Wrap,
-    sheet: &mut ClaimSheet,
-) -> Result<(), NoMemory>
-    ensures { Adds result sheet.old sheet.new (claim_on reach (wrapped wrap
-        (or_else (standard_name id) (codes "[Section #" ++ decimal id ++ codes "]")))) }
+// Returns the label of a custom section, or of one whose id is in the standard.
+fn known_label<'a>(section: &WasmSection<'a>) -> Option<&'a [u8]>
+    ensures { option_copied result ≡ known_label (section_of section.now) }
 {
-    match standard_name(id) {
-        Some(name) => sheet.add(reach, wrap, name),
-        None => {
-            let label = numbered_label(alloc, id)?;
-            sheet.add(reach, wrap, &label)
-        }
+    if section.id == CUSTOM {
+        return Some(or_else(section.name, b"[Custom]"));
     }
+    standard_name(section.id)
 }
 
 #[tactic(auto, unfolding(crate::specs::Claims::section_claim))]
@@ -88,10 +77,13 @@ fn add_section(
     ensures { Adds result sheet.old sheet.new (section_claim wrap (section_of section.now)) }
 {
     let reach = Reach::in_file(span(0, section.place, section.len));
-    if section.id == CUSTOM {
-        return sheet.add(reach, wrap, or_else(section.name, b"[Custom]"));
+    match known_label(section) {
+        Some(label) => sheet.add(reach, wrap, label),
+        None => {
+            let label = numbered_label(alloc, section.id)?;
+            sheet.add(reach, wrap, &label)
+        }
     }
-    add_standard(alloc, reach, section.id, wrap, sheet)
 }
 
 /// Adds the claims of the sections, in order.

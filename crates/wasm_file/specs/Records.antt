@@ -59,3 +59,8 @@ values_in read count w = values (records read count w)
 pub record IsRead {X : Type 0} (read : Option (X × ℕ)) (w : Window) (x : X) (next : Window) : Type 0 where
   pub is : read ≡ Some (x, next.at)
   pub same : next ≡ record w { at = next.at }
+
+-- The result of a read of a window, and the window after it. Without a value the position is unspecified.
+abbrev pub Reads : {X : Type 0} → Option X → (Window → Option (X × ℕ)) → Window → Window → Type 0
+Reads None read old new = read old ≡ None
+Reads (Some x) read old new = IsRead (read old) old x new

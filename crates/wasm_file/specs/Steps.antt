@@ -3,15 +3,6 @@ use Rattle.std.specs.Prelude.{◌≡◌, ℕ, ◌≤◌, Option, Some, None, Ok}
 use Rattle.byte_cursor.specs.Window.{Window}
 use Rattle.wasm_file.specs.Sections.{size_at}
 
--- The window after a read. It is unchanged if the read failed.
-abbrev pub window_after : {X : Type 0} → Window → Option (X × ℕ) → Window
-window_after w None = w
-window_after w (Some x) = record w { at = x.1 }
-
--- next is the window after a read.
-abbrev pub IsAfter : {X : Type 0} → Window → Option (X × ℕ) → Window → Type 0
-IsAfter w read next = next ≡ window_after w read
-
 -- next is the window after a read that returns only the next offset.
 pub record IsPassed (w : Window) (next_offset : Option ℕ) (next : Window) : Type 0 where
   pub read : next_offset ≡ Some next.at

@@ -6,15 +6,13 @@ ghost use Rattle.std.specs.HashMap.{get};
 ghost use Rattle.wasm_file.specs.Functions.{bodies_in, body_at, first_with, numbered};
 ghost use Rattle.wasm_file.specs.Module.{checked};
 ghost use Rattle.wasm_file.specs.Names.{first_of_index, some_name};
-ghost use Rattle.wasm_file.specs.Records.{IsRead, checks_of, fault_in, under, values, values_in};
+ghost use Rattle.wasm_file.specs.Records.{Reads, checks_of, fault_in, under, values, values_in};
 ghost use Rattle.wasm_file.specs.Shown.{Answers};
-ghost use Rattle.wasm_file.specs.Steps.{or_else};
 
 use crate::answer::WasmAnswer;
 use crate::body::{Body, Extent};
 use crate::function_names::FunctionNames;
 use crate::imports::bad_wasm;
-use crate::names::some_name;
 use crate::reads::{number, piece};
 use crate::sections::WasmSections;
 use byte_cursor::Cursor;
@@ -34,24 +32,6 @@ pub fn first_with<'a>(sections: WasmSections<'a>, id: u8) -> Option<Cursor<'a>>
     None
 }
 
-/// Adds a name for an index that has none yet.
-fn add_name<'a>(
-    table: &mut HashMap<u32, &'a [u8]>,
-    index: u32,
-    name: &'a [u8],
-) -> Result<(), NoMemory>
-    ensures { OnOk result ((k : ℕ)
-        → option_copied (get nat_eq table.new k)
-        ≡ or_else (option_copied (get nat_eq table.old k))
-        (if index == k then Some name.now else None)) }
-{
-    if table.contains_key(&index) {
-        return Ok(());
-    }
-    table.insert(index, name)?;
-    Ok(())
-}
-
 /// Returns the names by index. If an index has several, the first one counts.
 fn name_table<'a>(
     alloc: Global,
@@ -62,7 +42,10 @@ fn name_table<'a>(
 {
     let mut table = HashMap::new(alloc);
     for (index, name) in names {
-        add_name(&mut table, index, name)?;
+        if table.contains_key(&index) {
+            continue;
+        }
+        table.insert(index, name)?;
     }
     Ok(table)
 }
@@ -72,17 +55,15 @@ fn name_at<'a>(table: &HashMap<u32, &'a [u8]>, index: u32) -> Option<&'a [u8]>
     ensures { option_copied result ≡ some_name (option_copied (get nat_eq table.now index)) }
 {
     match table.get(&index) {
-        Some(name) => some_name(name),
-        None => None,
+        Some(name) if !name.is_empty() => Some(name),
+        _ => None,
     }
 }
 
 /// Reads a body. `None` if it can't be read.
 #[tactic(auto, unfolding(crate::specs::Functions::body_at), using(crate::proofs::NameLemmas::piece_forward))]
 fn read_extent(cursor: &mut Cursor) -> Option<Extent>
-    ensures { MatchOption result
-        (body_at cursor.old ≡ None)
-        (λ e. IsRead (body_at cursor.old) cursor.old e cursor.new) }
+    ensures { Reads result body_at cursor.old cursor.new }
 {
     let place = cursor.place();
     piece(cursor)?;

@@ -4,7 +4,7 @@ ghost use Rattle.std.specs.Prelude.{◌≡◌, ◌≤◌, ◌<◌, ◌^◌, leng
 ghost use Rattle.std.specs.Option.{option_copied};
 ghost use Rattle.size_core.specs.Checks.{AllHold, IsFirstFault, first_of};
 ghost use Rattle.wasm_file.specs.Functions.{function_checks, functions_of, name_of};
-ghost use Rattle.wasm_file.specs.Module.{IsOpened, module_checks, opened, sections_of, start_of, version_checks};
+ghost use Rattle.wasm_file.specs.Module.{IsOpened, module_checks, opened, sections_of, version_checks};
 ghost use Rattle.wasm_file.specs.Shown.{Answers, IsFirstFaultOf};
 
 use crate::answer::WasmAnswer;
@@ -52,17 +52,6 @@ fn check_version(file: &[u8]) -> Result<(), BadFile>
     Err(BadFile { fault, offset: 4 })
 }
 
-/// Returns a cursor at the first section.
-fn start_of<'a>(file: &'a [u8]) -> Cursor<'a>
-    requires small { length file.now < 2 ^ 32 }
-    requires headed { 8 ≤ length file.now }
-    ensures { result ≡ start_of file.now }
-{
-    let mut cursor = Cursor::new(0, file);
-    let _ = cursor.skip(8);
-    cursor
-}
-
 impl<'a> WasmFile<'a> {
     /// Opens a module of fewer than 2^32 bytes. The checks come in this order, and the first fault is
     /// returned: the version at offset 4 (Truncated, BadHeader), and for each section, with the file offset
@@ -78,7 +67,9 @@ impl<'a> WasmFile<'a> {
             (IsFirstFault (module_checks file.now)) }
     {
         check_version(file)?;
-        check_sections(start_of(file))?;
+        let mut cursor = Cursor::new(0, file);
+        cursor.skip(8)?;
+        check_sections(cursor)?;
         Ok(WasmFile { file })
     }
 
@@ -97,7 +88,9 @@ impl<'a> WasmFile<'a> {
         ensures value { result ≡ sections_of self.now }
         ensures known { IsOpened self.now }
     {
-        WasmSections::new(start_of(self.file))
+        let mut cursor = Cursor::new(0, self.file);
+        let _ = cursor.skip(8);
+        WasmSections { cursor }
     }
 
     /// Returns the name of a function: that of the first pair with its index, in the function names of the

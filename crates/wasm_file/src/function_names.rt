@@ -3,8 +3,8 @@
 ghost use Rattle.std.specs.Prelude.{◌≡◌, [], ◌∷◌, None, Ok, is_ok, MatchOption};
 ghost use Rattle.std.specs.Iterator.{YieldsFirstBy, item_count};
 ghost use Rattle.wasm_file.specs.Names.{pair_at, pairs_in};
-ghost use Rattle.wasm_file.specs.Records.{IsRead, fault_in, values_in};
-ghost use Rattle.wasm_file.specs.Shown.{named};
+ghost use Rattle.wasm_file.specs.Records.{Reads, fault_in, values_in};
+ghost use Rattle.wasm_file.specs.Shown.{named, pair};
 
 use crate::reads::{name, number};
 use byte_cursor::Cursor;
@@ -13,9 +13,7 @@ use std::marker::Model;
 /// Reads a pair of a function index and a name.
 #[tactic(auto, unfolding(crate::specs::Names::pair_at))]
 fn read_pair<'a>(cursor: &mut Cursor<'a>) -> Option<(u32, &'a [u8])>
-    ensures { MatchOption result
-        (pair_at cursor.old ≡ None)
-        (λ p. IsRead (pair_at cursor.old) cursor.old (named p) cursor.new) }
+    ensures { Reads (pair result) pair_at cursor.old cursor.new }
 {
     let index = number(cursor)?;
     let name = name(cursor)?;
@@ -91,27 +89,19 @@ impl<'a> Iterator for FunctionNames<'a> {
 
 /// Returns the pairs of a subsection, and none if one of them can't be read.
 #[tactic(auto, unfolding(crate::specs::Names::pairs_in, crate::specs::Records::vector, crate::specs::Records::fault_in, crate::specs::Records::values_in))]
-pub fn pairs_in<'a>(contents: Option<Cursor<'a>>) -> FunctionNames<'a>
-    ensures { result ≡ pairs_in contents.entry }
+pub fn pairs_in<'a>(contents: Cursor<'a>) -> FunctionNames<'a>
+    ensures { result ≡ pairs_in (Some contents.entry) }
 {
-    let Some(mut cursor) = contents else {
-        return no_names();
-    };
-    let Some(count) = number(&mut cursor) else {
-        return no_names();
-    };
-    if !are_pairs(&cursor, count) {
-        return no_names();
-    }
-    FunctionNames {
-        cursor,
-        left: count,
+    let mut cursor = contents;
+    match number(&mut cursor) {
+        Some(left) if are_pairs(&cursor, left) => FunctionNames { cursor, left },
+        _ => no_names(),
     }
 }
 
 /// Returns an empty list of names.
 #[tactic(auto, using(crate::proofs::RecordLemmas::fault_end, crate::proofs::RecordLemmas::values_end))]
-fn no_names<'a>() -> FunctionNames<'a>
+pub fn no_names<'a>() -> FunctionNames<'a>
     ensures { result ≡ [] }
 {
     FunctionNames {

@@ -1,35 +1,35 @@
 //! Imports.
 
-ghost use Rattle.std.specs.Prelude.{◌≡◌, None, MatchOption, count_by, if◌then◌else◌};
+ghost use Rattle.std.specs.Prelude.{◌≡◌, None, MatchOption, count_by};
 ghost use Rattle.size_core.specs.declared.fault.Fault.TheVariants.{BadWasm};
 ghost use Rattle.wasm_file.specs.Imports.{after_description, after_limits, function_count, import_at, imports_in};
 ghost use Rattle.wasm_file.specs.Module.{checked};
-ghost use Rattle.wasm_file.specs.Records.{IsRead, checks_of, fault_in, under, values_in};
+ghost use Rattle.wasm_file.specs.Records.{Reads, checks_of, fault_in, under, values_in};
 ghost use Rattle.wasm_file.specs.Steps.{IsPassed};
 
 use crate::constants::{FUNCTION_IMPORT, GLOBAL_IMPORT, MEMORY_IMPORT, TABLE_IMPORT};
-use crate::reads::{byte, long_number, name, number};
+use crate::reads::{name, number};
 use byte_cursor::Cursor;
 use size_core::{BadFile, Fault};
 
 /// Skips limits: a flag and the minimum, and the maximum if bit 0 of the flag is set (WebAssembly core
 /// 2.0, 5.3.7 Limits).
-#[tactic(auto, unfolding(crate::specs::Imports::after_limits))]
+#[tactic(auto, unfolding(crate::specs::Imports::after_limits, crate::specs::Numbers::byte_at, crate::specs::Numbers::long_number_at))]
 fn skip_limits(cursor: &mut Cursor) -> Option<()>
     ensures { MatchOption result
         (after_limits cursor.old.bytes cursor.old.at ≡ None)
         (λ _. IsPassed cursor.old (after_limits cursor.old.bytes cursor.old.at) cursor.new) }
 {
-    let flag = byte(cursor)?;
-    long_number(cursor)?;
+    let flag = cursor.u8().ok()?;
+    cursor.uleb().ok()?;
     if flag % 2 == 1 {
-        long_number(cursor)?;
+        cursor.uleb().ok()?;
     }
     Some(())
 }
 
 /// Skips the description of an import of this kind.
-#[tactic(auto, unfolding(crate::specs::Imports::after_description))]
+#[tactic(auto, unfolding(crate::specs::Imports::after_description, crate::specs::Numbers::byte_at))]
 fn skip_description(cursor: &mut Cursor, kind: u8) -> Option<()>
     ensures { MatchOption result
         (after_description cursor.old.bytes kind cursor.old.at ≡ None)
@@ -42,13 +42,13 @@ fn skip_description(cursor: &mut Cursor, kind: u8) -> Option<()>
             Some(())
         }
         TABLE_IMPORT => {
-            byte(cursor)?;
+            cursor.u8().ok()?;
             skip_limits(cursor)
         }
         MEMORY_IMPORT => skip_limits(cursor),
         GLOBAL_IMPORT => {
-            byte(cursor)?;
-            byte(cursor)?;
+            cursor.u8().ok()?;
+            cursor.u8().ok()?;
             Some(())
         }
         _ => None,
@@ -56,24 +56,15 @@ fn skip_description(cursor: &mut Cursor, kind: u8) -> Option<()>
 }
 
 /// Reads an import, and returns whether it is a function.
-#[tactic(auto, unfolding(crate::specs::Imports::import_at))]
+#[tactic(auto, unfolding(crate::specs::Imports::import_at, crate::specs::Numbers::byte_at))]
 fn read_import(cursor: &mut Cursor) -> Option<bool>
-    ensures { MatchOption result
-        (import_at cursor.old ≡ None)
-        (λ is_function. IsRead (import_at cursor.old) cursor.old is_function cursor.new) }
+    ensures { Reads result import_at cursor.old cursor.new }
 {
     name(cursor)?;
     name(cursor)?;
-    let kind = byte(cursor)?;
+    let kind = cursor.u8().ok()?;
     skip_description(cursor, kind)?;
     Some(kind == FUNCTION_IMPORT)
-}
-
-/// Returns 1 for true, and 0 for false.
-fn one_if(holds: bool) -> u32
-    ensures { result ≡ (if holds then 1 else 0) }
-{
-    if holds { 1 } else { 0 }
 }
 
 /// Returns how many of the next `count` imports are functions. BadWasm at the first import that can't be
@@ -88,7 +79,7 @@ fn count_functions(cursor: Cursor, count: u32) -> Result<u32, BadFile>
     for i in 0..count {
         let place = rest.place();
         match read_import(&mut rest) {
-            Some(is_function) => found += one_if(is_function),
+            Some(is_function) => found += u32::from(is_function),
             None => return Err(bad_wasm(place)),
         }
     }

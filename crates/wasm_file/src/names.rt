@@ -1,13 +1,13 @@
 //! The names of functions.
 
-ghost use Rattle.std.specs.Prelude.{◌≡◌, Some, None, MatchOption};
+ghost use Rattle.std.specs.Prelude.{◌≡◌, codes};
 ghost use Rattle.std.specs.Option.{option_copied};
-ghost use Rattle.wasm_file.specs.Names.{custom_named, function_names, is_name, name_in, some_name, subsection_at, subsection_from, subsection_of_names};
-ghost use Rattle.wasm_file.specs.Records.{IsRead};
+ghost use Rattle.wasm_file.specs.Names.{custom_named, function_names, is_name, name_in, subsection_at, subsection_from, subsection_of_names};
+ghost use Rattle.wasm_file.specs.Records.{Reads};
 
 use crate::constants::FUNCTION_NAMES;
-use crate::function_names::{FunctionNames, pairs_in};
-use crate::reads::{byte, name, piece};
+use crate::function_names::{FunctionNames, no_names, pairs_in};
+use crate::reads::{name, piece};
 use crate::sections::WasmSections;
 use byte_cursor::Cursor;
 
@@ -34,13 +34,11 @@ fn find_custom_section<'a>(sections: WasmSections<'a>, wanted: &[u8]) -> Option<
 }
 
 /// Reads a subsection, and returns its id and its contents.
-#[tactic(auto, unfolding(crate::specs::Names::subsection_at))]
+#[tactic(auto, unfolding(crate::specs::Names::subsection_at, crate::specs::Numbers::byte_at))]
 fn next_subsection<'a>(cursor: &mut Cursor<'a>) -> Option<(u8, Cursor<'a>)>
-    ensures { MatchOption result
-        (subsection_at cursor.old ≡ None)
-        (λ s. IsRead (subsection_at cursor.old) cursor.old s cursor.new) }
+    ensures { Reads result subsection_at cursor.old cursor.new }
 {
-    let kind = byte(cursor)?;
+    let kind = cursor.u8().ok()?;
     let contents = piece(cursor)?;
     Some((kind, contents))
 }
@@ -63,22 +61,25 @@ fn find_subsection<'a>(cursor: Cursor<'a>, id: u8) -> Option<Cursor<'a>>
     }
 }
 
-/// Returns the contents of the function names subsection of a custom section.
+/// Returns the contents of the function names subsection of the first custom section `name`.
 #[tactic(auto, unfolding(crate::specs::Names::subsection_of_names))]
-fn find_name_subsection<'a>(section: Option<Cursor<'a>>) -> Option<Cursor<'a>>
-    ensures { result ≡ subsection_of_names section.entry }
+fn find_name_subsection<'a>(sections: WasmSections<'a>) -> Option<Cursor<'a>>
+    ensures { result ≡ subsection_of_names (custom_named (codes "name") sections.entry) }
 {
-    let mut contents = section?;
+    let mut contents = find_custom_section(sections, b"name")?;
     name(&mut contents)?;
     find_subsection(contents, FUNCTION_NAMES)
 }
 
 /// Returns the function names of a module with these sections, as pairs of index and name.
-#[tactic(auto, unfolding(crate::specs::Names::function_names))]
+#[tactic(auto, unfolding(crate::specs::Names::function_names, crate::specs::Names::pairs_in))]
 pub fn function_names<'a>(sections: WasmSections<'a>) -> FunctionNames<'a>
     ensures { result ≡ function_names sections.entry }
 {
-    pairs_in(find_name_subsection(find_custom_section(sections, b"name")))
+    match find_name_subsection(sections) {
+        Some(contents) => pairs_in(contents),
+        None => no_names(),
+    }
 }
 
 /// Returns the name of the function with this index. `None` if it has no name or an empty one.
@@ -87,15 +88,8 @@ pub fn name_in<'a>(names: FunctionNames<'a>, index: u32) -> Option<&'a [u8]>
 {
     for (i, name) in names {
         if i == index {
-            return some_name(name);
+            return if name.is_empty() { None } else { Some(name) };
         }
     }
     None
-}
-
-/// Returns the name. `None` if it is empty.
-pub fn some_name<'a>(name: &'a [u8]) -> Option<&'a [u8]>
-    ensures { option_copied result ≡ some_name (Some name.now) }
-{
-    if name.is_empty() { None } else { Some(name) }
 }

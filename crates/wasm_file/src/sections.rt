@@ -45,7 +45,7 @@ fn next_section<'a>(cursor: &mut Cursor<'a>) -> Option<WasmSection<'a>>
 /// the file.
 #[derive(Drop)]
 pub struct WasmSections<'a> {
-    cursor: Cursor<'a>,
+    pub(crate) cursor: Cursor<'a>,
 }
 
 impl<'a> Model for WasmSections<'a> {
@@ -57,16 +57,6 @@ impl<'a> Model for WasmSections<'a> {
     ghost view = { λ s. to_come s.cursor };
 
     ghost invariant = { λ s. AreThere s.cursor };
-}
-
-impl<'a> WasmSections<'a> {
-    /// Returns the sections from the cursor's position on.
-    pub(crate) fn new(cursor: Cursor<'a>) -> WasmSections<'a>
-        requires { AreThere cursor }
-        ensures { result ≡ to_come cursor.entry }
-    {
-        WasmSections { cursor }
-    }
 }
 
 impl<'a> Iterator for WasmSections<'a> {

@@ -1,14 +1,14 @@
 -- The synthetic file is counted, or it is too long.
-use Rattle.std.proofs.Common.{◌+◌, ◌≤◌, [], ◌∷◌, length, Err, ap, refl, codes, arith, rules}
+use Rattle.std.proofs.Common.{[], ◌∷◌, length, Ok, Err, ap, refl, codes, arith, rules}
 use Rattle.std.proofs.lemmas.Grind.{common_steps}
 use Rattle.std.proofs.lemmas.Result.{err_from_is_err_and}
 use Rattle.elf_synth.specs.Made.{made}
 use Rattle.file_profile.specs.Counts.{filter_test}
 use Rattle.bloaty_engine.specs.Steps.{batch_of}
-use Rattle.bloaty_engine.specs.Verdict.{next_limit, total_limit}
-use Rattle.bloaty_engine.proofs.FileLemmas.{count-next, count-stops, none-yet, read-stops}
+use Rattle.bloaty_engine.specs.Verdict.{next_limit}
+use Rattle.bloaty_engine.proofs.BatchLemmas.{made-counted}
+use Rattle.bloaty_engine.proofs.FileLemmas.{none-yet, read-stops}
 use Rattle.file_profile.proofs.MapLemmas.{err-same}
-use Rattle.bloaty_engine.proofs.ResultLemmas.{ok-some}
 use Rattle.bloaty_engine.proofs.files.count_made.Goals as goal
 
 pub returns-in_err-file : goal.returns-in_err-file
@@ -33,20 +33,9 @@ returns-in_err-file g c =
 pub returns : goal.returns
 returns g c =
     let file = c.in_ok-file.ensures.ends in
-    let limits = c.args.run.now.limits in
-    let sources = c.args.plan.now.sources in
-    let test = filter_test c.args.plan.now.filter in
-    let batch = batch_of 0 0 (codes "synth" ∷ []) in
-    let room : 0 + length (made c.args.n) ≤ total_limit limits = omega (arith, file.1) in
     let counts = rw (c.new-total.ensures, c.deref.ensures.value, file.0, c.in_ok-name.ensures) at c.in_ok-count_file.ensures in
-    let f = ok-some _ (counts.ended 0 room) in
-    let none = none-yet limits sources test batch (λ i. made c.args.n) c.depth.result c.depth.ensures in
     record {
-      uses = record {
-        ends = count-next limits sources test batch (λ i. made c.args.n) 0 0 _ (codes "synth") refl none refl f.0 _ f.1 (counts.counted 0 none.0 f.0 room f.1 none.2);
-        unread = λ i e. cc;
-        at = λ i late e. absurd e;
-      };
+      uses = made-counted c.args.run.now.limits c.args.plan.now c.args.n c.depth.result (Ok tt) c.count_file.new.total _ _ c.depth.ensures file.1 counts;
       tally = first_of (search rules, grind (arith, common_steps));
       room = first_of (search rules, grind (arith, common_steps));
       cost = rw (c.deref.ensures.value, file.0, c.in_ok-name.ensures) at c.count_file.ensures.cost;
@@ -56,19 +45,9 @@ pub returns-in_err-count_file : goal.returns-in_err-count_file
 returns-in_err-count_file g c =
     let p = err_from_is_err_and c.from_residual-in_err-count_file.result c.from_residual-in_err-count_file.ensures.1 in
     let file = c.in_ok-file.ensures.ends in
-    let limits = c.args.run.now.limits in
-    let sources = c.args.plan.now.sources in
-    let test = filter_test c.args.plan.now.filter in
-    let batch = batch_of 0 0 (codes "synth" ∷ []) in
-    let room : 0 + length (made c.args.n) ≤ total_limit limits = omega (arith, file.1) in
     let counts = rw (c.new-total.ensures, c.deref.ensures.value, file.0, c.in_ok-name.ensures) at c.in_err-count_file.ensures in
-    let ended = counts.ended 0 room in
     record {
-      uses = rw (p.1, p.2) (record {
-        ends = count-stops limits sources test batch (λ i. made c.args.n) 0 0 _ (codes "synth") refl (none-yet limits sources test batch (λ i. made c.args.n) c.depth.result c.depth.ensures) refl c.in_err-count_file.field-0.0 ended;
-        unread = λ i e. absurd (rw (err-same _ _ e) at ended).1;
-        at = λ i late e. (counts.at i late e).0;
-      });
+      uses = rw (p.1, p.2) (made-counted c.args.run.now.limits c.args.plan.now c.args.n c.depth.result (Err c.in_err-count_file.field-0.0) c.count_file.new.total _ _ c.depth.ensures file.1 counts);
       tally = first_of (search rules, grind (arith, common_steps));
       room = first_of (search rules, grind (arith, common_steps));
       cost = rw (c.deref.ensures.value, file.0, c.in_ok-name.ensures) at c.count_file.ensures.cost;

@@ -6,8 +6,8 @@ use Rattle.bloaty_engine.specs.Reading.{files_to_read}
 use Rattle.bloaty_engine.specs.Steps.{Finds}
 use Rattle.bloaty_engine.specs.Verdict.{first_name, next_limit}
 use Rattle.bloaty_engine.proofs.CostLemmas.{costs-ended}
-use Rattle.bloaty_engine.proofs.InputLemmas.{all-same, inputs-alone, within-only}
-use Rattle.bloaty_engine.proofs.PairLemmas.{both-read, first-fault, first-read, pair-one-input, pair-own, second-read, sound-at, pair-profiled}
+use Rattle.bloaty_engine.proofs.InputLemmas.{all-same, within-only}
+use Rattle.bloaty_engine.proofs.PairLemmas.{both-read, first-fault, first-read, pair-one-input, pair-profiled, pair-stopped, second-read, sound-at}
 use Rattle.bloaty_engine.proofs.pair.count_pair.Goals as goal
 
 pub only_file-requires : goal.only_file-requires
@@ -16,32 +16,20 @@ only_file-requires g c = record { limits = c.requires.ready.limits; one = pair-o
 pub returns-in_err-file : goal.returns-in_err-file
 returns-in_err-file g c =
     let p = err_from_is_err_and c.from_residual.result c.from_residual.ensures.1 in
-    let limits = c.args.run.now.limits in
-    let o = c.args.run.now.options in
-    let is = c.requires.ready.limits.debug _ c.requires.debug in
     let end = c.in_err-file.field-0.0 in
-    let file = c.in_err-file.ensures.files in
-    record {
-      inputs = rw (p.1, p.2) (inputs-alone g.F.Files limits o _ _ (Err end) (Err end) _ _ file refl tt
-          (λ own others e. rw (pair-own o c.args.debug.now is c.requires.debug own others) (first-read limits c.args.plan.now.sources (filter_test c.args.plan.now.filter) (first_name o) (own 1) _ end e)));
-      cost = costs-ended _ _ _ _ _ c.args.steps.now file.all.gives;
-    }
+    rw (p.1, p.2) (pair-stopped g.F.Files c.args.run.now.limits c.args.plan.now c.args.run.now.options c.args.debug.now (Err end) end _ _ c.args.steps.now c.requires c.in_err-file.ensures refl
+    (λ own other e. first-read c.args.run.now.limits c.args.plan.now.sources (filter_test c.args.plan.now.filter) (first_name c.args.run.now.options) own other end e))
 
 pub returns-in_err-check_format : goal.returns-in_err-check_format
 returns-in_err-check_format g c =
     let p = err_from_is_err_and c.from_residual-in_err-check_format.result c.from_residual-in_err-check_format.ensures.1 in
     let limits = c.args.run.now.limits in
     let o = c.args.run.now.options in
-    let is = c.requires.ready.limits.debug _ c.requires.debug in
+    let one = pair-one-input o (c.requires.ready.limits.debug _ c.requires.debug) in
     let end = c.in_err-check_format.field-0.0 in
-    let file = c.in_ok-file.ensures.files in
-    record {
-      inputs = rw (p.1, p.2) (inputs-alone g.F.Files limits o _ _ (Ok c.in_ok-file.file) (Err end) _ _ file
-          (λ i late e. let n = sound-at _ end i late c.in_err-check_format.ensures e in (n.1, rw n.0 (within-only limits o (files_to_read o) (pair-one-input o is)))) tt
-          (λ own others e. rw (pair-own o c.args.debug.now is c.requires.debug own others)
-          (first-fault limits c.args.plan.now.sources (filter_test c.args.plan.now.filter) (first_name o) (own 1) _ e.1 end (rw (c.deref.ensures.value, e.0) at c.in_err-check_format.ensures))));
-      cost = costs-ended _ _ _ _ _ c.args.steps.now file.all.gives;
-    }
+    rw (p.1, p.2) (pair-stopped g.F.Files limits c.args.plan.now o c.args.debug.now (Ok c.in_ok-file.file) end _ _ c.args.steps.now c.requires c.in_ok-file.ensures
+    (λ i late e. let n = sound-at _ end i late c.in_err-check_format.ensures e in (n.1, rw n.0 (within-only limits o (files_to_read o) one)))
+    (λ own other e. first-fault limits c.args.plan.now.sources (filter_test c.args.plan.now.filter) (first_name o) own other e.1 end (rw (c.deref.ensures.value, e.0) at c.in_err-check_format.ensures)))
 
 pub returns-in_err-other : goal.returns-in_err-other
 returns-in_err-other g c =

@@ -13,4 +13,4 @@ returns c =
     let named : root.ranges ≡ Some value = search rules in
     let is : list_name root.shape.version value.content ≡ Some c.in_ok-name.name = search rules in
     let low : told_address c.args.sections.now root root.low ≡ Ok c.in_ok-low.low = search rules in
-    rw (c.base_or.ensures, c.table_header.ensures, c.table_of.ensures) (key_is c.args.sections.now root value c.in_ok-name.name c.in_ok-low.low named is low)
+    rw (c.base_or.ensures, c.pick.ensures, c.table_of.ensures) (key_is c.args.sections.now root value c.in_ok-name.name c.in_ok-low.low named is low)

@@ -8,7 +8,7 @@ use Rattle.elf_claims.proofs.headers.add_headers.Goals as goal
 pub returns : goal.returns
 unfolding header_claims
 returns c =
-    let first = rw c.header_reach.ensures at c.in_ok-add.ensures.adds.made in
+    let first = rw (c.in_file.ensures, c.span-header.ensures, c.pick.ensures, c.encoding.ensures) at c.in_ok-add.ensures.adds.made in
     let next = rw c.segment_table_reach.ensures at c.in_ok-add-2.ensures.adds.made in
     let last = rw c.section_table_reach.ensures at c.add-3.ensures.adds.made in
     record {

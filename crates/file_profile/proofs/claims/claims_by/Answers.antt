@@ -7,7 +7,7 @@ use Rattle.size_model.specs.Numbered.{labelled}
 use Rattle.claim_sheet.proofs.MadeLemmas.{kept-more}
 use Rattle.data_sources.specs.Views.{unmapped}
 use Rattle.file_profile.proofs.ClaimLemmas.{kept-label, yields-made}
-use Rattle.file_profile.proofs.NumberLemmas.{kept-get, plain-view}
+use Rattle.file_profile.proofs.LabelLemmas.{kept-get, plain-view}
 use Rattle.file_profile.proofs.claims.claims_by.Goals as goal
 
 pub returns : goal.returns

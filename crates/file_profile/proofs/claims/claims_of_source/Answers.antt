@@ -5,7 +5,8 @@ use Rattle.custom_rewrites.specs.Rewriting.{rewritten}
 use Rattle.size_model.specs.Sizes.{with_rewriting}
 use Rattle.file_profile.specs.Numbering.{renumbered}
 use Rattle.file_profile.proofs.ClaimLemmas.{yields-made}
-use Rattle.file_profile.proofs.NumberLemmas.{plain-view, renumbered-all, renumbered-view, renumbered-within, same-get}
+use Rattle.file_profile.proofs.LabelLemmas.{plain-view, renumbered-all, renumbered-view, renumbered-within}
+use Rattle.file_profile.proofs.ListLemmas.{same-get}
 use Rattle.file_profile.proofs.claims.claims_of_source.Goals as goal
 
 pub returns : goal.returns

@@ -3,7 +3,7 @@ use Rattle.std.proofs.Common.{◌≡◌, ◌<◌, ◌++◌, map, take, drop, len
 use Rattle.std.proofs.lemmas.Option.{slice_get-get_or}
 use Rattle.size_core.specs.declared.claim.Claim.{Claim}
 use Rattle.file_profile.specs.Numbering.{renumbered}
-use Rattle.file_profile.proofs.NumberLemmas.{changed-at, changed-next, same-get}
+use Rattle.file_profile.proofs.ListLemmas.{changed-at, changed-next, same-get}
 use Rattle.file_profile.proofs.claims.renumber.Goals as goal
 
 pub loop-i-preserved : goal.loop-i-preserved

@@ -3,7 +3,7 @@ use Rattle.std.proofs.Common.{ℕ, List, ◌∙◌}
 use Rattle.claim_sheet.proofs.MadeLemmas.{kept-more}
 use Rattle.custom_rewrites.specs.Rewriting.{rewritten}
 use Rattle.file_profile.proofs.ClaimLemmas.{kept-label}
-use Rattle.file_profile.proofs.NumberLemmas.{renumbered-more}
+use Rattle.file_profile.proofs.LabelLemmas.{renumbered-more}
 use Rattle.file_profile.proofs.claims.rewritten_numbers.Goals as goal
 
 pub loop-k-preserved : goal.loop-k-preserved

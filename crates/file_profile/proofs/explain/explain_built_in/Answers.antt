@@ -5,7 +5,7 @@ use Rattle.data_sources.specs.Groups.{bytes_of}
 use Rattle.data_sources.specs.Loads.{loads_of}
 use Rattle.place_explain.specs.Explanation.{explained}
 use Rattle.file_profile.proofs.ClaimLemmas.{yields-made}
-use Rattle.file_profile.proofs.NumberLemmas.{plain-view}
+use Rattle.file_profile.proofs.LabelLemmas.{plain-view}
 use Rattle.file_profile.proofs.explain.explain_built_in.Goals as goal
 
 pub returns : goal.returns

@@ -7,8 +7,8 @@ use Rattle.macho_symbols.proofs.span_symbols.symbols_taking_part.Given as goal
 
 abbrev pub invariant-rows : goal.invariant-rows
 invariant-rows l = record {
-  same : prepend (map placed_shown l.taking.items) (taken_from l.file l.table l.extents l.k (l.table.nsyms - l.k)) ≡ taken_from l.file l.table l.extents 0 l.table.nsyms;
+  same : prepend (map placed_shown l.taking.items) (taken_from l.table.file.now l.table.fields l.extents l.k (l.table.fields.nsyms - l.k)) ≡ taken_from l.table.file.now l.table.fields l.extents 0 l.table.fields.nsyms;
   few : length (map placed_shown l.taking.items) ≤ l.k;
-  named : AreNamed l.file l.taking.items;
-  names : l.names ≡ strings l.file l.table;
+  named : AreNamed l.table.file.now l.taking.items;
+  names : l.names ≡ strings l.table.file.now l.table.fields;
 }

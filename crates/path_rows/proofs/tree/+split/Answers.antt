@@ -16,9 +16,6 @@ above p = record { low = []; row = p.row; high = p.high }
 abbrev below : Parts → Parts
 below p = record { low = p.low; row = p.row; high = [] }
 
-abbrev enlarged_by : Parts → RollupRow → Parts
-enlarged_by p r = record { low = p.low; row = larger p.row r; high = p.high }
-
 pub split-below-requires : goal.split-below-requires
 split-below-requires t c =
     let top = c.in-Fork.top.value in

@@ -1,4 +1,5 @@
-use Rattle.std.proofs.Common.{◌-◌, ◌<◌, ◌≤◌, length, map}
+use Rattle.std.proofs.Common.{◌-◌, ◌<◌, ◌≤◌, length}
+use Rattle.path_rows.specs.Parts.{rows_at}
 use Rattle.path_rows.specs.Rows.{RisesFrom}
 use Rattle.path_rows.proofs.tree.rising.Given as goal
 
@@ -6,7 +7,7 @@ abbrev pub invariant-loop-count : goal.invariant-loop-count
 invariant-loop-count l = record {
   some : 0 < l.count;
   bound : l.count ≤ length l.branches;
-  rising : RisesFrom (map (λ b. b.value.row) l.branches) (length l.branches - l.count);
+  rising : RisesFrom (rows_at l.branches) (length l.branches - l.count);
 }
 
 abbrev pub decreases-loop-count : goal.decreases-loop-count

@@ -2,8 +2,8 @@ use Rattle.place_explain.specs.Places.{claim_covers}
 use Rattle.place_explain.proofs.ExplainLemmas.{explained-all, numbers-within}
 use Rattle.place_explain.proofs.named.explain_source.Goals as goal
 
-pub named_claims-requires-clause-numbers : goal.named_claims-requires-clause-numbers
-named_claims-requires-clause-numbers c =
+pub named-requires-clause-numbers : goal.named-requires-clause-numbers
+named-requires-clause-numbers c =
     numbers-within (claim_covers c.len-file_len.result c.args.base.now.loads c.args.place.now) c.args.source.claims.now c.in_ok-numbers.numbers c.in_ok-numbers.ensures
 
 pub returns : goal.returns

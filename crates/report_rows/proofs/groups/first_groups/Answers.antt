@@ -20,8 +20,8 @@ together-others-requires c =
 pub returns : goal.returns
 returns c =
     let cut = c.select_nth_unstable-front in
-    are-first c.args.options.now c.args.groups.items cut.result.0.now c.sorted_with.new.front cut.result.1.now cut.result.2.now c.place.new.groups.items
+    are-first c.args.levels.options c.args.groups.items cut.result.0.now c.sorted_with.new.front cut.result.1.now cut.result.2.now c.place.new.groups.items
     (subst (λ (gs : List Group). IsPermutation gs (cut.result.0.now ++ cut.result.1.now ∷ cut.result.2.now)) c.deref_mut.ensures.value cut.ensures.permutation)
     (omega (arith, cut.ensures.front_len, c.requires.some)) cut.ensures.partitioned c.sorted_with.ensures.permutation c.sorted_with.ensures.sorted
     (c.in_ok-place.ensures
-    ∙ (ap (λ (x : Group). placed kept_order x c.in_ok-first.first.items) c.together-others.ensures ∙ ap (placed kept_order (others_group c.args.options.now cut.result.2.now)) c.in_ok-first.ensures.items))
+    ∙ (ap (λ (x : Group). placed kept_order x c.in_ok-first.first.items) c.together-others.ensures ∙ ap (placed kept_order (others_group c.args.levels.options cut.result.2.now)) c.in_ok-first.ensures.items))

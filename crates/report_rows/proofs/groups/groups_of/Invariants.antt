@@ -11,8 +11,8 @@ invariant-loop-from l =
     let all = map (λ r. r.now) l.rows in
     let table = table_at l.level all in
     record {
-      labels : map (group_label l.level all) l.groups.items ++ filter (has_shown l.options table) (first_labels (table_at l.level (drop l.from all))) ≡ filter (has_shown l.options table) (first_labels table);
-      groups : All (IsGroup l.options l.level all) l.groups.items;
+      labels : map (group_label l.level all) l.groups.items ++ filter (has_shown l.levels.options table) (first_labels (table_at l.level (drop l.from all))) ≡ filter (has_shown l.levels.options table) (first_labels table);
+      groups : All (IsGroup l.levels.options l.level all) l.groups.items;
       border : IsBorder (labels_at l.level all) l.from;
       within : l.from ≤ length l.rows;
     }

@@ -2,18 +2,12 @@ use Rattle.std.proofs.Common.{List, ◌<◌, ◌+◌, ◌-◌, ◌++◌, ◌∙�
 use Rattle.std.specs.List.{flat_map}
 use Rattle.std.proofs.lemmas.List.{take_all}
 use Rattle.path_rows.specs.declared.row.RollupRow.{RollupRow}
-use Rattle.report_rows.specs.declared.groups.Group.{Group}
-use Rattle.report_rows.specs.declared.groups.Kind.TheVariants.{Label}
 use Rattle.report_rows.specs.Groups.{table_at, group_entry, IsPart}
 use Rattle.report_rows.specs.Rows.{Entry, entries_of, listing, row_of}
-use Rattle.report_rows.proofs.GroupLemmas.{seen, seen-mid, deep_rows}
+use Rattle.report_rows.proofs.GroupLemmas.{any_group, seen, seen-mid, deep_rows}
 use Rattle.report_rows.proofs.LevelLemmas.{block, block-more, rows-more, rows-none}
 use Rattle.report_rows.proofs.ListLemmas.{part-of}
 use Rattle.report_rows.proofs.listing.+list.Goals as goal
-
--- The default group, for an index past the end.
-abbrev any : Group
-any = record { key = record { 0 = 0 }; from = 0; to = 0; kind = Label; vm = 0; file = 0 }
 
 pub returns-then-level-levels : goal.returns-then-level-levels
 returns-then-level-levels t c =
@@ -26,16 +20,16 @@ pub list-requires : goal.list-requires
 list-requires t c =
     let items = c.in_ok-groups.groups.items in
     let lt : c.loop-group.group-index < length items = rw (← c.deref-group-items.ensures.value) c.loop-group-test.true in
-    let part : IsPart c.args.levels.depth (c.args.level + 1) (seen (take ((get_or items c.loop-group.group-index any).to - (get_or items c.loop-group.group-index any).from) (drop (get_or items c.loop-group.group-index any).from c.args.rows.now))) =
-    part-of c.args.levels.depth c.args.level c.args.rows.now (get_or items c.loop-group.group-index any) c.requires.part (c.in_ok-groups.ensures.ranges c.loop-group.group-index any lt) in
+    let part : IsPart c.args.levels.depth (c.args.level + 1) (seen (take ((get_or items c.loop-group.group-index any_group).to - (get_or items c.loop-group.group-index any_group).from) (drop (get_or items c.loop-group.group-index any_group).from c.args.rows.now))) =
+    part-of c.args.levels.depth c.args.level c.args.rows.now (get_or items c.loop-group.group-index any_group) c.requires.part (c.in_ok-groups.ensures.ranges c.loop-group.group-index any_group lt) in
     (omega arith, (rw c.deref-group-items.ensures.value part, omega arith))
 
 pub loop-group-preserved : goal.loop-group-preserved
 loop-group-preserved t c =
-    let g = get_or c.deref-group-items.result.now c.loop-group.group-index any in
+    let g = get_or c.deref-group-items.result.now c.loop-group.group-index any_group in
     let o = c.args.levels.options in
     let below = λ (t : List RollupRow). listing o (c.args.levels.depth - (c.args.level + 1)) (c.args.level + 1) (table_at (c.args.level + 1) t) in
-    block-more (entries_of o) (λ (e : Entry). e.below) row_of c.args.levels.depth c.args.level (group_entry c.args.level (seen c.args.rows.now)) c.deref-group-items.result.now c.loop-group.group-index any c.args.out.now c.loop-group.out c.push.new.self c.list.new.out c.in_ok-make_row.field-0
+    block-more (entries_of o) (λ (e : Entry). e.below) row_of c.args.levels.depth c.args.level (group_entry c.args.level (seen c.args.rows.now)) c.deref-group-items.result.now c.loop-group.group-index any_group c.args.out.now c.loop-group.out c.push.new.self c.list.new.out c.in_ok-make_row.field-0
     c.loop-group-test.true c.loop-group.invariant c.in_ok-make_row.ensures c.in_ok-push.ensures.ok (c.in_ok-list.ensures ∙ ap (λ t. c.push.new.self ++ below t) (seen-mid c.args.rows.now g.from (g.to - g.from)))
 
 pub returns : goal.returns

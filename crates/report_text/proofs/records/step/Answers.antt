@@ -1,4 +1,4 @@
-use Rattle.std.proofs.Common.{map, take, sym, ap, ◌∙◌}
+use Rattle.std.proofs.Common.{Some, map, take, sym, ap, ◌∙◌}
 use Rattle.std.proofs.lemmas.List.{take-map}
 use Rattle.report_text.specs.Between.{entered}
 use Rattle.report_text.specs.Labels.{kind_of}
@@ -13,7 +13,7 @@ returns g c = λ whole come.
     ap (map (λ f. f.now)) c.truncate.ensures.items
     ∙ (sym (take-map (λ f. f.now) c.level.result c.args.path.now.items) ∙ ap (λ n. take n path) c.level.ensures) in
     let seen = ap (map (λ f. f.now)) c.as_slice.ensures.value ∙ cut in
-    let more = come-one g.W.Write.contents c.args.format.delimiter g.R.ReportRow.as_row (g.R.ReportRow.sizes c.args.format.domain) c.args.format.depth c.args.rows.now whole
+    let more = come-one (λ v. Some v.items) c.args.format.delimiter g.R.ReportRow.as_row (g.R.ReportRow.sizes c.args.format.domain) c.args.format.depth c.args.rows.now whole
     c.args.i path c.args.writer.now c.put_leaf.new.writer row c.get-row.ensures come
     (λ text ready. rw seen at (c.in_ok-put_leaf.ensures text row c.get-row.ensures ready)) in
     rw (c.in_ok-enter.ensures ∙ (ap (λ p. entered p (kind_of c.name.result)) cut ∙ ap (entered (take (g.R.ReportRow.as_row row).level path)) c.name.ensures)) more

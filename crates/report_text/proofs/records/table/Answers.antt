@@ -1,7 +1,7 @@
 use Rattle.std.proofs.Common.{◌≤◌, [], Some, map, length, ap, ◌∙◌, arith}
 use Rattle.report_rows.specs.Trees.{IsTree}
 use Rattle.report_text.specs.Records.{table_text}
-use Rattle.report_text.proofs.RecordLemmas.{come-none, come-all, level-below}
+use Rattle.report_text.proofs.RecordLemmas.{come-none, come-all}
 use Rattle.report_text.proofs.records.table.Goals as goal
 
 pub loop-i-init : goal.loop-i-init
@@ -10,11 +10,6 @@ loop-i-init g c =
     let tree : IsTree c.depth.result (map g.T.Entry.ReportRow.as_row c.rows-rows.result.now) = rw (c.depth.ensures, c.rows-rows.ensures) c.requires in
     come-none (λ v. Some v.items) c.args.delimiter g.T.Entry.ReportRow.as_row (g.T.Entry.ReportRow.sizes c.args.domain) c.depth.result c.args.domain c.args.sources.now c.rows-rows.result.now
     (map (λ f. f.now) c.new-path.result.items) c.put.new.writer tree (ap (map (λ f. f.now)) c.new-path.ensures.items) (rw fields at (c.in_ok-put.ensures [] c.new_writer-writer.ensures))
-
-pub step-requires-clause-below : goal.step-requires-clause-below
-step-requires-clause-below g c =
-    let tree : IsTree c.depth.result (map g.T.Entry.ReportRow.as_row c.rows-rows.result.now) = rw (c.depth.ensures, c.rows-rows.ensures) c.requires in
-    λ row at. level-below g.T.Entry.ReportRow.as_row c.depth.result 0 c.rows-rows.result.now c.loop-i.i row tree at
 
 pub returns-in-Ok : goal.returns-in-Ok
 returns-in-Ok g c =

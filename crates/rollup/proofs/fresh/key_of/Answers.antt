@@ -15,9 +15,10 @@ loop-number-preserved c =
     let before : List ℕ = map (rank_in ranks) (take i numbers) in
     let rank = rank_in ranks (get_or numbers i 0) in
     let more : map (rank_in ranks) (take (i + 1) numbers) ≡ before ++ rank ∷ [] = map_more (rank_in ranks) numbers i 0 (omega arith) in
-    let small : rank < base = omega (arith, c.if-rank-base.false, c.rank_at-rank.ensures) in
+    let found : c.in_ok-rank.field-0.now ≡ rank = c.in_ok-rank.ensures.lookup.3.1 0 in
+    let small : rank < base = omega (arith, c.if-rank-base.false, found) in
     let key : c.in_ok-key.key ≡ digits_after base 0 before * base + rank =
-    omega (arith, c.in_ok-key.ensures, c.in_ok-checked_mul.ensures, c.rank_at-rank.ensures, ap (λ n. n * base) c.loop-number.invariant.digits) in
+    omega (arith, c.in_ok-key.ensures, c.in_ok-checked_mul.ensures, found, ap (λ n. n * base) c.loop-number.invariant.digits) in
     record {
       digits = key ∙ (sym (digits_push base 0 before rank) ∙ ap (digits_after base 0) (sym more));
       below = subst (All (λ r. r < base)) (sym more) (All-push (λ r. r < base) before rank c.loop-number.invariant.below small);

@@ -11,12 +11,12 @@ use Rattle.rollup.proofs.fresh.keyed_entries.Goals as goal
 
 pub loop-entry-preserved : goal.loop-entry-preserved
 loop-entry-preserved c =
-    let es = c.args.sizes.now in
+    let es = c.args.file.sizes.now in
     let ranks = c.args.ranks.now in
     let i = c.loop-entry.entry in
     let here : get_or es i no_entry ≡ entry_of c.get.result.0.now c.get.result.1 = get_or_from_slice_get es i (entry_of c.get.result.0.now c.get.result.1) no_entry c.get.ensures in
     let numbers : (get_or es i no_entry).numbers ≡ c.get.result.0.now = ap (λ (e : Entry). e.numbers) here in
-    let one : Keyed = record { key = c.in-Some.key; entry = i } in
+    let one : Keyed ℕ = record { key = c.in-Some.key; entry = i } in
     let keyed : IsKeyed ranks c.args.depth es one = record {
       within = omega (arith, c.len-entry-end.ensures);
       deep = ap length numbers ∙ c.if-numbers-depth.false;
@@ -25,7 +25,7 @@ loop-entry-preserved c =
     } in
     let made = c.in_ok-push.ensures.items in
     record {
-      entries = ap (map (λ (k : Keyed). k.entry)) made
-          ∙ (map-append (λ (k : Keyed). k.entry) c.loop-entry.keyed.items (one ∷ []) ∙ (ap (λ (l : List ℕ). l ++ i ∷ []) c.loop-entry.invariant.entries ∙ sym (range_more i)));
+      entries = ap (map (λ (k : Keyed ℕ). k.entry)) made
+          ∙ (map-append (λ (k : Keyed ℕ). k.entry) c.loop-entry.keyed.items (one ∷ []) ∙ (ap (λ (l : List ℕ). l ++ i ∷ []) c.loop-entry.invariant.entries ∙ sym (range_more i)));
       keys = subst (All (IsKeyed ranks c.args.depth es)) (sym made) (All-push (IsKeyed ranks c.args.depth es) c.loop-entry.keyed.items one c.loop-entry.invariant.keys keyed);
     }

@@ -1,6 +1,6 @@
 use Rattle.std.proofs.Common.{◌≡◌, map, take}
-use Rattle.rollup.specs.Order.{ranked_row}
+use Rattle.rollup.specs.Order.{keyed_row}
 use Rattle.rollup.proofs.fresh.rows_of.Given as goal
 
 abbrev pub invariant-loop-entry : goal.invariant-loop-entry
-invariant-loop-entry l = l.rows.items ≡ map (ranked_row l.pool l.sizes) (take l.entry-index l.ranked)
+invariant-loop-entry g l = l.rows.items ≡ map (keyed_row l.file.pool.now l.file.sizes.now) (take l.entry-index l.keyed)

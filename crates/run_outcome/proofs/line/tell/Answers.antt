@@ -2,7 +2,7 @@
 use Rattle.run_outcome.proofs.line.tell.Goals as goal
 
 pub returns-in-Config-clause-writes : goal.returns-in-Config-clause-writes
-returns-in-Config-clause-writes g c = rw c.in-Config.is (rw c.file_name-in-Config.ensures at c.tell_config.ensures.writes)
+returns-in-Config-clause-writes g c = rw c.in-Config.is (rw (c.file_name.ensures, c.config_fault.ensures) at c.tell_fault.ensures.writes)
 
 pub returns-in-UnknownSource-clause-writes : goal.returns-in-UnknownSource-clause-writes
 returns-in-UnknownSource-clause-writes g c = rw c.in-UnknownSource.is (rw c.source_name.ensures at c.write_pieces.ensures.writes)

@@ -9,7 +9,7 @@ use Rattle.size_growth.proofs.groups.groups_of.Goals as goal
 
 pub loop-from-preserved : goal.loop-from-preserved
 loop-from-preserved c =
-    let o = c.args.options.now in
+    let o = c.args.levels.options in
     let paths = c.args.paths.now in
     let g = c.make_group-group.result in
     let groups = c.loop-from.groups.items in
@@ -26,4 +26,4 @@ loop-from-preserved c =
 
 pub returns-clause-entries : goal.returns-clause-entries
 returns-clause-entries c =
-    sym (none-left c.args.options.now c.args.level c.args.paths.now c.loop-from.from (map (group_entry c.args.level c.args.paths.now) c.loop-from.groups.items) (omega arith)) ∙ c.loop-from.invariant.entries
+    sym (none-left c.args.levels.options c.args.level c.args.paths.now c.loop-from.from (map (group_entry c.args.level c.args.paths.now) c.loop-from.groups.items) (omega arith)) ∙ c.loop-from.invariant.entries

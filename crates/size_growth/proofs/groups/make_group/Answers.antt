@@ -11,7 +11,7 @@ use Rattle.size_growth.proofs.groups.make_group.Goals as goal
 pub run_len-requires-clause-deep : goal.run_len-requires-clause-deep
 run_len-requires-clause-deep c =
     let D : GrowthPath → Type 0 = λ p. c.args.level < length p.path in
-    subst (All D) (sym (take_rest c.args.paths.now c.args.from)) (All-drop D c.args.from c.args.paths.now (deep-at c.args.depth c.args.level c.args.paths.now c.requires.part c.requires.below))
+    subst (All D) (sym (take_rest c.args.paths.now c.args.from)) (All-drop D c.args.from c.args.paths.now (deep-at c.args.levels.depth c.args.level c.args.paths.now c.requires.part c.requires.below))
 
 pub sums-sizes-requires : goal.sums-sizes-requires
 sums-sizes-requires c = fits_part (λ (p : GrowthPath). p.sizes) c.args.paths.now c.args.from (c.args.from + c.run_len.result - c.args.from) c.requires.part.fits

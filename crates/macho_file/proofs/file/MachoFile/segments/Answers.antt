@@ -1,10 +1,10 @@
-use Rattle.macho_file.specs.Tables.{sections, segments}
+use Rattle.std.proofs.Common.{◌<◌, ◌^◌, length, arith}
+use Rattle.std.specs.List.{flat_map}
+use Rattle.macho_file.specs.Tables.{sections, sections_of}
 use Rattle.macho_file.proofs.file.MachoFile.segments.Goals as goal
 
-pub new-requires : goal.new-requires
+pub invariant_of-result : goal.invariant_of-result
 unfolding sections
-new-requires c = rw (c.walk.ensures.file, c.walk.ensures.rest) c.walk.ensures.few
-
-pub returns-clause-addresses : goal.returns-clause-addresses
-unfolding segments
-returns-clause-addresses c = rw (c.new.ensures, c.walk.ensures.file, c.walk.ensures.rest) c.walk.ensures.well_formed.each_segment
+invariant_of-result c =
+    let few : length (flat_map (sections_of c.walk.result.file) c.walk.result.rest) < 2 ^ 32 = rw (c.walk.ensures.file, c.walk.ensures.rest) c.walk.ensures.few in
+    omega (arith, few)

@@ -5,7 +5,7 @@ use Rattle.report_rows.specs.declared.groups.Group.{Group}
 use Rattle.report_rows.specs.declared.leading.LeftOut.{LeftOut}
 use Rattle.report_rows.specs.Leading.{CanAdd, Inserts, Leads}
 use Rattle.report_rows.proofs.InsertLemmas.{All-last, with-last}
-use Rattle.report_rows.proofs.LeadingLemmas.{group-left, kept-more, last-left}
+use Rattle.report_rows.proofs.LeadingLemmas.{above-in-order, group-left, kept-more, last-left, upto-in-order}
 use Rattle.report_rows.proofs.leading.Leading.keep.Goals as goal
 
 pub returns-then-count-limit : goal.returns-then-count-limit
@@ -17,8 +17,8 @@ returns-then-count-limit c =
 pub add-requires : goal.add-requires
 add-requires c = let s = c.args.self.now in All-head (CanAdd s.left_out) c.args.group s.kept.items c.requires.fits
 
-pub returns-then-comes_first : goal.returns-then-comes_first
-returns-then-comes_first c = λ groups l.
+pub returns-then-is_le : goal.returns-then-is_le
+returns-then-is_le c = λ groups l.
     let s = c.args.self.now in
     let n = c.len-count.result in
     let last = c.index.result.now in
@@ -27,7 +27,7 @@ returns-then-comes_first c = λ groups l.
     let are : s.kept.items ≡ take (n - 1) s.kept.items ++ last ∷ [] = with-last s.kept.items n last long some c.index.ensures in
     let enough : c.args.limit ≤ length s.kept.items = omega arith in
     subst (λ (x : LeftOut). Leads c.args.limit (groups ++ c.args.group ∷ []) s.kept.items x) (sym c.add.ensures)
-    (group-left c.args.limit groups s.left_out c.args.group s.kept.items (take (n - 1) s.kept.items) last are enough l (c.comes_first.ensures.yes c.if-comes_first.true))
+    (group-left c.args.limit groups s.left_out c.args.group s.kept.items (take (n - 1) s.kept.items) last are enough l (upto-in-order last c.args.group _ c.cmp.ensures (sym c.is_le.ensures ∙ c.if-is_le.true)))
 
 pub add-requires-2 : goal.add-requires-2
 add-requires-2 c =
@@ -52,5 +52,5 @@ returns c =
     on_ok_weaker c.insert-2.result
     (λ more groups l.
     subst (λ (x : LeftOut). Leads c.args.limit (groups ++ g ∷ []) new x) (sym c.add-2.ensures)
-    (last-left c.args.limit groups s.left_out g s.kept.items (take (n - 1) s.kept.items) last are enough l new (c.comes_first.ensures.no c.if-comes_first.false) (subst (λ (hs : List Group). Inserts g hs new) front more)))
+    (last-left c.args.limit groups s.left_out g s.kept.items (take (n - 1) s.kept.items) last are enough l new (above-in-order last g _ c.cmp.ensures (sym c.is_le.ensures ∙ c.if-is_le.false)) (subst (λ (hs : List Group). Inserts g hs new) front more)))
     c.insert-2.ensures

@@ -9,6 +9,6 @@ returns c = λ yes.
     let es = c.args.self.now in
     let here : get_or es c.args.i no_entry ≡ entry_of c.get.result.0.now c.get.result.1 = get_or_from_slice_get es c.args.i (entry_of c.get.result.0.now c.get.result.1) no_entry c.get.ensures in
     record {
-      within = omega (arith, c.if-i-len.false, c.len.ensures.len);
+      within = omega (arith, c.if-i-len.false, c.len.ensures);
       there = ap (λ (e : Entry). e.numbers) here ∙ (bytes_eq-Decides c.get.result.0.now c.args.numbers.now).0 (sym c.eq.ensures ∙ yes);
     }

@@ -1,7 +1,0 @@
-use Rattle.std.proofs.Common.{ℕ}
-use Rattle.dual_map.specs.Paint.{position_labels}
-use Rattle.dual_map.proofs.WalkLemmas.{Reaches, UpTo}
-use Rattle.dual_map.proofs.base.Base.painted_positions.Given as goal
-
-abbrev pub invariant-loop-i : goal.invariant-loop-i
-invariant-loop-i l = (from : ℕ) × Reaches l.self-inside.positions l.i from × UpTo (position_labels l.self-inside.file_len l.self-inside.loads.items l.layers) from l.out.items

@@ -1,8 +1,0 @@
-use Rattle.std.proofs.Common.{◌≡◌, ◌++◌, take}
-use Rattle.std.specs.List.{flat_map}
-use Rattle.report_text.specs.Lines.{title_line, row_line}
-use Rattle.report_text.proofs.lines.lines.Given as goal
-
--- The title line, and the rows so far.
-abbrev pub invariant-loop-i : goal.invariant-loop-i
-invariant-loop-i g l = l.text.items ≡ title_line g.T.ReportTree.PLACES l.format.domain ++ flat_map (row_line g.T.Entry.ReportRow.as_row (g.T.ReportTree.columns l.format.domain l.tree) l.format.wide) (take l.i l.rows)

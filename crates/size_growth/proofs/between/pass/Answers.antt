@@ -1,8 +1,0 @@
-use Rattle.std.proofs.Common.{arith}
-use Rattle.size_growth.proofs.MergeLemmas.{no-base}
-use Rattle.size_growth.proofs.between.pass.Goals as goal
-
-pub returns-clause-left : goal.returns-clause-left
-returns-clause-left c =
-    no-base c.args.new.now.rows c.args.base.now.rows c.args.at.new c.args.at.base c.row.result.now c.row.result.now c.push.new.self.items c.args.paths.now.items c.in_ok-only_new.field-0 c.in_ok-push.ensures.items
-    (omega arith) c.requires.new c.row.ensures c.in_ok-only_new.ensures

@@ -1,7 +1,0 @@
-use Rattle.std.proofs.Common.{◌≡◌, ◌++◌, map, drop}
-use Rattle.size_growth.specs.Merged.{base_path}
-use Rattle.size_growth.proofs.between.pass_rest.Given as goal
-
--- The paths so far and those of the rows that are left are all.
-abbrev pub invariant-loop-i : goal.invariant-loop-i
-invariant-loop-i l = l.paths.items ++ map base_path (drop l.i l.base.rows) ≡ l.initial.paths.items ++ map base_path (drop l.fn.at.base l.base.rows)
