@@ -1,7 +1,8 @@
 -- Patterns that the steps of a run build, one step after the other.
-use Rattle.std.proofs.Common.{◌≡◌, ℕ, Bool, true, nat_lt, arith, List, ◌++◌, length, Option, Result, Ok, Err, ◌⊎◌, inl, inr, refl, ap, ◌∙◌}
+use Rattle.std.proofs.Common.{◌≡◌, ℕ, Bool, true, nat_lt, arith, List, [], ◌++◌, length, Option, Result, Ok, Err, ◌⊎◌, inl, inr, refl, sym, ap, ◌∙◌}
 use Rattle.std.specs.Prelude.{⊤}
 use Rattle.std.proofs.lemmas.Bool.Decides.{nat_tests}
+use Rattle.std.proofs.lemmas.List.{append-nil}
 use Rattle.outside.specs.Held.{Pairs}
 use Rattle.config_text.specs.declared.config.CustomSource.{CustomSource}
 use Rattle.custom_rewrites.specs.declared.pattern.Patterns.{Ghosts as PatternsGhosts}
@@ -9,13 +10,12 @@ use Rattle.file_profile.proofs.MapLemmas.{err-same}
 use Rattle.file_profile.specs.declared.plan.PlanAnswer.{PlanAnswer}
 use Rattle.file_profile.specs.declared.plan.PlanAnswer.TheVariants as plan
 use Rattle.file_profile.specs.Plans.{HasCause, IsPlan, Plans as Plan}
-use Rattle.file_profile.specs.Sources.{Chosen, chosen_sources}
 use Rattle.size_core.specs.declared.limits.Limits.{Limits}
 use Rattle.size_options.specs.declared.run_options.Options.{Options}
 use Rattle.size_options.specs.declared.errors.UsageKind.{UsageKind}
 use Rattle.run_outcome.specs.declared.outcome.Outcome.{Outcome}
 use Rattle.run_outcome.specs.declared.outcome.Outcome.TheVariants.{Done, PatternSyntax, PatternTooBig, WriteFailed}
-use Rattle.run_plan.specs.PatternLists.{PatternList, if_chosen, plan_patterns, request_patterns}
+use Rattle.run_plan.specs.PatternLists.{PatternList, plan_patterns}
 use Rattle.run_plan.specs.Planning.{Plans}
 use Rattle.run_plan.proofs.FirstLemmas.{adds-all, adds-none}
 use Rattle.bloaty_engine.specs.Devices.{Builds, BuildsAsked, ended, patterns_given, run_patterns}
@@ -24,7 +24,7 @@ use Rattle.bloaty_engine.specs.Named.{Contents, config_alone}
 use Rattle.bloaty_engine.specs.PlanSteps.{MakesPlan, end_of_plan}
 use Rattle.bloaty_engine.specs.Stages.{Sources, rank, stage_of}
 use Rattle.bloaty_engine.specs.Steps.{EndsPlan}
-use Rattle.bloaty_engine.specs.Verdict.{◌>>=◌, asked, customs_in, if_unknown}
+use Rattle.bloaty_engine.specs.Verdict.{asked, customs_in}
 use Rattle.bloaty_engine.proofs.GivenLemmas.{customs-given}
 
 -- The run ended before its data sources are looked up.
@@ -35,21 +35,13 @@ is_early end = nat_lt (rank (stage_of end)) (rank Sources)
 pub asked-patterns : (limits : Limits) (o : Options) (contents : Contents) (customs : List CustomSource) → customs_in limits o.config contents.config ≡ Ok customs
     → run_patterns (asked limits (Ok o) contents) ≡ plan_patterns o.sources o.filter customs
 unfolding asked
-asked-patterns limits o contents customs e =
-    ap (λ r. run_patterns (r >>= λ customs. if_unknown (chosen_sources customs o.sources) >>= λ sources. Ok (record { options = o; customs = customs; sources = sources }))) e
-    ∙ by-names (chosen_sources customs o.sources)
-  where
-    by-names : (r : Result (List Chosen) ℕ) → run_patterns (if_unknown r >>= λ sources. Ok (record { options = o; customs = customs; sources = sources })) ≡ if_chosen r (request_patterns o.filter customs)
-    by-names (Ok sources) = refl
-    by-names (Err unknown) = refl
+asked-patterns limits o contents customs e = rw e (grind arith)
 
 -- The cause of an answer of planning is that of the outcome.
 ends-plan-of : (names : List (List ℕ)) (filter : Option (List ℕ)) (customs : List CustomSource) (before after : ℕ) (last : List ℕ) (e : PlanAnswer) → HasCause names filter customs before after last e
     → EndsPlan names filter customs last (end_of_plan e)
-ends-plan-of names filter customs before after last (plan.UnknownSource i) cause = cause
-ends-plan-of names filter customs before after last (plan.PatternSyntax i) cause = cause
 ends-plan-of names filter customs before after last (plan.PatternTooBig i) cause = (cause.0, cause.1)
-ends-plan-of names filter customs before after last plan.NoMemory cause = tt
+ends-plan-of names filter customs before after last e cause = cause
 
 module _ {P : Type 0} (p : PatternsGhosts P) where
   -- The effect of planning as that of a step of the run.
@@ -80,16 +72,6 @@ module _ {P : Type 0} (p : PatternsGhosts P) where
     patterns = plan-ended o.sources o.filter customs (plan_patterns o.sources o.filter customs) e s t cause a;
   }
 
-  -- A step that ends the run before any pattern is built.
-  pub unbuilt : {X : Type 0} (b : PatternList) (end : Outcome) (s : P) → is_early end ≡ true → Builds {X = X} p b (Err end) s s
-  unbuilt b end s early = record {
-    built = (0, adds-none (p.built s) b.patterns);
-    all = λ e. absurd (let wrong : ⊥ = grind (arith, nat_tests) in wrong);
-    bad = λ i is. absurd (let wrong = rw (err-same _ _ is) at early in cc wrong);
-    refused = λ i is. absurd (let wrong = rw (err-same _ _ is) at early in cc wrong);
-    sound = λ e. refl;
-  }
-
   -- A step that ends the run.
   pub build-stops : {X Y : Type 0} (b : PatternList) (e : Outcome) (s t : P) → Builds {X = X} p b (Err e) s t → Builds {X = Y} p b (Err e) s t
   build-stops b e s t a = record { built = a.built; all = a.all; bad = λ i is. a.bad i (ap Err (err-same _ _ is)); refused = λ i is. a.refused i (ap Err (err-same _ _ is)); sound = a.sound }
@@ -103,15 +85,25 @@ module _ {P : Type 0} (p : PatternsGhosts P) where
   written-builds b x outcome s t (inl is) a = rw is (built {Y = ⊤} b x (Ok tt) s t (λ i e. cc) (λ i e. cc) a)
   written-builds b x outcome s t (inr is) a = rw is (built {Y = ⊤} b x (Err WriteFailed) s t (λ i e. cc) (λ i e. cc) a)
 
-  -- The same patterns of a request, with another result.
-  pub asked-as : {X Y : Type 0} (seen : SeenFiles) (limits : Limits) (given : Result Options UsageKind) (r : Result X Outcome) (q : Result Y Outcome) (s t : P) → ((b : PatternList) → Builds p b r s t → Builds p b q s t)
-      → BuildsAsked p seen limits given r s t → BuildsAsked p seen limits given q s t
-  asked-as seen limits given r q s t then a = record { returned = a.returned; are = a.are; builds = then (patterns_given limits given a.returned) a.builds }
+  -- A run that ends before any pattern is built.
+  pub asked-none : {X : Type 0} (seen : SeenFiles) (limits : Limits) (given : Result Options UsageKind) (end : Outcome) (s : P) (returned : Pairs) → seen.after ≡ seen.before ++ returned → is_early end ≡ true
+      → BuildsAsked {X = X} p seen limits given (Err end) s s
+  asked-none seen limits given end s returned are early = record {
+    returned = returned;
+    are = are;
+    builds = record {
+      built = (0, adds-none (p.built s) (patterns_given limits given returned).patterns);
+      all = λ e. absurd (let wrong : ⊥ = grind (arith, nat_tests) in wrong);
+      bad = λ i is. absurd (let wrong = rw (err-same _ _ is) at early in cc wrong);
+      refused = λ i is. absurd (let wrong = rw (err-same _ _ is) at early in cc wrong);
+      sound = λ e. refl;
+    };
+  }
 
-  -- A run that builds none of its patterns, or any of them.
-  pub asked-any : {X : Type 0} (seen : SeenFiles) (limits : Limits) (given : Result Options UsageKind) (r : Result X Outcome) (s t : P) (returned : Pairs) → seen.after ≡ seen.before ++ returned → ((b : PatternList) → Builds p b r s t)
-      → BuildsAsked p seen limits given r s t
-  asked-any seen limits given r s t returned are builds = record { returned = returned; are = are; builds = builds (patterns_given limits given returned) }
+  -- The same for a run that reads nothing.
+  pub asked-nothing : {X : Type 0} (held : Option Pairs) (before : Pairs) (limits : Limits) (given : Result Options UsageKind) (end : Outcome) (s : P) → is_early end ≡ true
+      → BuildsAsked {X = X} p (record { held = held; before = before; after = before }) limits given (Err end) s s
+  asked-nothing held before limits given end s early = asked-none _ limits given end s [] (sym (append-nil before)) early
 
   -- The patterns of a run with these options, over a configuration with this text.
   pub asked-plan : {X : Type 0} (seen : SeenFiles) (limits : Limits) (o : Options) (text : List ℕ) (rest : Pairs) (r : Result X Outcome) (s t : P) (customs : List CustomSource) → seen.after ≡ seen.before ++ (config_pairs o.config text ++ rest)

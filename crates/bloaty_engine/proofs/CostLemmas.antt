@@ -1,17 +1,16 @@
 -- The costs of steps, one step after the other.
-use Rattle.std.proofs.Common.{◌≡◌, ℕ, ◌+◌, ◌≤◌, List, [], ◌∷◌, ◌++◌, codes, Some, Result, Ok, Err, refl, sym, ap, ◌∙◌, append_assoc, arith}
+use Rattle.std.proofs.Common.{◌≡◌, ℕ, ◌+◌, ◌≤◌, List, [], ◌∷◌, ◌++◌, Result, Ok, Err, sym, ◌∙◌, append_assoc, arith}
 use Rattle.std.proofs.lemmas.List.{append-nil}
 use Rattle.size_core.specs.declared.limits.Limits.{Limits}
 use Rattle.size_model.specs.declared.view.FileView.{FileView}
 use Rattle.config_text.specs.declared.config.CustomSource.{CustomSource}
-use Rattle.elf_synth.specs.Made.{made}
 use Rattle.outside.specs.Held.{Pairs}
 use Rattle.size_options.specs.declared.run_options.Options.{Options}
 use Rattle.file_profile.specs.Counts.{step_bound}
 use Rattle.file_profile.specs.Sources.{Chosen, chosen_sources}
 use Rattle.run_outcome.specs.declared.outcome.Outcome.{Outcome}
-use Rattle.bloaty_engine.specs.Costs.{CostsAtMost, counting_cost, file_cost, files_cost, found_cost, made_cost, request_cost, run_cost, view_cost}
-use Rattle.bloaty_engine.specs.Given.{Gives, asked_given, config_given, config_pairs, files_given}
+use Rattle.bloaty_engine.specs.Costs.{CostsAtMost, files_cost, found_cost, run_cost, view_cost}
+use Rattle.bloaty_engine.specs.Given.{Gives, asked_given, config_given, config_pairs}
 use Rattle.bloaty_engine.specs.Named.{config_alone}
 use Rattle.bloaty_engine.specs.Verdict.{customs_in}
 use Rattle.bloaty_engine.proofs.GivenLemmas.{customs-given, files-given}
@@ -19,8 +18,7 @@ use Rattle.bloaty_engine.proofs.RunLemmas.{asked-is}
 
 -- The steps for a file, whether or not it has a fault.
 pub view-costs : {E : Type 0} (r : Result FileView E) (old new : ℕ) → ((f : FileView) → r ≡ Ok f → new ≤ old + step_bound f) → ((fault : E) → r ≡ Err fault → new ≡ old) → new ≤ old + view_cost r
-view-costs (Ok f) old new cost free = cost f refl
-view-costs (Err fault) old new cost free = omega (arith, free fault refl)
+view-costs r old new cost free = grind arith
 
 -- A step that takes no steps.
 pub costs-read : (cost : Pairs → ℕ) (before after given : Pairs) (n : ℕ) → after ≡ before ++ given → CostsAtMost cost before after n n
@@ -40,38 +38,10 @@ module _ (limits : Limits) (sources : List Chosen) where
   files-add [] more = omega arith
   files-add (file ∷ files) more = omega (arith, files-add files more)
 
-  -- One file was read and counted.
-  pub costs-one : (name bytes : List ℕ) (before after : Pairs) (old new : ℕ) → after ≡ before ++ (name, bytes) ∷ [] → new ≤ old + file_cost limits sources name bytes → CostsAtMost (files_cost limits sources) before after old new
-  costs-one name bytes before after old new are most = record { given = (name, bytes) ∷ []; are = are; most = omega (arith, most) }
-
-  -- Files, and then more files.
-  pub costs-then : (before middle after : Pairs) (old between new : ℕ) → CostsAtMost (files_cost limits sources) before middle old between → CostsAtMost (files_cost limits sources) middle after between new
-      → CostsAtMost (files_cost limits sources) before after old new
-  costs-then before middle after old between new a b = record {
-    given = a.given ++ b.given;
-    are = b.are ∙ (ap (λ ps. ps ++ b.given) a.are ∙ append_assoc before a.given b.given);
-    most = omega (arith, a.most, b.most, files-add a.given b.given);
-  }
-
-  -- A file was read after files that were counted, and the run ended.
-  pub costs-more : {X : Type 0} (r : Result X Outcome) (before middle after pairs : Pairs) (old new : ℕ) → CostsAtMost (files_cost limits sources) before middle old new → Gives r middle after pairs → CostsAtMost (files_cost limits sources) before after old new
-  costs-more r before middle after pairs old new a g = costs-then before middle after old new new a (costs-read (files_cost limits sources) middle after g.given new g.are)
-
-  module _ (o : Options) where
-    -- The synthetic file was counted, and nothing was read.
-    pub costs-made : (n : ℕ) (before : Pairs) (old new : ℕ) → o.synth ≡ Some n → new ≤ old + file_cost limits sources (codes "synth") (made n) → CostsAtMost (counting_cost limits sources o) before before old new
-    costs-made n before old new is most =
-        let same : made_cost limits sources o.synth ≡ file_cost limits sources (codes "synth") (made n) = ap (made_cost limits sources) is in
-        record { given = []; are = sym (append-nil before); most = omega (arith, most, same) }
-
-    -- The files, and then the base files.
-    pub costs-bases : (before middle after : Pairs) (old between new : ℕ) → CostsAtMost (counting_cost limits sources o) before middle old between → CostsAtMost (files_cost limits sources) middle after between new
-        → CostsAtMost (counting_cost limits sources o) before after old new
-    costs-bases before middle after old between new a b = record {
-      given = a.given ++ b.given;
-      are = b.are ∙ (ap (λ ps. ps ++ b.given) a.are ∙ append_assoc before a.given b.given);
-      most = omega (arith, a.most, b.most, files-add a.given b.given);
-    }
+  -- Files, and then more files, whose costs are added.
+  pub costs-then : (cost : Pairs → ℕ) (before middle after : Pairs) (old between new : ℕ) → ((files more : Pairs) → cost (files ++ more) ≡ cost files + files_cost limits sources more) → CostsAtMost cost before middle old between
+      → CostsAtMost (files_cost limits sources) middle after between new → CostsAtMost cost before after old new
+  costs-then cost before middle after old between new add a b = record { given = a.given ++ b.given; are = grind (arith, append_assoc); most = omega (arith, add a.given b.given) }
 
   -- The configuration, and then what it asks for.
   pub costs-run : (o : Options) (text : List ℕ) (customs : List CustomSource) (before middle after : Pairs) (old new : ℕ) → customs_in limits o.config text ≡ Ok customs → chosen_sources customs o.sources ≡ Ok sources
@@ -79,9 +49,7 @@ module _ (limits : Limits) (sources : List Chosen) where
   costs-run o text customs before middle after old new parsed chosen read c =
       let given = config_pairs o.config text ++ c.given in
       let known : asked_given limits o given ≡ Ok (record { options = o; customs = customs; sources = sources }) = asked-is limits o (config_alone (config_given o.config given)) customs (Ok sources) (customs-given limits o.config text c.given ∙ parsed) chosen in
-      let same : run_cost limits o given ≡ found_cost limits sources o c.given
-      = ap (λ r. request_cost limits r (files_given o.config given)) known ∙ ap (λ files. found_cost limits sources o files) (files-given o.config text c.given) in
-      record { given = given; are = c.are ∙ (ap (λ ps. ps ++ c.given) read ∙ append_assoc before (config_pairs o.config text) c.given); most = omega (arith, c.most, same) }
+      record { given = given; are = grind (arith, append_assoc); most = rw (known, files-given o.config text c.given) c.most }
 
 -- A step that ends the run takes no steps.
 pub costs-ended : {X : Type 0} (cost : Pairs → ℕ) (r : Result X Outcome) (before after pairs : Pairs) (n : ℕ) → Gives r before after pairs → CostsAtMost cost before after n n

@@ -1,14 +1,12 @@
 -- What the reads of steps gave, one step after the other.
-use Rattle.std.proofs.Common.{◌≡◌, ℕ, ◌+◌, ◌<◌, ◌≤◌, List, [], ◌∷◌, ◌++◌, length, Option, None, Some, Result, Ok, Err, refl, sym, ap, ◌∙◌, append_assoc, arith}
+use Rattle.std.proofs.Common.{◌≡◌, ℕ, ◌+◌, ◌<◌, ◌≤◌, List, [], ◌∷◌, ◌++◌, length, Option, Result, Ok, Err, refl, sym, ap, ◌∙◌, append_assoc, arith}
 use Rattle.std.specs.Prelude.{OnOk}
 use Rattle.std.proofs.lemmas.List.{append-nil}
-use Rattle.std.proofs.lemmas.Option.{same_Some}
 use Rattle.outside.specs.Held.{Pairs}
 use Rattle.size_core.specs.declared.limits.Limits.{Limits}
 use Rattle.run_outcome.specs.declared.outcome.Outcome.{Outcome}
-use Rattle.bloaty_engine.specs.Given.{Gives, config_given, config_pairs, files_given, pairs_from, run_pairs}
+use Rattle.bloaty_engine.specs.Given.{Gives, config_given, config_pairs, files_given, pairs_from}
 use Rattle.bloaty_engine.specs.Verdict.{customs_in}
-use Rattle.bloaty_engine.specs.RunLaws.{DoneReportsWhatItRead}
 use Rattle.bloaty_engine.proofs.ReadLemmas.{OnOk-any}
 
 -- Nothing is read.
@@ -61,12 +59,9 @@ gives-as x r before after pairs g = gives-all r before after pairs (given-all x 
 
 -- Names one after the other.
 pub pairs-append : (first : ℕ) (front rest : List (List ℕ)) (files : ℕ → List ℕ) → pairs_from first (front ++ rest) files ≡ pairs_from first front files ++ pairs_from (first + length front) rest files
-pairs-append first [] rest files =
-    let p : first ≡ first + 0 = omega arith in
-    ap (λ i. pairs_from i rest files) p
+pairs-append first [] rest files = ap (λ i. pairs_from i rest files) (omega arith)
 pairs-append first (n ∷ front) rest files =
-    let p : first + 1 + length front ≡ first + length (n ∷ front) = omega arith in
-    ap (λ ps. (n, files first) ∷ ps) (pairs-append (first + 1) front rest files ∙ ap (λ i. pairs_from (first + 1) front files ++ pairs_from i rest files) p)
+    ap (λ ps. (n, files first) ∷ ps) (pairs-append (first + 1) front rest files ∙ ap (λ i. pairs_from (first + 1) front files ++ pairs_from i rest files) (omega arith))
 
 -- The same bytes of the files of these numbers.
 pub pairs-same : (first : ℕ) (names : List (List ℕ)) (a b : ℕ → List ℕ) → ((j : ℕ) → first ≤ j → j < first + length names → a j ≡ b j) → pairs_from first names a ≡ pairs_from first names b
@@ -77,19 +72,7 @@ pairs-same first (n ∷ names) a b same =
 
 -- The configuration is the first of what a run reads, if there is one.
 pub customs-given : (limits : Limits) (config : Option (List ℕ)) (text : List ℕ) (rest : Pairs) → customs_in limits config (config_given config (config_pairs config text ++ rest)) ≡ customs_in limits config text
-customs-given limits None text rest = refl
-customs-given limits (Some name) text rest = refl
+customs-given limits config text rest = grind arith
 
 pub files-given : (config : Option (List ℕ)) (text : List ℕ) (rest : Pairs) → files_given config (config_pairs config text ++ rest) ≡ rest
-files-given None text rest = refl
-files-given (Some name) text rest = refl
-
--- A run that is done.
-pub done-reports : DoneReportsWhatItRead
-done-reports seen limits given last old new run =
-    let has = run.written in (
-      run.contents,
-      given-all tt seen.before seen.after (run_pairs given run.contents) run.gave,
-      run.bytes,
-      record { found = has.found; text = has.text; decided = has.decided; report = has.report; stripped = has.stripped; explained = has.explained; so = same_Some _ _ has.so },
-    )
+files-given config text rest = grind arith

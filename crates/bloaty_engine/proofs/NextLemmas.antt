@@ -1,8 +1,7 @@
 -- Steps that read nothing, after a step that reads.
-use Rattle.std.proofs.Common.{◌≡◌, ℕ, List, [], ◌++◌, length, Result, Ok, Err, refl, sym, ◌∙◌, arith}
+use Rattle.std.proofs.Common.{◌≡◌, ℕ, List, [], ◌++◌, length, Result, Ok, Err, arith}
 use Rattle.std.specs.Prelude.{OnOk, Vec}
 use Rattle.std.specs.declared.alloc.Global.{Global}
-use Rattle.std.proofs.lemmas.List.{append-nil}
 use Rattle.outside.specs.declared.files.Files.{Ghosts as FilesGhosts}
 use Rattle.outside.specs.Held.{Pairs}
 use Rattle.rollup.specs.Totals.{IsTotals, Totals}
@@ -13,8 +12,8 @@ use Rattle.bloaty_engine.specs.Devices.{EndsAt, Reads}
 use Rattle.bloaty_engine.specs.Given.{Gives}
 use Rattle.bloaty_engine.specs.Reading.{Reading}
 use Rattle.file_reports.specs.SizeReport.{PrintsSizes}
-use Rattle.bloaty_engine.proofs.GivenLemmas.{gives-as, gives-ended, gives-stops, gives-then}
-use Rattle.bloaty_engine.proofs.StepLemmas.{IsPart, IsWithin, stops, then-ok, then-unread}
+use Rattle.bloaty_engine.proofs.GivenLemmas.{gives-stops, gives-then}
+use Rattle.bloaty_engine.proofs.StepLemmas.{IsPart, IsWithin, stops, then-unread}
 
 -- How a step goes on after another one. If the other one ended the run, so does this one, with the same outcome. If this one ends
 -- it at a file, the other one has read it, and `At` holds of its number.
@@ -23,8 +22,7 @@ GoesOn At (Err end) r = r ≡ Err end
 GoesOn At (Ok x) r = (i late : ℕ) → EndsAt i late r → (late ≡ 0) × At i
 
 pub goes-as : {X Y : Type 0} (a : Result X Outcome) (r : Result Y Outcome) (At To : ℕ → Type 0) → ((i : ℕ) → At i → To i) → GoesOn At a r → GoesOn To a r
-goes-as (Err end) r At To to next = next
-goes-as (Ok x) r At To to next = λ i late e. let n = next i late e in (n.0, to i n.1)
+goes-as a r At To to next = grind arith
 
 -- The run has read what the other step read.
 pub reads-next : {F X Y : Type 0} (f : FilesGhosts F) (p q : Reading) (rest : List (List ℕ)) (a : Result X Outcome) (r : Result Y Outcome) (s t : F) → q.names ≡ p.names ++ rest → IsPart p q 0 0 0
@@ -36,15 +34,6 @@ pub gives-next : {X Y : Type 0} (At : ℕ → Type 0) (a : Result X Outcome) (r 
 gives-next At (Err end) r before after front rest next none gives = rw next (gives-stops end before after front rest gives)
 gives-next At (Ok x) r before after front rest next none gives = gives-then x r before after front rest none gives
 
-pub gives-same : {X Y : Type 0} (At : ℕ → Type 0) (a : Result X Outcome) (r : Result Y Outcome) (before after pairs : Pairs) → GoesOn At a r → Gives a before after pairs → Gives r before after pairs
-gives-same At (Err end) r before after pairs next gives = rw next (gives-ended end before after pairs gives)
-gives-same At (Ok x) r before after pairs next gives = gives-as x r before after pairs gives
-
--- The same files as those of another reading.
-pub reads-as : {F X : Type 0} (f : FilesGhosts F) (p q : Reading) (r : Result X Outcome) (s t : F) → q.names ≡ p.names → IsPart p q 0 0 0 → Reads f p r s t → Reads f q r s t
-reads-as f p q (Ok x) s t names part reads = then-ok f p q [] x x s t (names ∙ sym (append-nil p.names)) (omega (arith, part.most)) refl reads
-reads-as f p q (Err end) s t names part reads = stops f p q [] end s t (names ∙ sym (append-nil p.names)) part reads
-
 -- A step that makes the text of what another step counted. It ends the run as that step did, or runs out of memory, or returns a
 -- text for which P holds.
 abbrev pub Shows : {X : Type 0} → (X → Vec ℕ Global → Type 0) → Result X Outcome → Result (Vec ℕ Global) Outcome → Type 0
@@ -53,14 +42,7 @@ Shows P (Ok x) (Ok text) = P x text
 Shows P (Ok x) (Err end) = end ≡ NoMemory
 
 pub shows-next : {X : Type 0} (At : ℕ → Type 0) (P : X → Vec ℕ Global → Type 0) (a : Result X Outcome) (r : Result (Vec ℕ Global) Outcome) → Shows P a r → GoesOn At a r
-shows-next At P (Err end) r shows = shows
-shows-next At P (Ok x) (Ok text) shows = λ i late e. absurd e
-shows-next At P (Ok x) (Err end) shows = rw shows (λ i late e. absurd e)
-
-pub shows-ok : {X : Type 0} (P : X → Vec ℕ Global → Type 0) (a : Result X Outcome) (r : Result (Vec ℕ Global) Outcome) (Q : Type 0) → ((x : X) (text : Vec ℕ Global) → P x text → Q) → Shows P a r → OnOk r Q
-shows-ok P (Err end) r Q so shows = rw shows tt
-shows-ok P (Ok x) (Ok text) Q so shows = so x text shows
-shows-ok P (Ok x) (Err end) Q so shows = tt
+shows-next At P a r shows = grind arith
 
 -- The text shows the sizes of a rollup.
 abbrev pub PrintsTotal : Options → Totals → Vec ℕ Global → Type 0

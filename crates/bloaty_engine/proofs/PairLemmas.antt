@@ -1,10 +1,11 @@
 -- A file with its debug file, read and counted.
-use Rattle.std.proofs.Common.{◌≡◌, ℕ, ◌+◌, ◌-◌, ◌<◌, ◌≤◌, Bool, List, [], ◌∷◌, ◌++◌, length, Option, None, Some, Result, Ok, Err, refl, sym, ap, subst, ◌∙◌, arith}
+use Rattle.std.proofs.Common.{◌≡◌, ℕ, ◌+◌, ◌-◌, ◌≤◌, List, [], ◌∷◌, ◌++◌, length, None, Result, Ok, Err, refl, sym, ap, subst, ◌∙◌, arith}
 use Rattle.std.specs.Prelude.{IsOk, Vec}
 use Rattle.std.specs.declared.alloc.Global.{Global}
 use Rattle.std.proofs.lemmas.List.{length-append}
 use Rattle.size_core.specs.declared.fault.BadFile.{BadFile}
 use Rattle.size_core.specs.declared.limits.Limits.{Limits}
+use Rattle.size_model.specs.declared.view.FileView.{FileView}
 use Rattle.data_sources.specs.declared.binary.Binary.{Binary}
 use Rattle.data_sources.specs.Opened.{opened}
 use Rattle.outside.specs.declared.files.Files.{Ghosts as FilesGhosts}
@@ -13,236 +14,194 @@ use Rattle.file_profile.specs.declared.answer.PairAnswer.TheVariants as pair
 use Rattle.file_profile.specs.declared.answer.PairFile.TheVariants as pair_file
 use Rattle.file_profile.specs.PairViews.{PairAnswers, pair_view, pair_viewed}
 use Rattle.file_profile.specs.Plans.{Plans}
-use Rattle.file_profile.specs.Sources.{Chosen}
 use Rattle.rollup.specs.Totals.{Totals}
-use Rattle.size_options.specs.Answers.{IsOneInput, IsPair}
+use Rattle.size_options.specs.Answers.{IsPair}
 use Rattle.file_profile.specs.Counts.{filter_test}
 use Rattle.file_profile.proofs.MapLemmas.{err-same}
 use Rattle.size_options.specs.declared.run_options.Options.{Options}
 use Rattle.run_outcome.specs.declared.outcome.Outcome.{Outcome}
-use Rattle.run_outcome.specs.declared.outcome.Outcome.TheVariants.{TooLong}
-use Rattle.run_outcome.specs.Names.{all_names, debug_names, file_names, names_of, other_names}
-use Rattle.bloaty_engine.specs.Costs.{found_cost, pair_cost, view_cost}
+use Rattle.run_outcome.specs.declared.outcome.Outcome.TheVariants.{NoMemory, ReadFailed}
+use Rattle.run_outcome.specs.Names.{all_names, file_names, other_names}
+use Rattle.bloaty_engine.specs.Costs.{found_cost, pair_cost}
 use Rattle.bloaty_engine.specs.Devices.{EndsAt, IsEndAt}
 use Rattle.bloaty_engine.specs.FileReads.{ReadsFile, ReadsInputs, ReadsOnly}
-use Rattle.bloaty_engine.specs.Given.{input_pairs, pairs_from}
-use Rattle.bloaty_engine.specs.PairSteps.{CountsPair, EndsPair, EndsPaired, IsOfPair}
+use Rattle.bloaty_engine.specs.Given.{input_pairs}
+use Rattle.bloaty_engine.specs.PairSteps.{CountsPair, EndsPair, IsOfPair}
 use Rattle.bloaty_engine.specs.Steps.{EndsAs, EndsFilesWith, Finds, Nowhere}
 use Rattle.bloaty_engine.specs.Reading.{files_to_read, made_len, reading_for, unmade_names}
 use Rattle.bloaty_engine.specs.Reports.{AsksPair, EndsFinding, IsReadFile, IsReportFor, Reports}
-use Rattle.bloaty_engine.specs.Verdict.{◌>>=◌, Counted, Sides, as_counted, counted_pair, end_of_pair, first_name, found, found_by, if_paired, if_short, if_sound, next_limit, one_file, opened_first}
+use Rattle.bloaty_engine.specs.Verdict.{Counted, Sides, as_counted, counted_pair, end_of_pair, first_name, found, found_by, if_paired, if_short, if_sound, next_limit, one_file, opened_first}
 use Rattle.file_profile.proofs.LawLemmas.{of-file}
 use Rattle.file_profile.specs.Profiles.{Profiles}
 use Rattle.bloaty_engine.proofs.CostLemmas.{costs-as, costs-ended, view-costs}
 use Rattle.bloaty_engine.proofs.FileLemmas.{counted-one, none-counted}
-use Rattle.bloaty_engine.proofs.EndLemmas.{ends-at, ends-read, ends-so}
+use Rattle.bloaty_engine.proofs.EndLemmas.{ends-read, ends-so}
 use Rattle.bloaty_engine.proofs.GivenLemmas.{given-all}
-use Rattle.bloaty_engine.proofs.InputLemmas.{all-same, batch-one, beyond, beyond-behind, beyond-front, first-file, inputs-alone, inputs-next, within-run}
+use Rattle.bloaty_engine.proofs.InputLemmas.{all-same, batch-one, beyond-behind, beyond-front, first-file, inputs-alone, inputs-next, within-only, within-run}
 use Rattle.bloaty_engine.proofs.NextLemmas.{GoesOn, PrintsTotal, Shows, shows-next}
 use Rattle.bloaty_engine.proofs.SidesLemmas.{counted-as}
 use Rattle.bloaty_engine.proofs.ResultLemmas.{ok-some, short-long, short-next}
 use Rattle.bloaty_engine.proofs.StepLemmas.{IsWithin}
 
--- The first file.
-
-module _ (limits : Limits) (file : List ℕ) where
-  first-long : next_limit limits 0 < length file → opened_first limits file ≡ Err (TooLong 1)
-  unfolding opened_first
-  first-long lt = short-long limits 1 0 file _ lt
-
-  first-within : length file ≤ next_limit limits 0 → opened_first limits file ≡ if_sound (opened file)
-  unfolding opened_first
-  first-within le = short-next limits 1 0 file _ (omega (arith, le)) (omega (arith, le))
-
--- The pair.
-
-module _ (limits : Limits) (sources : List Chosen) (filter : Option (List ℕ → Bool)) (name file debug : List ℕ) where
-  abbrev paired : Result Sides Outcome
-  paired = if_paired (pair_viewed 0 limits.claims name file debug sources)
-
-  after-first : (r : Result Binary Outcome) → opened_first limits file ≡ r → counted_pair limits sources name file debug ≡ (r >>= λ binary. if_short limits 2 (length file) debug paired)
-  unfolding counted_pair
-  after-first r e = ap (λ p. p >>= λ binary. if_short limits 2 (length file) debug paired) e
-
-  -- The first file can't be read, or is too long.
-  pub first-read : (end : Outcome) → Finds 1 (next_limit limits 0) file (Err end) → EndsPair limits sources filter name file debug (Err end)
-  first-read end e =
-      ends-read (IsOfPair limits file) (counted_pair limits sources name file debug) 1 (next_limit limits 0) file end (λ i same number. (0, number, omega arith, tt))
-      (λ over. after-first (Err (TooLong 1)) (first-long limits file over)) e
-
-  module _ (fits : length file ≤ next_limit limits 0) where
-    -- Its format has a fault.
-    pub first-fault : (end : Outcome) → EndsAs {X = Binary} (Err end) (if_sound (opened file)) → EndsPair limits sources filter name file debug (Err end)
-    first-fault end e =
-        ends-so Nowhere (IsOfPair limits file) (if_sound (opened file)) (counted_pair limits sources name file debug) end (λ i same never. absurd never)
-        (λ so. after-first (Err end) (first-within limits file fits ∙ so)) e
-
-    module _ (sound : IsOk (if_sound (opened file))) where
-      first : IsOk (opened_first limits file)
-      first = rw (first-within limits file fits) sound
-
-      behind-first : counted_pair limits sources name file debug ≡ if_short limits 2 (length file) debug paired
-      behind-first =
-          let binary = ok-some (opened_first limits file) first in
-          after-first (Ok binary.0) binary.1
-
-      -- The debug file can't be read, or is too long.
-      pub second-read : (end : Outcome) → Finds 2 (next_limit limits (length file)) debug (Err end) → EndsPair limits sources filter name file debug (Err end)
-      second-read end e =
-          ends-read (IsOfPair limits file) (counted_pair limits sources name file debug) 2 (next_limit limits (length file)) debug end (λ i same number. (1, omega (arith, number), omega arith, first))
-          (λ over. behind-first ∙ short-long limits 2 (length file) debug _ over) e
-
-      -- Both were read.
-      module _ (few : length debug ≤ next_limit limits (length file)) where
-        both-within : counted_pair limits sources name file debug ≡ paired
-        both-within = behind-first ∙ short-next limits 2 (length file) debug _ (omega (arith, few)) (omega (arith, few, fits))
-
-        pub pair-counted : (r : Result Totals Outcome) → EndsPaired limits sources filter name file debug r → EndsPair limits sources filter name file debug r
-        pair-counted (Ok t) e = (e.0, both-within ∙ ap if_paired e.1, e.2)
-        pair-counted (Err end) e =
-            ends-so Nowhere (IsOfPair limits file) paired (counted_pair limits sources name file debug) end (λ i same never. absurd never) (λ so. both-within ∙ so) e
-
--- The outcome of an answer about the pair.
-pub ends-paired : (limits : Limits) (sources : List Chosen) (filter : Option (List ℕ → Bool)) (name file debug : List ℕ) (why : PairAnswer)
-    → PairAnswers (Err why) (pair_viewed 0 limits.claims name file debug sources) → EndsPaired limits sources filter name file debug (Err (end_of_pair why))
-ends-paired limits sources filter name file debug pair.NoMemory e = (refl, tt)
-ends-paired limits sources filter name file debug why e = (refl, ap if_paired e)
-
--- A fault of the format ends the run at file 1.
-pub sound-at : (decided : Result Binary BadFile) (end : Outcome) (i late : ℕ) → EndsFilesWith Nowhere (if_sound decided) end → IsEndAt i late end → (i ≡ 1) × (late ≡ 0)
-sound-at decided end i late e at = ends-at (if_sound decided) end i late _ (λ is. by-fault decided is) e at
-  where
-    by-fault : (decided : Result Binary BadFile) → if_sound decided ≡ Err end → (i ≡ 1) × (late ≡ 0)
-    by-fault (Ok binary) is = let wrong : ⊥ = cc in absurd wrong
-    by-fault (Err bad) is = let b = rw (← err-same _ _ is) at at in (sym b.0, b.1)
+-- The run ends at the first file, by the result of reading it: it can't be read, or its format has a fault.
+abbrev pub EndsFirst : Result (Vec ℕ Global) Outcome → Outcome → Type 0
+EndsFirst (Err e) end = end ≡ e
+EndsFirst (Ok file) end = EndsAs {X = Binary} (Err end) (if_sound (opened file.items))
 
 -- The result of the run by that of counting them.
 abbrev pub paired_result : Result (Unit {0}) PairAnswer → Totals → Result Totals Outcome
 paired_result (Ok u) t = Ok t
 paired_result (Err why) t = Err (end_of_pair why)
 
+module _ (limits : Limits) (p : Plans) (name file debug : List ℕ) where
+  abbrev counted_of : Result FileView PairAnswer
+  counted_of = pair_viewed 0 limits.claims name file debug p.sources
+
+  first-ends : (a : Result (Vec ℕ Global) Outcome) (end : Outcome) → Finds 1 (next_limit limits 0) file a → EndsFirst a end → EndsPair limits p.sources (filter_test p.filter) name file debug (Err end)
+  unfolding counted_pair opened_first
+  first-ends (Err e) end found is =
+      rw is (ends-read (IsOfPair limits file) (counted_pair limits p.sources name file debug) 1 (next_limit limits 0) file e (λ i same number. (0, number, omega arith, tt))
+      (λ over. rw (short-long limits 1 0 file (if_sound (opened file)) over) refl) found)
+  first-ends (Ok v) end found is =
+      ends-so Nowhere (IsOfPair limits file) (if_sound (opened file)) (counted_pair limits p.sources name file debug) end (λ i same never. absurd never)
+      (λ so. rw (short-next limits 1 0 file (if_sound (opened file)) (omega (arith, found.1)) (omega (arith, found.1)), so) refl) (rw found.0 at is)
+
+  -- The first file was read, and its format is sound.
+  behind-first : length file ≤ next_limit limits 0 → IsOk (if_sound (opened file)) → IsOk (opened_first limits file) × (counted_pair limits p.sources name file debug ≡ if_short limits 2 (length file) debug (if_paired counted_of))
+  unfolding counted_pair opened_first
+  behind-first fits sound =
+      let within = short-next limits 1 0 file (if_sound (opened file)) (omega (arith, fits)) (omega (arith, fits)) in
+      (rw within sound, rw (within, (ok-some _ sound).1) refl)
+
+  -- Both were read, and they are counted or end the run, by the result of the call that counts them.
+  abbrev Adds : Result (Unit {0}) PairAnswer → ℕ → Totals → ℕ → ℕ → Type 0
+  Adds r depth t old new = Profiles r counted_of (pair_view limits.claims name file debug p.sources) p.filter (length file) (record { depth = depth; rows = []; lengths = 0; mapped = 0 }) t old new
+
+  pair-ends : (r : Result (Unit {0}) PairAnswer) (depth : ℕ) (t : Totals) (old new : ℕ) → counted_pair limits p.sources name file debug ≡ if_paired counted_of → depth ≡ length p.sources → PairAnswers r counted_of → Adds r depth t old new
+      → EndsPair limits p.sources (filter_test p.filter) name file debug (paired_result r t)
+  pair-ends (Err pair.NoMemory) depth t old new within deep answer effect = (refl, tt)
+  pair-ends (Err why) depth t old new within deep answer effect = (refl, within ∙ ap if_paired answer)
+  pair-ends (Ok u) depth t old new within deep answer effect =
+      let view = ok-some _ answer in
+      let len = (of-file 0 limits.claims name p.sources view.0 file debug view.1).len in (
+        view.0,
+        within ∙ ap if_paired view.1,
+        counted-one (filter_test p.filter) (length p.sources) [] view.0 _ t (none-counted (filter_test p.filter) (length p.sources) depth deep) effect.depth (effect.lengths ∙ ap (λ n. 0 + n) (sym len)) (effect.mapped view.0 view.1)
+            (λ set. effect.file view.0 set view.1) (λ set. effect.vm view.0 set view.1),
+      )
+
+-- A fault of the format ends the run at file 1.
+sound-at : (decided : Result Binary BadFile) (end : Outcome) (i late : ℕ) → EndsFilesWith Nowhere (if_sound decided) end → IsEndAt i late end → (1 ≡ i) × (late ≡ 0)
+sound-at decided (ReadFailed j) i late e at = absurd e.1
+sound-at decided NoMemory i late e at = absurd at
+sound-at (Ok binary) end i late e at = absurd (cc e.1)
+sound-at (Err bad) end i late e at = subst (λ x. IsEndAt i late x) (sym (err-same _ _ e.1)) at
+
 -- The options of a pair.
 
-pub pair-one-input : (o : Options) → IsPair o → IsOneInput o.synth o.files
-pair-one-input o is = rw is.not_made is.one_file
+module _ {o : Options} {p : Plans} {debug : List ℕ} (asks : AsksPair o p debug) where
+  is-pair : IsPair o
+  is-pair = asks.ready.limits.debug _ asks.debug
 
-module _ (o : Options) (debug : List ℕ) (is : IsPair o) (asked : o.debug ≡ Some debug) where
-  pub pair-others : other_names o ≡ debug ∷ []
-  pair-others = ap (λ d. debug_names d ++ o.bases) asked ∙ ap (λ bs. debug ∷ bs) is.no_base
+  pair-others : other_names o ≡ debug ∷ []
+  pair-others = rw (asks.debug, is-pair.no_base) refl
 
-  pub pair-count : 1 ≡ length (file_names o)
-  pair-count = sym (ap (λ s. length (names_of s o.files)) is.not_made ∙ is.one_file)
+  pair-count : 1 ≡ length (file_names o)
+  pair-count = rw is-pair.not_made (sym is-pair.one_file)
 
   pair-all : length (all_names o) ≡ 2
-  pair-all = length-append (file_names o) (other_names o) ∙ rw (← pair-count, pair-others) refl
+  pair-all = omega (arith, length-append (file_names o) (other_names o), ap length pair-others, pair-count)
 
   -- What reads gave of the two files.
-  pub pair-pairs : (files : ℕ → List ℕ) → input_pairs o files ≡ (first_name o, files 1) ∷ (debug, files 2) ∷ []
-  pair-pairs files =
-      ap (λ s. pairs_from 1 (unmade_names s o.files) files ++ pairs_from (length (file_names o) + 1) (other_names o) files) is.not_made
-      ∙ (ap (λ ns. pairs_from 1 ns files ++ pairs_from (length (file_names o) + 1) (other_names o) files) (first-file o is.not_made is.one_file)
-      ∙ (ap (λ n. (first_name o, files 1) ∷ pairs_from (n + 1) (other_names o) files) (sym pair-count) ∙ ap (λ ns. (first_name o, files 1) ∷ pairs_from 2 ns files) pair-others))
+  pair-pairs : (files : ℕ → List ℕ) → input_pairs o files ≡ (first_name o, files 1) ∷ (debug, files 2) ∷ []
+  pair-pairs files = rw (← pair-count, pair-others, is-pair.not_made, first-file o is-pair.not_made is-pair.one_file) refl
 
-  -- The bytes of the two.
-  pub pair-own : (own others : ℕ → List ℕ) → beyond (length (file_names o)) own others 1 ≡ own 1
-  pair-own own others = beyond-front (length (file_names o)) own others 1 (omega (arith, pair-count))
+  -- If counting them ends the run at a file, it is one of the two, after both were read.
+  paired-within : (limits : Limits) (r : Result (Unit {0}) PairAnswer) (t : Totals) (i late : ℕ) → EndsAt i late (paired_result r t) → (late ≡ 0) × IsWithin (reading_for limits o (files_to_read o)) (length (files_to_read o)) i 0
+  paired-within limits (Ok u) t i late at = absurd at
+  paired-within limits (Err (pair.Bad pair_file.Own bad)) t i late at = (at.1, rw (← at.0) (within-run limits o 0 (omega (arith, pair-all))))
+  paired-within limits (Err (pair.Bad pair_file.Debug bad)) t i late at = (at.1, rw (← at.0) (within-run limits o 1 (omega (arith, pair-all))))
+  paired-within limits (Err pair.NoMatch) t i late at = (at.1, rw (← at.0) (within-run limits o 1 (omega (arith, pair-all))))
+  paired-within limits (Err pair.TooManyClaims) t i late at = (at.1, rw (← at.0) (within-run limits o 0 (omega (arith, pair-all))))
+  paired-within limits (Err why) t i late at = absurd at
 
-  pub pair-other : (own others : ℕ → List ℕ) → beyond (length (file_names o)) own others 2 ≡ others 2
-  pair-other own others = beyond-behind (length (file_names o)) own others 2 (omega (arith, pair-count))
+  module _ (limits : Limits) (files : ℕ → List ℕ) where
+    found-pair : (r : Result Sides Outcome) → counted_pair limits p.sources (first_name o) (files 1) (files 2) ≡ r → found limits p.sources files o ≡ as_counted r
+    unfolding found
+    found-pair r e = ap (λ q. found_by q o.debug limits p.sources files o) asks.no_place ∙ (ap (λ d. found_by None d limits p.sources files o) asks.debug ∙ ap as_counted e)
 
-  module _ (limits : Limits) where
-    file-within : (k i : ℕ) → k < 2 → k + 1 ≡ i → IsWithin (reading_for limits o (files_to_read o)) (length (files_to_read o)) i 0
-    file-within k i lt is = rw (← is) (within-run limits o k (omega (arith, lt, pair-all)))
-
-    -- If counting them ends the run at a file, it is one of the two, after both were read.
-    pub paired-within : (r : Result (Unit {0}) PairAnswer) (t : Totals) (i late : ℕ) → EndsAt i late (paired_result r t) → (late ≡ 0) × IsWithin (reading_for limits o (files_to_read o)) (length (files_to_read o)) i 0
-    paired-within (Ok u) t i late at = absurd at
-    paired-within (Err (pair.Bad pair_file.Own bad)) t i late at = (at.1, file-within 0 i (omega arith) at.0)
-    paired-within (Err (pair.Bad pair_file.Debug bad)) t i late at = (at.1, file-within 1 i (omega arith) at.0)
-    paired-within (Err pair.NoMatch) t i late at = (at.1, file-within 1 i (omega arith) at.0)
-    paired-within (Err pair.TooManyClaims) t i late at = (at.1, file-within 0 i (omega arith) at.0)
-    paired-within (Err why) t i late at = absurd at
-
-    module _ (sources : List Chosen) (filter : Option (List ℕ)) (same : filter ≡ o.filter) (depth : length o.sources ≡ length sources) (no_place : o.place ≡ None) (files : ℕ → List ℕ) where
-      found-pair : (r : Result Sides Outcome) → counted_pair limits sources (first_name o) (files 1) (files 2) ≡ r → found limits sources files o ≡ as_counted r
-      unfolding found
-      found-pair r e = ap (λ p. found_by p o.debug limits sources files o) no_place ∙ (ap (λ d. found_by None d limits sources files o) asked ∙ ap as_counted e)
-
-      -- The run ends at the pair, or runs out of memory, or has the report of the pair.
-      pub pair-shown : (a : Result Totals Outcome) (r : Result (Vec ℕ Global) Outcome) → EndsPair limits sources (filter_test filter) (first_name o) (files 1) (files 2) a → Shows (PrintsTotal o) a r → EndsFinding limits sources files o r
-      pair-shown (Err end) r e shows =
-          rw shows (ends-so (IsOfPair limits (files 1)) (IsReadFile limits sources files o) (counted_pair limits sources (first_name o) (files 1) (files 2)) (found limits sources files o) end
-          (λ i same p. (p.0, p.1, rw is.not_made tt, omega (arith, p.2, pair-all), rw asked p.3)) (λ so. found-pair (Err end) so) e)
-      pair-shown (Ok t) (Err end) e shows = rw shows (refl, tt)
-      pair-shown (Ok t) (Ok out) e shows =
-          (Counted (one_file e.0), found-pair (Ok (one_file e.0)) e.1, subst (λ bs. IsReportFor bs o (one_file e.0) out.items) (sym is.no_base) (shows.1.report shows.0 (e.0 ∷ []) (counted-as sources o filter same depth t (e.0 ∷ []) e.2)))
+    -- The run ends at the pair, or runs out of memory, or has the report of the pair.
+    pair-shown : (a : Result Totals Outcome) (r : Result (Vec ℕ Global) Outcome) → EndsPair limits p.sources (filter_test p.filter) (first_name o) (files 1) (files 2) a → Shows (PrintsTotal o) a r → EndsFinding limits p.sources files o r
+    pair-shown (Err end) r e shows =
+        rw shows (ends-so (IsOfPair limits (files 1)) (IsReadFile limits p.sources files o) (counted_pair limits p.sources (first_name o) (files 1) (files 2)) (found limits p.sources files o) end
+        (λ i same q. (q.0, q.1, rw is-pair.not_made tt, omega (arith, q.2, pair-all), rw asks.debug q.3)) (λ so. found-pair (Err end) so) e)
+    pair-shown (Ok t) (Err end) e shows = rw shows (refl, tt)
+    pair-shown (Ok t) (Ok out) e shows =
+        let planned = asks.ready.planned in
+        let report = shows.1.report shows.0 (e.0 ∷ []) (counted-as p.sources o p.filter planned.filter planned.depth t (e.0 ∷ []) e.2) in
+        (Counted (one_file e.0), found-pair (Ok (one_file e.0)) e.1, subst (λ bs. IsReportFor bs o (one_file e.0) out.items) (sym is-pair.no_base) report)
 
 -- The report of a pair, after the step that counted it.
-pub pair-reported : {F : Type 0} (f : FilesGhosts F) (limits : Limits) (p : Plans) (o : Options) (debug : List ℕ) → AsksPair o p debug → (a : Result Totals Outcome) (r : Result (Vec ℕ Global) Outcome) (s t : F) (old new : ℕ)
+pub pair-reported : {F : Type 0} {f : FilesGhosts F} {limits : Limits} {p : Plans} {o : Options} {debug : List ℕ} {a : Result Totals Outcome} {s t : F} {old new : ℕ} (r : Result (Vec ℕ Global) Outcome) → AsksPair o p debug
     → CountsPair f limits p o a s t old new → Shows (PrintsTotal o) a r → Reports f limits p o r s t old new
-pair-reported f limits p o debug asks a r s t old new counts shows =
-    let is = asks.ready.limits.debug _ asks.debug in
-    record {
-      report = all-same f _ _ _ _ _ a r s t counts.inputs (shows-next _ (PrintsTotal o) a r shows)
-          (λ bytes ends. pair-shown o debug is asks.debug limits p.sources p.filter asks.ready.planned.filter asks.ready.planned.depth asks.no_place bytes a r ends shows);
-      cost = costs-as (pair_cost limits p.sources) (found_cost limits p.sources o) (f.gave s) (f.gave t) old new (λ given. rw (asks.no_place, asks.debug) (omega arith)) counts.cost;
-    }
-
--- The file and its debug file were read.
-abbrev pub AreBothRead : Limits → Vec ℕ Global → (ℕ → List ℕ) → Result (Vec ℕ Global) Outcome → Type 0
-AreBothRead limits file bytes read = Finds 1 (next_limit limits 0) (bytes 1) (Ok file) × Finds 2 (next_limit limits (length file.items)) (bytes 2) read
-
--- The debug file is read after the file.
-pub both-read : {F : Type 0} (f : FilesGhosts F) (limits : Limits) (p : Plans) (o : Options) (debug : List ℕ) (file : Vec ℕ Global) (limit : ℕ) (read : Result (Vec ℕ Global) Outcome) (s t u : F) → AsksPair o p debug
-    → limit ≡ next_limit limits (length file.items) → ReadsOnly f limits o (Ok file) s t → ReadsFile f 2 debug limit read t u → ReadsInputs f limits o (λ bytes. AreBothRead limits file bytes) read s u
-both-read f limits p o debug file limit read s t u asks is first second =
-    let pair = asks.ready.limits.debug _ asks.debug in
-    let none : made_len o.synth ≡ 0 = ap made_len pair.not_made in
-    let all : length file.items - made_len o.synth ≡ length file.items = omega (arith, none) in
-    let fits : length file.items ≤ next_limit limits 0 = omega (arith, first.files.all.ends.1, ap length first.files.all.ends.0) in
-    inputs-next f limits o (λ bytes. Finds 1 (next_limit limits 0) (bytes 1)) (λ bytes. Finds 2 limit (bytes 2)) (λ bytes. AreBothRead limits file bytes) file read 1 (length file.items) (debug ∷ []) s t u
-    (pair-count o debug pair asks.debug) (sym (pair-others o debug pair asks.debug)) (omega (arith, none)) (omega (arith, fits)) first.files (rw all (first.taken pair.not_made))
-    (batch-one f limits 1 (length file.items) limit debug read t u (omega (arith, fits)) is second)
-    (λ own others a b. rw (pair-own o debug pair asks.debug own others, pair-other o debug pair asks.debug own others) (a, rw (← is) b))
-
--- The run ends at the file, and the debug file isn't read.
-pub pair-stopped : {F : Type 0} (f : FilesGhosts F) (limits : Limits) (p : Plans) (o : Options) (name : List ℕ) (a : Result (Vec ℕ Global) Outcome) (end : Outcome) (s t : F) (steps : ℕ) → AsksPair o p name → ReadsOnly f limits o a s t
-    → GoesOn {Y = Totals} (λ i. IsWithin (reading_for limits o (files_to_read o)) (length (unmade_names o.synth o.files)) i 0) a (Err end)
-    → ((own other : List ℕ) → Finds 1 (next_limit limits 0) own a → EndsPair limits p.sources (filter_test p.filter) (first_name o) own other (Err end)) → CountsPair f limits p o (Err end) s t steps steps
-pair-stopped f limits p o name a end s t steps asks first next ends = record {
-  inputs = inputs-alone f limits o _ _ a (Err end) s t first.files next tt (λ own others e. rw (pair-own o name (asks.ready.limits.debug _ asks.debug) asks.debug own others) (ends (own 1) _ e));
-  cost = costs-ended _ _ _ _ _ steps first.files.all.gives;
+pair-reported {f = f} {limits = limits} {p = p} {o = o} {a = a} {s = s} {t = t} {old = old} {new = new} r asks counts shows = record {
+  report = all-same f _ _ _ _ _ a r s t counts.inputs (shows-next _ (PrintsTotal o) a r shows) (λ bytes ends. pair-shown asks limits bytes a r ends shows);
+  cost = costs-as (pair_cost limits p.sources) (found_cost limits p.sources o) (f.gave s) (f.gave t) old new (λ given. rw (asks.no_place, asks.debug) (omega arith)) counts.cost;
 }
 
--- The two are counted, or the run ends at one of them.
-pub pair-profiled : {F : Type 0} (f : FilesGhosts F) (limits : Limits) (p : Plans) (o : Options) (name : List ℕ) (file debug : Vec ℕ Global) (s u : F) (old new : ℕ) → AsksPair o p name → ReadsInputs f limits o (λ bytes. AreBothRead limits file bytes) (Ok debug) s u
-    → IsOk (if_sound (opened file.items)) → (r : Result (Unit {0}) PairAnswer) (depth : ℕ) (t : Totals) → depth ≡ length p.sources → PairAnswers r (pair_viewed 0 limits.claims (first_name o) file.items debug.items p.sources)
-    → Profiles r (pair_viewed 0 limits.claims (first_name o) file.items debug.items p.sources) (pair_view limits.claims (first_name o) file.items debug.items p.sources) p.filter (length file.items) (record { depth = depth; rows = []; lengths = 0; mapped = 0 }) t old new
-    → CountsPair f limits p o (paired_result r t) s u old new
-pair-profiled f limits p o name file debug s u old new asks both sound r depth t is answer effect =
-    let pair = asks.ready.limits.debug _ asks.debug in
-    let test = filter_test p.filter in
-    let counted = ends r answer effect in
-    let cost = view-costs (pair_view limits.claims (first_name o) file.items debug.items p.sources) old new effect.cost effect.free in
-    record {
-      inputs = all-same f _ _ _ _ _ (Ok debug) (paired_result r t) s u both (paired-within o name pair asks.debug limits r t)
-          (λ bytes e. pair-counted limits p.sources test (first_name o) (bytes 1) (bytes 2) e.0.1 (rw e.0.0 at sound) (omega (arith, e.1.1, ap length e.0.0)) (paired_result r t) (rw (e.0.0, e.1.0) at counted));
-      cost = record {
-        given = (first_name o, both.bytes 1) ∷ (name, both.bytes 2) ∷ [];
-        are = given-all debug _ _ _ both.gives ∙ ap (λ ps. f.gave s ++ ps) (pair-pairs o name pair asks.debug both.bytes);
-        most = subst (λ x. new ≤ old + view_cost (pair_view limits.claims (first_name o) x (both.bytes 2) p.sources)) both.ends.0.0 (subst (λ x. new ≤ old + view_cost (pair_view limits.claims (first_name o) file.items x p.sources)) both.ends.1.0 cost);
-      };
-    }
+-- The run ends at the file, and the debug file isn't read.
+pub pair-stopped : {F : Type 0} {f : FilesGhosts F} {limits : Limits} {p : Plans} {o : Options} {name : List ℕ} {a : Result (Vec ℕ Global) Outcome} {s t : F} (end : Outcome) (steps : ℕ) → AsksPair o p name → ReadsOnly f limits o a s t
+    → EndsFirst a end → CountsPair f limits p o (Err end) s t steps steps
+pair-stopped {f = f} {limits = limits} {p = p} {o = o} {a = a} {s = s} {t = t} end steps asks first ends = record {
+  inputs = inputs-alone f limits o _ _ a (Err end) s t first.files (next a ends) tt
+      (λ own others e. rw (beyond-front (length (file_names o)) own others 1 (omega (arith, pair-count asks))) (first-ends limits p (first_name o) (own 1) _ a end e ends));
+  cost = costs-ended _ _ _ _ _ steps first.files.all.gives;
+}
   where
-    ends : (r : Result (Unit {0}) PairAnswer) → PairAnswers r (pair_viewed 0 limits.claims (first_name o) file.items debug.items p.sources)
-        → Profiles r (pair_viewed 0 limits.claims (first_name o) file.items debug.items p.sources) (pair_view limits.claims (first_name o) file.items debug.items p.sources) p.filter (length file.items) (record { depth = depth; rows = []; lengths = 0; mapped = 0 }) t old new
-        → EndsPaired limits p.sources (filter_test p.filter) (first_name o) file.items debug.items (paired_result r t)
-    ends (Err why) answer effect = ends-paired limits p.sources (filter_test p.filter) (first_name o) file.items debug.items why answer
-    ends (Ok u) answer effect =
-        let view = ok-some _ answer in
-        let len = (of-file 0 limits.claims (first_name o) p.sources view.0 file.items debug.items view.1).len in (
-          view.0,
-          view.1,
-          counted-one (filter_test p.filter) (length p.sources) [] view.0 _ t (none-counted (filter_test p.filter) (length p.sources) depth is) effect.depth (effect.lengths ∙ ap (λ n. 0 + n) (sym len)) (effect.mapped view.0 view.1)
-              (λ set. effect.file view.0 set view.1) (λ set. effect.vm view.0 set view.1),
-        )
+    next : (a : Result (Vec ℕ Global) Outcome) → EndsFirst a end → GoesOn {Y = Totals} (λ i. IsWithin (reading_for limits o (files_to_read o)) (length (unmade_names o.synth o.files)) i 0) a (Err end)
+    next (Err e) is = ap Err is
+    next (Ok v) is = λ i late at.
+        let n = sound-at (opened v.items) end i late is at in
+        (n.1, rw (← n.0) (within-only limits o (files_to_read o) (rw (is-pair asks).not_made (is-pair asks).one_file)))
+
+-- The debug file is read after the file, whose format is sound.
+module _ {F : Type 0} {f : FilesGhosts F} {limits : Limits} {p : Plans} {o : Options} {name : List ℕ} {file : Vec ℕ Global} {s t : F} {limit len : ℕ} (asks : AsksPair o p name) (own : ReadsOnly f limits o (Ok file) s t)
+    (sound : IsOk (if_sound (opened file.items))) (size : len ≡ length file.items) (is : limit ≡ next_limit limits len) where
+  both-read : (read : Result (Vec ℕ Global) Outcome) (u : F) → ReadsFile f 2 name limit read t u
+      → ReadsInputs f limits o (λ bytes r. Finds 1 (next_limit limits 0) (bytes 1) (Ok file) × Finds 2 (next_limit limits (length file.items)) (bytes 2) r) read s u
+  both-read read u second =
+      let none : made_len o.synth ≡ 0 = ap made_len (is-pair asks).not_made in
+      let all : len - made_len o.synth ≡ length file.items = omega (arith, none, size) in
+      let fits : len ≤ next_limit limits 0 = omega (arith, own.files.all.ends.1, ap length own.files.all.ends.0, size) in
+      inputs-next f limits o _ _ _ file read 1 len (name ∷ []) s t u (pair-count asks) (sym (pair-others asks)) (omega (arith, none)) (omega (arith, fits)) own.files (rw all (own.taken (is-pair asks).not_made))
+      (batch-one f limits 1 len limit name read t u (omega (arith, fits)) is second)
+      (λ own others a b. rw (beyond-front (length (file_names o)) own others 1 (omega (arith, pair-count asks)), beyond-behind (length (file_names o)) own others 2 (omega (arith, pair-count asks))) (a, rw (is, size) at b))
+
+  -- It can't be read, or is too long.
+  pub pair-unread : {end : Outcome} {u : F} (steps : ℕ) → ReadsFile f 2 name limit (Err end) t u → CountsPair f limits p o (Err end) s u steps steps
+  pair-unread {end = end} {u = u} steps second =
+      let both = both-read (Err end) u second in
+      record {
+        inputs = all-same f _ _ _ _ _ (Err end) (Err end) s u both refl (λ bytes e.
+            let first = behind-first limits p (first_name o) (bytes 1) (bytes 2) e.0.1 (rw e.0.0 at sound) in
+            ends-read (IsOfPair limits (bytes 1)) (counted_pair limits p.sources (first_name o) (bytes 1) (bytes 2)) 2 (next_limit limits (length (bytes 1))) (bytes 2) end (λ i same number. (1, omega (arith, number), omega arith, first.0))
+            (λ over. first.1 ∙ short-long limits 2 (length (bytes 1)) (bytes 2) _ over) (subst (λ x. Finds 2 (next_limit limits (length x)) (bytes 2) (Err end)) e.0.0 e.1));
+        cost = costs-ended _ _ _ _ _ steps both.gives;
+      }
+
+  -- The two are counted, or the run ends at one of them.
+  pub pair-profiled : {debug : Vec ℕ Global} {u : F} {total : Totals} {old new depth : ℕ} (r : Result (Unit {0}) PairAnswer) → ReadsFile f 2 name limit (Ok debug) t u → depth ≡ length p.sources
+      → PairAnswers r (counted_of limits p (first_name o) file.items debug.items) → Adds limits p (first_name o) file.items debug.items r depth total old new → CountsPair f limits p o (paired_result r total) s u old new
+  pair-profiled {debug = debug} {u = u} {total = total} {old = old} {new = new} {depth = depth} r second deep answer effect =
+      let both = both-read (Ok debug) u second in
+      record {
+        inputs = all-same f _ _ _ _ _ (Ok debug) (paired_result r total) s u both (paired-within asks limits r total) (λ bytes e.
+            let first = behind-first limits p (first_name o) file.items debug.items (omega (arith, e.0.1, ap length e.0.0)) sound in
+            let second = short-next limits 2 (length file.items) debug.items _ (omega (arith, e.1.1, ap length e.1.0)) (omega (arith, e.0.1, ap length e.0.0, e.1.1, ap length e.1.0)) in
+            rw (e.0.0, e.1.0) at (pair-ends limits p (first_name o) file.items debug.items r depth total old new (first.1 ∙ second) deep answer effect));
+        cost = record {
+          given = (first_name o, both.bytes 1) ∷ (name, both.bytes 2) ∷ [];
+          are = given-all debug _ _ _ both.gives ∙ ap (λ ps. f.gave s ++ ps) (pair-pairs asks both.bytes);
+          most = rw (← both.ends.0.0, ← both.ends.1.0) (view-costs (pair_view limits.claims (first_name o) file.items debug.items p.sources) old new effect.cost effect.free);
+        };
+      }

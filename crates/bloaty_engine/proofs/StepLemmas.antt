@@ -1,12 +1,13 @@
 -- Steps of a run one after the other. The run has read what its steps have read.
-use Rattle.std.proofs.Common.{◌≡◌, ℕ, zero, suc, ◌+◌, ◌-◌, ◌<◌, ◌≤◌, Bool, true, false, cond, nat_lt, List, [], ◌∷◌, ◌++◌, length, Option, None, Some, Result, Ok, Err, ◌⊎◌, inl, inr, codes, refl, sym, ap, ◌∙◌, arith}
+use Rattle.std.proofs.Common.{◌≡◌, ℕ, zero, suc, ◌+◌, ◌-◌, ◌≤◌, not, true, List, [], ◌∷◌, ◌++◌, length, Option, None, Some, Result, Ok, Err, ◌⊎◌, inl, inr, codes, refl, sym, ap, ◌∙◌, add-one, arith}
 use Rattle.std.specs.Prelude.{⊤, IfSome, OnOk, slice_get}
 use Rattle.std.proofs.lemmas.Bool.Decides.{nat_tests}
-use Rattle.std.proofs.lemmas.List.{append-nil, map-append}
-use Rattle.std.proofs.lemmas.Option.{none-some, same_Some}
+use Rattle.std.proofs.lemmas.List.{append-nil}
+use Rattle.std.proofs.lemmas.Option.{slice_get_within}
+use Rattle.std.proofs.lemmas.Result.{on_ok_weaker}
 use Rattle.outside.specs.declared.files.Files.{Ghosts as FilesGhosts}
 use Rattle.outside.specs.Causes.{Rose}
-use Rattle.outside.specs.Held.{IsTaken, IsTakenAtLeast, Pairs}
+use Rattle.outside.specs.Held.{IsHeld, IsTakenAtLeast}
 use Rattle.file_profile.proofs.MapLemmas.{err-same}
 use Rattle.run_outcome.specs.declared.outcome.Outcome.{Outcome}
 use Rattle.run_outcome.specs.declared.outcome.Outcome.TheVariants.{Done, Usage, ReadFailed, TooLong, WriteFailed, NoMemory}
@@ -15,14 +16,16 @@ use Rattle.size_options.specs.declared.run_options.Options.{Options}
 use Rattle.size_options.specs.declared.errors.UsageKind.{UsageKind}
 use Rattle.run_outcome.specs.Names.{file_names, name_at, names_of, other_names}
 use Rattle.run_plan.specs.Firsts.{AddsFirst}
-use Rattle.bloaty_engine.specs.Devices.{EndsAt, GaveFirst, Reads, ended, names_given}
-use Rattle.bloaty_engine.specs.Reading.{Reading, config_most, config_names, config_reading, file_reading, least_taken, made_len, numbered, read_upto, reading_for, run_reading, unmade_names}
-use Rattle.bloaty_engine.specs.Steps.{batch_of, batch_reading}
-use Rattle.bloaty_engine.specs.Verdict.{config_limit, file_limit, next_limit, total_limit}
-use Rattle.bloaty_engine.specs.Stages.{ends_without, is_failed_read}
-use Rattle.run_plan.proofs.FirstLemmas.{adds-all, adds-as-many, adds-behind, adds-more, adds-none, adds-whole}
-use Rattle.bloaty_engine.proofs.ReadLemmas.{OnOk-any, OnOk-then, get-behind, get-front, other-name}
-use Rattle.bloaty_engine.proofs.TakenLemmas.{at-least-any, at-least-behind, at-least-less, left-over, most-over, rose-later, some-limit, some-most}
+use Rattle.bloaty_engine.specs.Devices.{EndsAt, IsEndAt, Reads, ended, names_given}
+use Rattle.bloaty_engine.specs.Reading.{Reading, config_most, config_names, config_reading, IsUnmade, file_reading, least_taken, made_len, numbered, read_upto, reading_for, run_reading, unmade_names}
+use Rattle.bloaty_engine.specs.FileReads.{ReadsFile}
+use Rattle.bloaty_engine.specs.Steps.{Finds, batch_of, batch_reading}
+use Rattle.bloaty_engine.specs.Verdict.{config_limit, next_limit, total_limit}
+use Rattle.bloaty_engine.specs.Stages.{is_failed_read}
+use Rattle.run_plan.proofs.FirstLemmas.{adds-all, adds-as-many, adds-behind, adds-more, adds-none, adds-whole, adds-within}
+use Rattle.bloaty_engine.proofs.GivenLemmas.{gives-failed}
+use Rattle.bloaty_engine.proofs.ReadLemmas.{OnOk-any, get-behind, get-front}
+use Rattle.bloaty_engine.proofs.TakenLemmas.{at-least-any, at-least-behind}
 
 -- The files of a reading are files of another reading, after `before` names of the other. At least `taken` and at most
 -- `spent` bytes were read before them.
@@ -30,12 +33,8 @@ pub record IsPart (p q : Reading) (before taken spent : ℕ) : Type 0 where
   pub each : (i : ℕ) (name : List ℕ) → p.name_of i ≡ Some name → (q.name_of i ≡ Some name) × (q.upto i ≡ before + p.upto i) × (q.least i ≤ taken + p.least i)
   pub most : spent + p.most ≤ q.most
 
-pub same-all : (q : Reading) → IsPart q q 0 0 0
-same-all q = record { each = λ i name at. (at, omega arith, omega arith); most = omega arith }
-
--- The same for two readings of a run with these options.
-pub same-run : (limits : Limits) (o : Options) (names all : List (List ℕ)) → IsPart (reading_for limits o names) (reading_for limits o all) 0 0 0
-same-run limits o names all = record { each = λ i name at. (at, omega arith, omega arith); most = omega arith }
+pub same-all : (names : List (List ℕ)) (q : Reading) → IsPart (record q { names = names }) q 0 0 0
+same-all names q = record { each = λ i name at. (at, omega arith, omega arith); most = omega arith }
 
 -- The configuration in a run, and the files after it.
 pub config-run : (limits : Limits) (o : Options) → IsPart (config_reading limits o) (run_reading limits (Ok o)) 0 0 0
@@ -45,237 +44,164 @@ pub files-run : (limits : Limits) (o : Options) (names : List (List ℕ)) → Is
 files-run limits o names = record { each = λ i name at. (at, refl, omega arith); most = omega arith }
 
 pub numbered-first : (first k : ℕ) (names : List (List ℕ)) → numbered first names (first + k) ≡ slice_get names k
-numbered-first first k names =
-    let p : first + k - first ≡ k = omega arith in
-    ap (λ t. cond t None (slice_get names (first + k - first))) (let q : nat_lt (first + k) first ≡ false = grind (arith, nat_tests) in q) ∙ ap (λ n. slice_get names n) p
+numbered-first first k names = grind (arith, nat_tests)
 
 pub numbered-at : (first i : ℕ) (names : List (List ℕ)) (name : List ℕ) → numbered first names i ≡ Some name → (k : ℕ) × (i ≡ first + k) × (slice_get names k ≡ Some name)
-numbered-at first i names name at = by-test (nat_lt i first) refl at
-  where
-    by-test : (t : Bool) → nat_lt i first ≡ t → cond t None (slice_get names (i - first)) ≡ Some name → (k : ℕ) × (i ≡ first + k) × (slice_get names k ≡ Some name)
-    by-test true e at = absurd (none-some name at)
-    by-test false e at =
-        let le : i ≡ first + (i - first) = grind (arith, nat_tests) in
-        (i - first, le, at)
-
-pub read-number : (i j : ℕ) → ReadFailed i ≡ ReadFailed j → i ≡ j
-read-number i j e = cc
-
--- The names of what reads returned, with one more.
-pub names-more : (old new : Pairs) (name bytes : List ℕ) → new ≡ old ++ (name, bytes) ∷ [] → names_given new ≡ names_given old ++ name ∷ []
-names-more old new name bytes are = ap names_given are ∙ map-append (λ (pair : List ℕ × List ℕ). pair.0) old ((name, bytes) ∷ [])
-
-pub long-number : (i j : ℕ) → TooLong i ≡ TooLong j → i ≡ j
-long-number i j e = cc
-
--- The names that were read, up to a file of a part of a reading.
-part-front : (p q : Reading) (rest : List (List ℕ)) (taken spent : ℕ) → q.names ≡ p.names ++ rest → IsPart p q 0 taken spent
-    → (i : ℕ) (name : List ℕ) → p.name_of i ≡ Some name → (old new : List (List ℕ)) → AddsFirst (p.upto i) old new p.names → AddsFirst (q.upto i) old new q.names
-part-front p q rest taken spent names part i name at old new reads =
-    adds-as-many (p.upto i) (q.upto i) old new q.names ((part.each i name at).1 ∙ (omega arith)) (rw names (adds-more (p.upto i) old new p.names rest reads))
-
-part-behind : (front : List (List ℕ)) (p q : Reading) (taken spent : ℕ) → q.names ≡ front ++ p.names → IsPart p q (length front) taken spent
-    → (i : ℕ) (name : List ℕ) → p.name_of i ≡ Some name → (old mid new : List (List ℕ)) → mid ≡ old ++ front → AddsFirst (p.upto i) mid new p.names → AddsFirst (q.upto i) old new q.names
-part-behind front p q taken spent names part i name at old mid new are reads =
-    adds-as-many (length front + p.upto i) (q.upto i) old new q.names ((part.each i name at).1) (rw names (adds-behind old mid front p.names are (p.upto i) new reads))
-
--- The same of the names that returned their bytes.
-gave-front : (p q : Reading) (rest : List (List ℕ)) (taken spent : ℕ) → q.names ≡ p.names ++ rest → IsPart p q 0 taken spent
-    → (i late : ℕ) (name : List ℕ) → p.name_of i ≡ Some name → (old new : Pairs) → GaveFirst (p.upto i - late) old new p.names → GaveFirst (q.upto i - late) old new q.names
-gave-front p q rest taken spent names part i late name at old new (n, le, gave) =
-    (n, omega (arith, le, (part.each i name at).1), rw names (adds-more n (names_given old) (names_given new) p.names rest gave))
-
-gave-behind : (front : List (List ℕ)) (p q : Reading) (taken spent : ℕ) → q.names ≡ front ++ p.names → IsPart p q (length front) taken spent
-    → (i late : ℕ) (name : List ℕ) → p.name_of i ≡ Some name → (old mid new : Pairs) → names_given mid ≡ names_given old ++ front → GaveFirst (p.upto i - late) mid new p.names → GaveFirst (q.upto i - late) old new q.names
-gave-behind front p q taken spent names part i late name at old mid new are (n, le, gave) =
-    (length front + n, omega (arith, le, (part.each i name at).1), rw names (adds-behind (names_given old) (names_given mid) front p.names are n (names_given new) gave))
+numbered-at first i names name at = (i - first, grind (arith, nat_tests), grind (arith, nat_tests))
 
 -- File i is one of a reading, and the names up to it are at most `count`, or one more if its own read returned no bytes (`late` is 1).
 abbrev pub IsWithin : Reading → ℕ → ℕ → ℕ → Type 0
 IsWithin q count i late = (name : List ℕ) × (q.name_of i ≡ Some name) × (q.upto i ≤ count + late)
 
-gave-all : (names rest : List (List ℕ)) (old new : Pairs) → names_given new ≡ names_given old ++ names → AddsFirst (length names) (names_given old) (names_given new) (names ++ rest)
-gave-all names rest old new are = adds-more (length names) (names_given old) (names_given new) names rest (adds-all (names_given old) (names_given new) names are)
-
 module _ {F : Type 0} (f : FilesGhosts F) where
-  -- A step that reads no file.
-  pub unread : {X : Type 0} (q : Reading) (r : Result X Outcome) (s : F) → OnOk r (q.names ≡ []) → ((i : ℕ) → r ≡ Err (ReadFailed i) → ⊥)
-      → ((i : ℕ) → r ≡ Err (TooLong i) → (name : List ℕ) × (q.name_of i ≡ Some name) × (q.upto i ≡ 0) × (q.least i ≡ 0))
-      → ((i late : ℕ) → EndsAt i late r → IsWithin q 0 i late) → Reads f q r s s
-  unread q r s none unfailed short at = record {
-    held = refl;
-    asked = (0, adds-none (f.asked s) q.names);
-    all = OnOk-then r _ _ (λ e. rw e (sym (append-nil (f.asked s)))) none;
-    gave = OnOk-then r _ _ (λ e. rw e (sym (append-nil (names_given (f.gave s))))) none;
-    reached = λ i late e. let a = at i late e in (a.0, a.1, (0, omega (arith, a.2), adds-none (names_given (f.gave s)) q.names));
-    failed = λ i e. absurd (unfailed i e);
-    sound = λ e. refl;
-    later = omega arith;
-    more = omega arith;
-    long = λ i e.
-        let a = short i e in
-        (a.0, a.1, adds-as-many 0 (q.upto i) (f.asked s) (f.asked s) q.names a.2 (adds-none (f.asked s) q.names), rw a.3 (at-least-any (f.held s) (f.taken s) (f.taken s) (omega arith)));
-    most = omega arith;
-  }
+  -- A step that reads nothing more after the names `front`, whose reads returned their bytes.
+  unread : {X : Type 0} (q : Reading) (front rest : List (List ℕ)) (r : Result X Outcome) (s t : F) → q.names ≡ front ++ rest → OnOk r (q.names ≡ front) → f.held t ≡ f.held s → f.asked t ≡ f.asked s ++ front
+      → names_given (f.gave t) ≡ names_given (f.gave s) ++ front → f.faults t ≡ f.faults s → f.taken s ≤ f.taken t → f.taken t ≤ f.taken s + q.most → ((i : ℕ) → r ≡ Err (ReadFailed i) → ⊥)
+      → ((i : ℕ) → r ≡ Err (TooLong i) → (name : List ℕ) × (q.name_of i ≡ Some name) × (q.upto i ≡ length front) × (q.least i ≡ 0)) → ((i late : ℕ) → EndsAt i late r → IsWithin q (length front) i late) → Reads f q r s t
+  unread q front rest r s t names whole held asked gave faults more most unfailed short at =
+      let first : (old new : List (List ℕ)) → new ≡ old ++ front → AddsFirst (length front) old new q.names = λ old new are. rw names (adds-more (length front) old new front rest (adds-all old new front are)) in
+      record {
+        held = held;
+        asked = (length front, first _ _ asked);
+        all = on_ok_weaker r (λ e. rw e asked) whole;
+        gave = on_ok_weaker r (λ e. rw e gave) whole;
+        reached = λ i late e. let a = at i late e in (a.0, a.1, (length front, omega (arith, a.2), first _ _ gave));
+        failed = λ i e. absurd (unfailed i e);
+        sound = λ e. faults;
+        later = omega (arith, faults);
+        more = more;
+        long = λ i e. let a = short i e in (a.0, a.1, rw a.2 (first _ _ asked), rw a.3 (at-least-any (f.held s) (f.taken s) (f.taken t) more));
+        most = most;
+      }
+
+  -- A step that reads nothing, after one that succeeded.
+  pub then-unread : {X Y : Type 0} (p q : Reading) (rest : List (List ℕ)) (x : X) (r : Result Y Outcome) (s t : F) → q.names ≡ p.names ++ rest → p.most ≤ q.most → OnOk r (rest ≡ [])
+      → ((i late : ℕ) → EndsAt i late r → (late ≡ 0) × IsWithin q (length p.names) i 0) → Reads f p (Ok x) s t → Reads f q r s t
+  then-unread p q rest x r s t names most none at a =
+      let never : (i : ℕ) → EndsAt i 1 r → ⊥ = λ i e. omega (arith, (at i 1 e).0) in
+      unread q p.names rest r s t names (on_ok_weaker r (λ e. names ∙ rw e (append-nil p.names)) none) a.held a.all a.gave (a.sound refl) a.more (omega (arith, a.most, most)) (λ i e. never i (rw e (refl, refl)))
+      (λ i e. absurd (never i (rw e (refl, refl)))) (λ i late e. let b = (at i late e).1 in (b.0, b.1, omega (arith, b.2)))
+
+  -- A step that reads nothing and ends the run at no file.
+  unread-any : {X : Type 0} (q : Reading) (r : Result X Outcome) (s : F) → OnOk r (q.names ≡ []) → ((i late : ℕ) → EndsAt i late r → ⊥) → Reads f q r s s
+  unread-any q r s none at = unread q [] q.names r s s refl none refl (sym (append-nil _)) (sym (append-nil _)) refl (omega arith) (omega arith)
+      (λ i e. at i 1 (rw e (refl, refl))) (λ i e. absurd (at i 1 (rw e (refl, refl)))) (λ i late e. absurd (at i late e))
+
+  pub unread-ok : {X : Type 0} (q : Reading) (x : X) (s : F) → q.names ≡ [] → Reads f q (Ok x) s s
+  unread-ok q x s none = unread-any q (Ok x) s none (λ i late e. e)
+
+  pub unread-no-memory : {X : Type 0} (q : Reading) (s : F) → Reads {X = X} f q (Err NoMemory) s s
+  unread-no-memory q s = unread-any q (Err NoMemory) s tt (λ i late e. e)
+
+  pub unread-usage : {X : Type 0} (q : Reading) (kind : UsageKind) (s : F) → Reads {X = X} f q (Err (Usage kind)) s s
+  unread-usage q kind s = unread-any q (Err (Usage kind)) s tt (λ i late e. e)
 
   -- A step that ends the run.
   pub stops : {X Y : Type 0} (p q : Reading) (rest : List (List ℕ)) (e : Outcome) (s t : F) → q.names ≡ p.names ++ rest → IsPart p q 0 0 0
       → Reads {X = X} f p (Err e) s t → Reads {X = Y} f q (Err e) s t
   stops p q rest e s t names part a = record {
     held = a.held;
-    asked = (a.asked.0, rw names (adds-more a.asked.0 (f.asked s) (f.asked t) p.names rest a.asked.1));
+    asked = (a.asked.0, rw names (adds-more _ _ _ p.names rest a.asked.1));
     all = tt;
     gave = tt;
-    reached = λ i late e'. let g = a.reached i late e' in (g.0, (part.each i g.0 g.1).0, gave-front p q rest 0 0 names part i late g.0 g.1 _ _ g.2);
-    failed = λ i is. let g = a.failed i (ap Err (err-same _ _ is)) in (g.0, (part.each i g.0 g.1).0, part-front p q rest 0 0 names part i g.0 g.1 _ _ g.2, g.3, g.4);
+    reached = λ i late e'.
+        let g = a.reached i late e' in
+        let named = part.each i g.0 g.1 in
+        (g.0, named.0, (g.2.0, omega (arith, g.2.1, named.1), rw names (adds-more _ _ _ p.names rest g.2.2)));
+    failed = λ i is.
+        let g = a.failed i (ap Err (err-same _ _ is)) in
+        let named = part.each i g.0 g.1 in
+        (g.0, named.0, adds-within _ _ _ [] p.names rest q.names _ _ names (sym (append-nil _)) named.1 g.2, g.3, g.4);
     sound = a.sound;
     later = a.later;
     more = a.more;
     long = λ i is.
         let g = a.long i (ap Err (err-same _ _ is)) in
-        (g.0, (part.each i g.0 g.1).0, part-front p q rest 0 0 names part i g.0 g.1 _ _ g.2, at-least-less (f.held s) (q.least i) (p.least i) (f.taken s) (f.taken t) (omega (arith, (part.each i g.0 g.1).2)) g.3);
+        let named = part.each i g.0 g.1 in
+        (g.0, named.0, adds-within _ _ _ [] p.names rest q.names _ _ names (sym (append-nil _)) named.1 g.2, at-least-behind (f.held s) (q.least i) 0 (p.least i) (f.taken s) (f.taken s) (f.taken t) named.2 (at-least-any _ _ _ (omega arith)) g.3);
     most = omega (arith, a.most, part.most);
   }
 
   -- A step after one that succeeded and read at least `taken` and at most `spent` bytes.
-  continues : {X Y : Type 0} (p1 p2 q : Reading) (x : X) (r : Result Y Outcome) (taken spent : ℕ) (s t u : F) → q.names ≡ p1.names ++ p2.names → IsPart p2 q (length p1.names) taken spent
+  pub follows : {X Y : Type 0} (p1 p2 q : Reading) (x : X) (r : Result Y Outcome) (taken spent : ℕ) (s t u : F) → q.names ≡ p1.names ++ p2.names → IsPart p2 q (length p1.names) taken spent
       → Reads f p1 (Ok x) s t → IsTakenAtLeast (f.held s) taken (f.taken s) (f.taken t) → f.taken t ≤ f.taken s + spent → Reads f p2 r t u → Reads f q r s u
-  continues p1 p2 q x r taken spent s t u names part a had within b = record {
+  follows p1 p2 q x r taken spent s t u names part a had within b = record {
     held = b.held ∙ a.held;
-    asked = (length p1.names + b.asked.0, rw names (adds-behind (f.asked s) (f.asked t) p1.names p2.names a.all b.asked.0 (f.asked u) b.asked.1));
-    all = rw names (OnOk-then r _ _ (adds-whole (f.asked s) (f.asked t) p1.names p2.names a.all (f.asked u)) b.all);
-    gave = rw names (OnOk-then r _ _ (adds-whole (names_given (f.gave s)) (names_given (f.gave t)) p1.names p2.names a.gave (names_given (f.gave u))) b.gave);
-    reached = λ i late e. let g = b.reached i late e in (g.0, (part.each i g.0 g.1).0, gave-behind p1.names p2 q taken spent names part i late g.0 g.1 _ _ _ a.gave g.2);
+    asked = (length p1.names + b.asked.0, rw names (adds-behind _ _ p1.names p2.names a.all b.asked.0 _ b.asked.1));
+    all = rw names (on_ok_weaker r (adds-whole _ _ p1.names p2.names a.all _) b.all);
+    gave = rw names (on_ok_weaker r (adds-whole _ _ p1.names p2.names a.gave _) b.gave);
+    reached = λ i late e.
+        let g = b.reached i late e in
+        let named = part.each i g.0 g.1 in
+        (g.0, named.0, (length p1.names + g.2.0, omega (arith, g.2.1, named.1), rw names (adds-behind _ _ p1.names p2.names a.gave g.2.0 _ g.2.2)));
     failed = λ i e.
         let g = b.failed i e in
-        (g.0, (part.each i g.0 g.1).0, part-behind p1.names p2 q taken spent names part i g.0 g.1 _ _ _ a.all g.2, rose-later 1 _ _ _ a.later g.3, g.4);
+        let named = part.each i g.0 g.1 in
+        (g.0, named.0, rw (names, named.1) (adds-behind _ _ p1.names p2.names a.all (p2.upto i) _ g.2), omega (arith, a.later, g.3), g.4);
     sound = λ e. b.sound e ∙ a.sound refl;
     later = omega (arith, a.later, b.later);
     more = omega (arith, a.more, b.more);
     long = λ i e.
         let g = b.long i e in
-        let more = rw a.held at g.3 in (
-          g.0,
-          (part.each i g.0 g.1).0,
-          part-behind p1.names p2 q taken spent names part i g.0 g.1 _ _ _ a.all g.2,
-          at-least-behind (f.held s) (q.least i) taken (p2.least i) (f.taken s) (f.taken t) (f.taken u) ((part.each i g.0 g.1).2) had more,
-        );
+        let named = part.each i g.0 g.1 in
+        (g.0, named.0, rw (names, named.1) (adds-behind _ _ p1.names p2.names a.all (p2.upto i) _ g.2), at-least-behind (f.held s) (q.least i) taken (p2.least i) (f.taken s) (f.taken t) (f.taken u) named.2 had (rw a.held at g.3));
     most = omega (arith, within, b.most, part.most);
   }
 
-  -- A step after one that succeeded and read this many bytes.
-  pub follows : {X Y : Type 0} (p1 p2 q : Reading) (x : X) (r : Result Y Outcome) (taken : ℕ) (s t u : F) → q.names ≡ p1.names ++ p2.names → IsPart p2 q (length p1.names) taken taken
-      → Reads f p1 (Ok x) s t → IsTaken (f.held s) taken (f.taken s) (f.taken t) → Reads f p2 r t u → Reads f q r s u
-  follows p1 p2 q x r taken s t u names part a had b = continues p1 p2 q x r taken taken s t u names part a had.least had.most b
-
-  -- The same if it isn't known how many bytes the first step read.
-  pub goes-on : {X Y : Type 0} (p1 p2 q : Reading) (x : X) (r : Result Y Outcome) (s t u : F) → q.names ≡ p1.names ++ p2.names → IsPart p2 q (length p1.names) 0 p1.most
-      → Reads f p1 (Ok x) s t → Reads f p2 r t u → Reads f q r s u
-  goes-on p1 p2 q x r s t u names part a b = continues p1 p2 q x r 0 p1.most s t u names part a (at-least-any (f.held s) (f.taken s) (f.taken t) a.more) a.most b
-
-  -- A step that reads nothing, after one that succeeded.
-  pub then-unread : {X Y : Type 0} (p q : Reading) (rest : List (List ℕ)) (x : X) (r : Result Y Outcome) (s t : F) → q.names ≡ p.names ++ rest → p.most ≤ q.most → OnOk r (rest ≡ [])
-      → ((i late : ℕ) → EndsAt i late r → (late ≡ 0) × IsWithin q (length p.names) i 0) → Reads f p (Ok x) s t → Reads f q r s t
-  then-unread p q rest x r s t names most none at a = record {
-    held = a.held;
-    asked = (a.asked.0, rw names (adds-more a.asked.0 (f.asked s) (f.asked t) p.names rest a.asked.1));
-    all = rw names (OnOk-then r _ _ (λ e. rw e (a.all ∙ ap (λ ns. f.asked s ++ ns) (sym (append-nil p.names)))) none);
-    gave = rw names (OnOk-then r _ _ (λ e. rw e (a.gave ∙ ap (λ ns. names_given (f.gave s) ++ ns) (sym (append-nil p.names)))) none);
-    reached = λ i late e.
-        let b = at i late e in
-        (b.1.0, b.1.1, (length p.names, omega (arith, b.1.2), rw names (gave-all p.names rest (f.gave s) (f.gave t) a.gave)));
-    failed = λ i e. absurd (omega (arith, (at i 1 (rw e (refl, refl))).0));
-    sound = λ e. a.sound refl;
-    later = a.later;
-    more = a.more;
-    long = λ i e. absurd (omega (arith, (at i 1 (rw e (refl, refl))).0));
-    most = omega (arith, a.most, most);
-  }
-
-  -- The same with another value.
-  pub same-ok : {X Y : Type 0} (q : Reading) (x : X) (y : Y) (s t : F) → Reads f q (Ok x) s t → Reads f q (Ok y) s t
-  same-ok q x y s t a = then-unread q q [] x (Ok y) s t (sym (append-nil q.names)) (omega arith) refl (λ i late e. absurd e) a
-
-  -- The usual cases: nothing was read, or the step ran out of memory.
-  pub unread-ok : {X : Type 0} (q : Reading) (x : X) (s : F) → q.names ≡ [] → Reads f q (Ok x) s s
-  unread-ok q x s none = unread q (Ok x) s none (λ i e. cc) (λ i e. absurd cc) (λ i late e. absurd e)
-
-  pub unread-no-memory : {X : Type 0} (q : Reading) (s : F) → Reads {X = X} f q (Err NoMemory) s s
-  unread-no-memory q s = unread q (Err NoMemory) s tt (λ i e. cc) (λ i e. absurd cc) (λ i late e. absurd e)
-
-  pub unread-usage : {X : Type 0} (q : Reading) (kind : UsageKind) (s : F) → Reads {X = X} f q (Err (Usage kind)) s s
-  unread-usage q kind s = unread q (Err (Usage kind)) s tt (λ i e. cc) (λ i e. absurd cc) (λ i late e. absurd e)
-
-  pub then-ok : {X Y : Type 0} (p q : Reading) (rest : List (List ℕ)) (x : X) (y : Y) (s t : F) → q.names ≡ p.names ++ rest → p.most ≤ q.most → rest ≡ [] → Reads f p (Ok x) s t → Reads f q (Ok y) s t
-  then-ok p q rest x y s t names most none a = then-unread p q rest x (Ok y) s t names most none (λ i late e. absurd e) a
-
-  -- One read.
-  pub one-read : {X : Type 0} (number : ℕ) (name : List ℕ) (limit : ℕ) (r : Result X Outcome) (s t : F) → f.asked t ≡ f.asked s ++ name ∷ [] → f.held t ≡ f.held s → f.faults s ≤ f.faults t → f.taken s ≤ f.taken t
-      → f.taken t ≤ f.taken s + (limit + 1)
-      → ((i : ℕ) → r ≡ Err (ReadFailed i) → (i ≡ number) × Rose (f.faults s) (f.faults t) × IfSome (f.last_failed t) (λ n. n ≡ name))
-      → (ends_without is_failed_read r ≡ true → f.faults t ≡ f.faults s)
-      → ((i : ℕ) → r ≡ Err (TooLong i) → (i ≡ number) × IsTakenAtLeast (f.held s) (limit + 1) (f.taken s) (f.taken t))
-      → OnOk r (names_given (f.gave t) ≡ names_given (f.gave s) ++ name ∷ []) → ((i late : ℕ) → EndsAt i late r → (i ≡ number) × (late ≡ 1) × (f.gave t ≡ f.gave s))
-      → Reads f (file_reading number name limit) r s t
-  one-read number name limit r s t asked held later more most failed sound long gave at = record {
-    held = held;
-    asked = (1, one);
-    all = OnOk-any r _ asked;
-    gave = gave;
-    reached = λ i late e.
-        let a = at i late e in
-        (name, rw a.0 here, (0, omega (arith, a.0, a.1), rw a.2 (adds-none (names_given (f.gave s)) (name ∷ []))));
-    failed = λ i e. let g = failed i e in (name, rw g.0 here, rw g.0 upto, g.1, g.2);
-    sound = sound;
-    later = later;
-    more = more;
-    long = λ i e. let g = long i e in (name, rw g.0 here, rw g.0 upto, g.1);
-    most = most;
-  }
-    where
-      here : numbered number (name ∷ []) number ≡ Some name
-      here =
-          let p : number ≡ number + 0 = omega arith in
-          ap (numbered number (name ∷ [])) p ∙ numbered-first number 0 (name ∷ [])
-
-      one : AddsFirst 1 (f.asked s) (f.asked t) (name ∷ [])
-      one = record { within = omega arith; are = asked }
-
-      upto : AddsFirst (number + 1 - number) (f.asked s) (f.asked t) (name ∷ [])
-      upto = adds-as-many 1 (number + 1 - number) (f.asked s) (f.asked t) (name ∷ []) (omega arith) one
+  -- A read that returned no bytes.
+  pub read-fails : {number limit : ℕ} {name : List ℕ} {end : Outcome} {s t : F} (bytes : List ℕ) → IsHeld (f.held s) name bytes → Finds number limit bytes (Err end) → f.gave t ≡ f.gave s → f.asked t ≡ f.asked s ++ name ∷ []
+      → f.held t ≡ f.held s → f.faults s ≤ f.faults t → f.taken s ≤ f.taken t → f.taken t ≤ f.taken s + (limit + 1) → ((i : ℕ) → end ≡ ReadFailed i → Rose (f.faults s) (f.faults t) × IfSome (f.last_failed t) (λ n. n ≡ name))
+      → (not (is_failed_read end) ≡ true → f.faults t ≡ f.faults s) → ((i : ℕ) → end ≡ TooLong i → IsTakenAtLeast (f.held s) (limit + 1) (f.taken s) (f.taken t)) → ((i late : ℕ) → IsEndAt i late end → (i ≡ number) × (late ≡ 1))
+      → ReadsFile f number name limit (Err end) s t
+  read-fails {number = number} {name = name} {end = end} {s = s} {t = t} bytes is finds ungiven asked held later more most failed sound long at =
+      let one : AddsFirst 1 (f.asked s) (f.asked t) (name ∷ []) = record { within = omega arith; are = asked } in
+      let named : (i late : ℕ) → IsEndAt i late end → numbered number (name ∷ []) i ≡ Some name = λ i late e. grind (arith, nat_tests, (at i late e).0) in
+      let upto : (i late : ℕ) → IsEndAt i late end → AddsFirst (i + 1 - number) (f.asked s) (f.asked t) (name ∷ []) = λ i late e. adds-as-many _ _ _ _ _ (omega (arith, (at i late e).0)) one in
+      record {
+        bytes = bytes;
+        is = is;
+        finds = finds;
+        gives = gives-failed end _ _ _ ungiven;
+        reads = record {
+          held = held;
+          asked = (1, one);
+          all = tt;
+          gave = tt;
+          reached = λ i late e. let a = at i late e in (name, named i late e, (0, omega (arith, a.0, a.1), rw ungiven (adds-none (names_given (f.gave s)) (name ∷ []))));
+          failed = λ i e. let is = err-same _ _ e in let at : IsEndAt i 1 end = rw is (refl, refl) in let g = failed i is in (name, named i 1 at, upto i 1 at, g.0, g.1);
+          sound = sound;
+          later = later;
+          more = more;
+          long = λ i e. let is = err-same _ _ e in let at : IsEndAt i 1 end = rw is (refl, refl) in (name, named i 1 at, upto i 1 at, long i is);
+          most = most;
+        };
+        taken = tt;
+      }
 
   -- A run that ended before it was done.
   pub run-ended : {X : Type 0} (q : Reading) (e : Outcome) (s t : F) → ended e ≡ Err e → Reads {X = X} f q (Err e) s t → Reads f q (ended e) s t
-  run-ended q e s t is a = rw is (stops q q [] e s t (sym (append-nil q.names)) (same-all q) a)
+  run-ended q e s t is a = rw is (stops q q [] e s t (sym (append-nil q.names)) (same-all q.names q) a)
 
--- A run that wrote its report, or a part of it.
-pub written-reads : {F X : Type 0} (f : FilesGhosts F) (q : Reading) (x : X) (outcome : Outcome) (s t : F) → (outcome ≡ Done) ⊎ (outcome ≡ WriteFailed) → Reads f q (Ok x) s t → Reads f q (ended outcome) s t
-written-reads f q x outcome s t (inl is) a = rw is (same-ok f q x tt s t a)
-written-reads f q x outcome s t (inr is) a = rw is (then-unread f {Y = ⊤} q q [] x (Err WriteFailed) s t (sym (append-nil q.names)) (omega arith) tt (λ i late e. absurd e) a)
+  -- A run that wrote its report, or a part of it.
+  pub written-reads : {X : Type 0} (q : Reading) (x : X) (outcome : Outcome) (s t : F) → (outcome ≡ Done) ⊎ (outcome ≡ WriteFailed) → Reads f q (Ok x) s t → Reads f q (ended outcome) s t
+  written-reads q x outcome s t (inl is) a = rw is (then-unread q q [] x (Ok tt) s t (sym (append-nil q.names)) (omega arith) refl (λ i late e. absurd e) a)
+  written-reads q x outcome s t (inr is) a = rw is (then-unread {Y = ⊤} q q [] x (Err WriteFailed) s t (sym (append-nil q.names)) (omega arith) tt (λ i late e. absurd e) a)
 
 -- Parts of a batch, and of a run with options.
-
--- The only file of a reading.
-single-at : (first i : ℕ) (name n : List ℕ) → numbered first (name ∷ []) i ≡ Some n → (i ≡ first) × (name ≡ n)
-single-at first i name n at = by-index (numbered-at first i (name ∷ []) n at)
-  where
-    by-index : (j : ℕ) × (i ≡ first + j) × (slice_get (name ∷ []) j ≡ Some n) → (i ≡ first) × (name ≡ n)
-    by-index (zero, number, same) = (omega (arith, number), same_Some name n same)
-    by-index (suc j, number, same) = absurd (none-some n same)
-
-none-before : (synth : Option ℕ) → read_upto synth 0 ≡ 0
-none-before None = refl
-none-before (Some n) = refl
 
 -- The only file of the configuration.
 pub config-part : (limits : Limits) (o : Options) (name : List ℕ) (limit : ℕ) → o.config ≡ Some name → limit ≡ config_limit limits → IsPart (file_reading 0 name limit) (config_reading limits o) 0 0 0
 config-part limits o name limit is limited = record {
   each = λ i n at.
-      let one = single-at 0 i name n at in
-      let upto : read_upto o.synth 0 ≡ 0 = none-before o.synth in
-      rw one.0 (is ∙ ap Some one.1, omega (arith, ap (λ c. length (config_names c)) is, upto), omega (arith, limited));
+      let a = numbered-at 0 i (name ∷ []) n at in
+      let only : a.0 ≡ 0 = omega (arith, slice_get_within (name ∷ []) a.0 n a.2) in
+      rw (a.1, only) (is ∙ rw only at a.2, omega (arith, ap (λ c. length (config_names c)) is, none-before o.synth), omega (arith, limited));
   most = omega (arith, ap (config_most limits) is, limited);
 }
+  where
+    none-before : (synth : Option ℕ) → read_upto synth 0 ≡ 0
+    none-before None = refl
+    none-before (Some n) = refl
 
 -- The only file of a batch.
 pub one-part : (limits : Limits) (count lengths limit : ℕ) (name : List ℕ) → lengths ≤ total_limit limits → limit ≡ next_limit limits lengths
@@ -285,10 +211,7 @@ one-part limits count lengths limit name within is = record { each = λ i n at. 
 -- The files of a batch in a longer one.
 pub front-part : (limits : Limits) (first before : ℕ) (names rest : List (List ℕ))
     → IsPart (batch_reading limits (record { first = first; before = before; names = names })) (batch_reading limits (record { first = first; before = before; names = names ++ rest })) 0 0 0
-front-part limits first before names rest = record { each = λ i n at. (named i n (numbered-at first i names n at), omega arith, omega arith); most = omega arith }
-  where
-    named : (i : ℕ) (n : List ℕ) → (k : ℕ) × (i ≡ first + k) × (slice_get names k ≡ Some n) → numbered first (names ++ rest) i ≡ Some n
-    named i n a = rw a.1 (numbered-first first a.0 (names ++ rest) ∙ get-front names rest a.0 n a.2)
+front-part limits first before names rest = record { each = λ i n at. (grind (arith, nat_tests, get-front), omega arith, omega arith); most = omega arith }
 
 -- The files after it, if this many bytes were read before them.
 pub more-part : (limits : Limits) (count before lengths taken : ℕ) (names more : List (List ℕ)) → lengths ≡ before + taken → lengths ≤ total_limit limits
@@ -296,68 +219,48 @@ pub more-part : (limits : Limits) (count before lengths taken : ℕ) (names more
 more-part limits count before lengths taken names more are within = record {
   each = λ i n at.
       let a = numbered-at (count + length names + 1) i more n at in
-      let p : i ≡ count + 1 + (length names + a.0) = omega (arith, a.1) in
-      (rw p (numbered-first (count + 1) (length names + a.0) (names ++ more) ∙ (get-behind names more a.0 ∙ a.2)), omega (arith, a.1), some-limit (file_limit limits) (total_limit limits) before taken lengths (next_limit limits lengths) are within refl);
-  most = some-most (total_limit limits) before taken lengths are within;
+      (grind (arith, nat_tests, a.1, get-behind names more a.0), omega (arith, a.1), omega (arith, are, within));
+  most = omega (arith, are, within);
 }
 
-least-file : (limits : Limits) (i : ℕ) → 0 < i → least_taken limits None i ≡ next_limit limits 0 + 1
-least-file limits zero lt = absurd (omega arith)
-least-file limits (suc i) lt = refl
+-- Files of a run with these options, if none of them is synthetic. They come after `count` files, of which `before` were read.
+run-part : (limits : Limits) (o : Options) (count before lengths taken : ℕ) (names all : List (List ℕ))
+    → ((k i : ℕ) (n : List ℕ) → slice_get names k ≡ Some n → i ≡ count + k + 1 → (name_at o i ≡ Some n) × (read_upto o.synth i ≡ before + (k + 1)) × IsUnmade o.synth (count + k)) → lengths ≡ made_len o.synth + taken → lengths ≤ total_limit limits
+    → IsPart (batch_reading limits (batch_of count lengths names)) (reading_for limits o all) before taken taken
+run-part limits o count before lengths taken names all named are within = record {
+  each = λ i n at.
+      let a = numbered-at (count + 1) i names n at in
+      let place : i ≡ count + a.0 + 1 = omega (arith, a.1) in
+      let b = named a.0 i n a.2 place in
+      (b.0, omega (arith, b.1, place), rw (place, least o.synth (count + a.0) b.2) (omega (arith, are, within)));
+  most = omega (arith, are, within);
+}
+  where
+    least : (synth : Option ℕ) (k : ℕ) → IsUnmade synth k → least_taken limits synth (k + 1) ≡ next_limit limits (made_len synth) + 1
+    least None k unmade = rw add-one refl
+    least (Some n) zero unmade = absurd (omega (arith, unmade))
+    least (Some n) (suc k) unmade = rw add-one refl
 
 -- Files that the options name, if no file is synthetic.
-pub files-part : (limits : Limits) (o : Options) (names all : List (List ℕ)) → o.synth ≡ None → ((k : ℕ) (n : List ℕ) → slice_get names k ≡ Some n → name_at o (k + 1) ≡ Some n)
-    → IsPart (batch_reading limits (batch_of 0 0 names)) (reading_for limits o all) 0 0 0
-files-part limits o names all none named = record {
-  each = λ i n at.
-      let a = numbered-at 1 i names n at in
-      let p : i ≡ a.0 + 1 = omega (arith, a.1) in
-      let least : least_taken limits o.synth i ≡ next_limit limits 0 + 1 = ap (λ s. least_taken limits s i) none ∙ least-file limits i (omega (arith, a.1)) in
-      (rw p (named a.0 n a.2), omega (arith, ap (λ s. read_upto s i) none), omega (arith, least));
-  most = omega (arith, ap made_len none);
-}
+pub files-part : (limits : Limits) (o : Options) (all : List (List ℕ)) → o.synth ≡ None → IsPart (batch_reading limits (batch_of 0 0 o.files)) (reading_for limits o all) 0 0 0
+files-part limits o all none = run-part limits o 0 0 0 0 o.files all
+    (λ k i n at place. let p : i ≡ suc k = omega (arith, place) in (rw (p, none) (get-front o.files (other_names o) k n at), omega (arith, ap (λ s. read_upto s i) none, p), rw none tt)) (omega (arith, ap made_len none)) (omega arith)
 
 -- A synthetic file isn't read. It is file 1.
 pub made-unread : {F X : Type 0} (f : FilesGhosts F) (limits : Limits) (o : Options) (n : ℕ) → o.synth ≡ Some n → (r : Result X Outcome) (s : F)
     → ((i : ℕ) → r ≡ Err (ReadFailed i) → ⊥) → ((i late : ℕ) → EndsAt i late r → i ≡ 1) → Reads f (reading_for limits o (unmade_names o.synth o.files)) r s s
-made-unread f limits o n is r s unread_all at =
-    unread f (reading_for limits o (unmade_names o.synth o.files)) r s (OnOk-any r _ (ap (λ t. unmade_names t o.files) is)) unread_all
-    (λ i e.
-    let number = at i 1 (rw e (refl, refl)) in
-    (codes "synth", rw number named, rw number upto, rw number (ap (λ t. least_taken limits t 1) is)))
-    (λ i late e.
-    let number = at i late e in
-    (codes "synth", rw number named, omega (arith, upto, ap (read_upto o.synth) number)))
-  where
-    named : name_at o 1 ≡ Some (codes "synth")
-    named = ap (λ t. slice_get (names_of t o.files ++ other_names o) 0) is
-
-    upto : read_upto o.synth 1 ≡ 0
-    upto = ap (λ t. read_upto t 1) is
+made-unread f limits o n is r s unfailed at =
+    let q = reading_for limits o (unmade_names o.synth o.files) in
+    let first : (i late : ℕ) → EndsAt i late r → (name : List ℕ) × (q.name_of i ≡ Some name) × (q.upto i ≡ 0) × (q.least i ≡ 0) = λ i late e. rw (at i late e, is) (codes "synth", refl, refl, refl) in
+    unread f q [] q.names r s s refl (OnOk-any r _ (ap (λ t. unmade_names t o.files) is)) refl (sym (append-nil _)) (sym (append-nil _)) refl (omega arith) (omega arith) unfailed
+    (λ i e. first i 1 (rw e (refl, refl))) (λ i late e. let a = first i late e in (a.0, a.1, omega (arith, a.2)))
 
 -- The debug file or base files, after files with this many bytes.
-base-least : (limits : Limits) (synth : Option ℕ) (files : List (List ℕ)) (lengths i : ℕ) → length (names_of synth files) < i → made_len synth ≤ lengths → lengths ≤ total_limit limits
-    → least_taken limits synth i ≤ (lengths - made_len synth) + (next_limit limits lengths + 1)
-base-least limits None files lengths i lt made within = rw (least-file limits i (omega (arith, lt))) (left-over (file_limit limits) (total_limit limits) 0 lengths made within)
-base-least limits (Some n) files lengths zero lt made within = absurd (omega arith)
-base-least limits (Some n) files lengths (suc zero) lt made within = absurd (omega arith)
-base-least limits (Some n) files lengths (suc (suc i)) lt made within = left-over (file_limit limits) (total_limit limits) (made_len (Some n)) lengths made within
-
-base-upto : (synth : Option ℕ) (files : List (List ℕ)) (i : ℕ) → length (names_of synth files) < i → read_upto synth i ≡ length (unmade_names synth files) + (i + 1 - (length (names_of synth files) + 1))
-base-upto None files i lt = omega (arith, lt)
-base-upto (Some n) files i lt = omega (arith, lt)
-
 pub base-part : (limits : Limits) (o : Options) (lengths : ℕ) (all : List (List ℕ)) → made_len o.synth ≤ lengths → lengths ≤ total_limit limits
     → IsPart (batch_reading limits (batch_of (length (file_names o)) lengths (other_names o))) (reading_for limits o all) (length (unmade_names o.synth o.files)) (lengths - made_len o.synth) (lengths - made_len o.synth)
-base-part limits o lengths all made within = record {
-  each = λ i n at.
-      let a = numbered-at (length (file_names o) + 1) i (other_names o) n at in
-      let p : i ≡ length (file_names o) + a.0 + 1 = omega (arith, a.1) in
-      (rw p (other-name o a.0 n a.2), base-upto o.synth o.files i (omega (arith, a.1)), base-least limits o.synth o.files lengths i (omega (arith, a.1)) made within);
-  most = most-over (total_limit limits) (made_len o.synth) lengths made within;
-}
-
--- The outcome of a run that isn't done.
-pub not-done : (e : Outcome) → (e ≡ Done → ⊥) → ended e ≡ Err e
-not-done Done is = absurd (is refl)
-not-done e is = refl
+base-part limits o lengths all made within = run-part limits o (length (file_names o)) (length (unmade_names o.synth o.files)) lengths (lengths - made_len o.synth) (other_names o) all
+    (λ k i n at place. let b = behind o.synth o.files k in rw place (rw add-one (get-behind (file_names o) (other_names o) k ∙ at), b.0, b.1)) (omega arith) within
+  where
+    behind : (synth : Option ℕ) (files : List (List ℕ)) (k : ℕ) → (read_upto synth (length (names_of synth files) + k + 1) ≡ length (unmade_names synth files) + (k + 1)) × IsUnmade synth (length (names_of synth files) + k)
+    behind None files k = (omega arith, tt)
+    behind (Some n) files k = (omega arith, omega arith)

@@ -79,6 +79,7 @@ fn report_of_kind<L: Ledger, F: Files>(
 
 /// The text of the report that the options ask for. `tally` counts no file yet. It counts a step for each piece of a map that
 /// is read.
+#[tactic(auto, using(crate::proofs::TextLemmas::config_text))]
 pub fn report<L: Ledger, F: Files, P: Patterns>(
     run: &Run,
     files: &mut F,

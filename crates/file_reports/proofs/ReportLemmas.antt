@@ -1,5 +1,5 @@
 -- The reports of files whose sizes are known.
-use Rattle.std.proofs.Common.{◌≡◌, ℕ, List, [], refl, ap, ◌∙◌, subst}
+use Rattle.std.proofs.Common.{◌≡◌, ℕ, Bool, Option, List, [], refl, ap, ◌∙◌, subst}
 use mathlib.Core.Path.{fun_ext}
 use Rattle.size_model.specs.declared.view.FileView.{FileView}
 use Rattle.size_model.specs.Sizes.{file_size, vm_size}
@@ -27,32 +27,26 @@ use Rattle.file_reports.specs.GrowthReport.{AreGrowths, IsGrowthReport, PrintsGr
 use Rattle.file_reports.specs.SizeReport.{AreSizes, IsSizeReport, PrintsSizes, RowsCountPaths, RowsShowFiles, TotalsAreWhole, depth_of, printed, report_tree, row_options}
 
 -- A path's sizes are those of the set of paths that begin with it.
-pub rows_count : RowsCountPaths
-unfolding RowsCountPaths
-rows_count filter depth files rows sizes path = record {
-  file = prefix-sum (λ (r : RollupRow). r.file) (λ r p. refl) path rows ∙ sizes.file (begins_with path);
-  vm = prefix-sum (λ (r : RollupRow). r.vm) (λ r p. refl) path rows ∙ sizes.vm (begins_with path);
+below : {filter : Option (List ℕ → Bool)} {depth : ℕ} {files : List FileView} {rows : List RollupRow} → AreSizes filter depth files rows → AreSizesBelow (vm_size filter files) (file_size filter files) rows
+below {rows = rows} sizes = record {
+  vm_is = λ path. prefix-sum (λ (r : RollupRow). r.vm) (λ r p. refl) path rows ∙ sizes.vm (begins_with path);
+  file_is = λ path. prefix-sum (λ (r : RollupRow). r.file) (λ r p. refl) path rows ∙ sizes.file (begins_with path);
 }
 
-below : (o : Options) (files : List FileView) (rows : List RollupRow) → AreSizes (filter_test o.filter) (depth_of o) files rows → AreSizesBelow (vm_size (filter_test o.filter) files) (file_size (filter_test o.filter) files) rows
+pub rows_count : RowsCountPaths
 unfolding RowsCountPaths
-below o files rows sizes =
-    let counted = rows_count (filter_test o.filter) (depth_of o) files rows sizes in
-    record { vm_is = λ path. (counted path).vm; file_is = λ path. (counted path).file }
+rows_count filter depth files rows sizes path = record { file = (below sizes).file_is path; vm = (below sizes).vm_is path }
 
 pub rows_show : RowsShowFiles
 unfolding RowsShowFiles
-rows_show o files rows sizes = shows-paths (row_options o) (depth_of o) rows (vm_size (filter_test o.filter) files) (file_size (filter_test o.filter) files) (below o files rows sizes)
+rows_show o files rows sizes = shows-paths (row_options o) (depth_of o) rows _ _ (below sizes)
 
 pub totals_whole : TotalsAreWhole
-unfolding RowsCountPaths TotalsAreWhole
+unfolding TotalsAreWhole
 totals_whole o files rows none sizes =
-    let counted = rows_count (filter_test o.filter) (depth_of o) files rows sizes [] in
+    let own = below (rw none at sizes) in
     let whole = CountsAll-files files in
-    record {
-      file = counted.file ∙ ap (λ filter. file_size (filter_test filter) files []) none ∙ whole.file;
-      vm = counted.vm ∙ ap (λ filter. vm_size (filter_test filter) files []) none ∙ whole.vm;
-    }
+    record { file = own.file_is [] ∙ whole.file; vm = own.vm_is [] ∙ whole.vm }
 
 -- The report of the sizes of files.
 pub size-report : (o : Options) (files : List FileView) (rows : List RollupRow) (text : List ℕ) → AreSizes (filter_test o.filter) (depth_of o) files rows → text ≡ printed o (report_tree o rows)
@@ -62,7 +56,7 @@ size-report o files rows text sizes is = record {
   rows = rows;
   counted = sizes;
   tree = report_tree o rows;
-  order = rows-in-order (row_options o) (record { depth = depth_of o; rows = rows; lengths = 0; mapped = 0 }) (vm_size (filter_test o.filter) files) (file_size (filter_test o.filter) files) (below o files rows sizes);
+  order = rows-in-order (row_options o) (record { depth = depth_of o; rows = rows; lengths = 0; mapped = 0 }) _ _ (below sizes);
   levels = is-tree (row_options o) (depth_of o) rows sizes.deep;
   each = rows_show o files rows sizes;
   once = counts_for-unique (filter_test o.filter);
@@ -84,10 +78,8 @@ prints_sizes o t text is = record {
 pub growth-report : (o : Options) (files bases : List FileView) (paths : List GrowthPath) (text : List ℕ) → AreGrowths (filter_test o.filter) (depth_of o) files bases paths
     → text ≡ growth_printed o (growth_tree (row_options o) (depth_of o) paths) → IsGrowthReport o files bases text
 growth-report o files bases paths text are is =
-    let own = growth_sizes (filter_test o.filter) files bases in
-    let same : sizes_of paths ≡ own = fun_ext (λ path.
-    let of = begins_with path in
-    same_sizes (sizes_of paths path) (own path) (are.new_vm of) (are.new_file of) (are.base_vm of) (are.base_file of)) in
+    let same : sizes_of paths ≡ growth_sizes (filter_test o.filter) files bases
+    = fun_ext (λ path. same_sizes _ _ (are.new_vm (begins_with path)) (are.new_file (begins_with path)) (are.base_vm (begins_with path)) (are.base_file (begins_with path))) in
     record {
       paths = paths;
       counted = are;

@@ -1,31 +1,40 @@
 -- Patterns that the steps of planning build, one step after the other.
-use Rattle.std.proofs.Common.{◌≡◌, ℕ, ◌+◌, ◌-◌, List, [], ◌∷◌, ◌++◌, length, take, Option, Some, option_map, slice_get, Ok, Err, refl, sym, ap, ◌∙◌, append_assoc, arith}
+use Rattle.std.proofs.Common.{◌≡◌, ℕ, ◌+◌, ◌-◌, ◌<◌, ◌≤◌, List, [], ◌++◌, length, take, Option, option_map, Ok, Err, refl, sym, ap, ◌∙◌, append_assoc, arith}
 use Rattle.std.specs.Option.{option_to_list}
 use Rattle.std.proofs.lemmas.List.{append-nil, length-map}
 use Rattle.std.proofs.lemmas.Option.{slice_get-map, slice_get_within}
 use Rattle.config_text.specs.declared.config.CustomSource.{CustomSource}
 use Rattle.config_text.specs.declared.config.Rewrite.{Rewrite}
 use Rattle.custom_rewrites.specs.declared.pattern.Patterns.{Ghosts as PatternsGhosts}
-use Rattle.custom_rewrites.specs.Rewriting.{patterns_in}
+use Rattle.custom_rewrites.specs.Rewriting.{StopsAt, patterns_in}
 use Rattle.file_profile.specs.declared.plan.PlanAnswer.{PlanAnswer}
 use Rattle.file_profile.specs.declared.plan.PlanAnswer.TheVariants as plan
-use Rattle.file_profile.specs.Plans.{HasFilterCause, HasNameCause, KeepsLast}
+use Rattle.file_profile.specs.Plans.{HasFilterCause, HasNameCause, HasRewriteCause, KeepsLast}
 use Rattle.run_plan.specs.Firsts.{AddsFirst}
-use Rattle.run_plan.specs.PatternLists.{PatternList, filter_patterns, no_patterns, request_patterns, rewrite_patterns}
-use Rattle.run_plan.specs.Planning.{BuildsBefore, Plans}
-use Rattle.run_plan.proofs.FirstLemmas.{adds-all, adds-more, adds-whole, adds-within, take-next}
+use Rattle.run_plan.specs.PatternLists.{PatternList, filter_patterns, no_patterns, plan_patterns, request_patterns, rewrite_patterns}
+use Rattle.run_plan.specs.Planning.{BuildsBefore, Compiles, IsLast, Plans}
+use Rattle.run_plan.proofs.FirstLemmas.{adds-none, adds-whole, adds-within, take-next}
 
 -- A pattern of a custom data source is refused for its size.
-pub built-big : (first : ℕ) (rewrites : List Rewrite) (old new : List (List ℕ)) (last : List ℕ) (place : ℕ) (r : Rewrite) → slice_get rewrites place ≡ Some r → last ≡ r.pattern
-    → new ≡ old ++ take (place + 1) (patterns_in rewrites) → BuildsBefore (rewrite_patterns first rewrites) last (plan.PatternTooBig (first + place)) old new
-built-big first rewrites old new last place r at is are =
+pub too-big : {P X : Type 0} {p : PatternsGhosts P} {Made : X → Type 0} {Read : Type 0} {s t : P} (first place : ℕ) (rewrites : List Rewrite) → StopsAt rewrites place (λ pattern. p.last_refused t ≡ pattern) × (p.refused s < p.refused t)
+    → p.built t ≡ p.built s ++ take (place + 1) (patterns_in rewrites) → p.refused s ≤ p.refused t
+    → Compiles p (rewrite_patterns first rewrites) (Err (plan.PatternTooBig (first + place))) Made Read (HasRewriteCause first rewrites) s t
+too-big {p = p} {s = s} {t = t} first place rewrites (stops, more) are rises =
     let pattern : Rewrite → List ℕ = λ r. r.pattern in
     let many : first + place + 1 - first ≡ place + 1 = omega arith in
-    let next = take-next (patterns_in rewrites) place r.pattern (slice_get-map pattern rewrites place ∙ ap (option_map pattern) at) in
-    rw (many, is) (
-      record { within = omega (arith, slice_get_within rewrites place r at, length-map rewrites pattern); are = are },
-      (old ++ take place (patterns_in rewrites), are ∙ (ap (λ ps. old ++ ps) next ∙ sym (append_assoc old (take place (patterns_in rewrites)) (r.pattern ∷ [])))),
-    )
+    let next = take-next (patterns_in rewrites) place stops.0.pattern (slice_get-map pattern rewrites place ∙ ap (option_map pattern) stops.1) in
+    let last : IsLast stops.0.pattern (p.built t) = (p.built s ++ take place (patterns_in rewrites), rw (append_assoc, ← next) are) in
+    record {
+      same = tt;
+      read = tt;
+      cause = (place, refl, stops, more);
+      patterns = record {
+        built = rw (many, stops.2) (record { within = omega (arith, slice_get_within rewrites place stops.0 stops.1, length-map rewrites pattern); are = are }, last);
+        kept = tt;
+        rises = rises;
+        sound = λ q. cc;
+      };
+    }
 
 -- An answer about a pattern gives a part of the patterns the number that all patterns have after `before` of them.
 abbrev pub CountsAfter : ℕ → PatternList → PatternList → PlanAnswer → Type 0
@@ -36,18 +45,17 @@ CountsAfter before part all plan.NoMemory = Unit {0}
 
 pub counts-filter : (filter : Option (List ℕ)) (customs : List CustomSource) (before after : ℕ) (last : List ℕ) (e : PlanAnswer) → HasFilterCause filter before after last e
     → CountsAfter 0 (filter_patterns filter) (request_patterns filter customs) e
-counts-filter filter customs before after last (plan.UnknownSource i) h = h
 counts-filter filter customs before after last (plan.PatternSyntax i) h = omega (arith, h.0, ap (λ f. length (option_to_list f)) h.2)
 counts-filter filter customs before after last (plan.PatternTooBig i) h = omega (arith, h.0, ap (λ f. length (option_to_list f)) h.1)
-counts-filter filter customs before after last plan.NoMemory h = tt
+counts-filter filter customs before after last e h = h
 
-module _ {P : Type 0} (p : PatternsGhosts P) where
-  pub plan-none : {X : Type 0} (x : X) (s : P) → Plans p no_patterns (Ok x) s s
-  plan-none x s = record { built = sym (append-nil (p.built s)); kept = refl; rises = omega arith; sound = λ q. refl }
+module _ {P : Type 0} {p : PatternsGhosts P} where
+  pub plan-none : {X : Type 0} {x : X} {s : P} → Plans p no_patterns (Ok x) s s
+  plan-none {s = s} = record { built = sym (append-nil (p.built s)); kept = refl; rises = omega arith; sound = λ q. refl }
 
   -- Two steps that succeed.
-  pub plan-follows : {X Y Z : Type 0} (a b c : PatternList) (x : X) (y : Y) (z : Z) (s t u : P) → c.patterns ≡ a.patterns ++ b.patterns → Plans p a (Ok x) s t → Plans p b (Ok y) t u → Plans p c (Ok z) s u
-  plan-follows a b c x y z s t u are first second = record {
+  pub plan-follows : {X Y Z : Type 0} {a b c : PatternList} {x : X} {y : Y} {z : Z} {s t u : P} → c.patterns ≡ a.patterns ++ b.patterns → Plans p a (Ok x) s t → Plans p b (Ok y) t u → Plans p c (Ok z) s u
+  plan-follows {a = a} {b = b} {s = s} {t = t} {u = u} are first second = record {
     built = rw are (adds-whole (p.built s) (p.built t) a.patterns b.patterns first.built (p.built u) second.built);
     kept = second.kept ∙ first.kept;
     rises = omega (arith, first.rises, second.rises);
@@ -55,9 +63,9 @@ module _ {P : Type 0} (p : PatternsGhosts P) where
   }
 
   -- A step that ends the planning, after one that succeeded.
-  pub plan-stops : {X Y Z : Type 0} (a b c : PatternList) (x : X) (e : PlanAnswer) (rest : List (List ℕ)) (s t u : P) → c.patterns ≡ a.patterns ++ (b.patterns ++ rest) → CountsAfter (length a.patterns) b c e
+  pub plan-stops : {X Y Z : Type 0} {a b c : PatternList} {x : X} {e : PlanAnswer} {s t u : P} (rest : List (List ℕ)) → c.patterns ≡ a.patterns ++ (b.patterns ++ rest) → CountsAfter (length a.patterns) b c e
       → Plans p a (Ok x) s t → Plans {X = Y} p b (Err e) t u → Plans {X = Z} p c (Err e) s u
-  plan-stops {Y = Y} {Z = Z} a b c x e rest s t u are counts first second = record {
+  plan-stops {Y = Y} {Z = Z} {a = a} {b = b} {c = c} {e = e} {s = s} {t = t} {u = u} rest are counts first second = record {
     built = built e counts second.built;
     kept = kept e second.kept;
     rises = omega (arith, first.rises, second.rises);
@@ -78,17 +86,11 @@ module _ {P : Type 0} (p : PatternsGhosts P) where
       kept e same = same ∙ first.kept
 
   -- Memory ran out after a step that succeeded.
-  pub plan-part : {X Y : Type 0} (a c : PatternList) (x : X) (rest : List (List ℕ)) (s t : P) → c.patterns ≡ a.patterns ++ rest → Plans p a (Ok x) s t → Plans {X = Y} p c (Err plan.NoMemory) s t
-  plan-part a c x rest s t are first = record {
-    built = (length a.patterns, rw are (adds-more (length a.patterns) (p.built s) (p.built t) a.patterns rest (adds-all (p.built s) (p.built t) a.patterns first.built)));
-    kept = first.kept;
-    rises = first.rises;
-    sound = λ q. first.sound refl;
-  }
+  pub plan-part : {X Y : Type 0} {a c : PatternList} {x : X} {s t : P} (rest : List (List ℕ)) → c.patterns ≡ a.patterns ++ rest → Plans p a (Ok x) s t → Plans {X = Y} p c (Err plan.NoMemory) s t
+  plan-part {X = X} {t = t} rest are first = plan-stops {Y = X} {b = no_patterns} rest are tt first (record { built = (0, adds-none (p.built t) []); kept = refl; rises = omega arith; sound = λ q. refl })
 
   -- No pattern was built, since a name means no data source or memory ran out.
-  pub plan-unnamed : {X : Type 0} (c : PatternList) (names : List (List ℕ)) (customs : List CustomSource) (e : PlanAnswer) (s : P) → HasNameCause customs names e → Plans {X = X} p c (Err e) s s
-  plan-unnamed c names customs (plan.UnknownSource i) s h = record { built = refl; kept = refl; rises = omega arith; sound = λ q. refl }
-  plan-unnamed c names customs (plan.PatternSyntax i) s h = absurd h
-  plan-unnamed c names customs (plan.PatternTooBig i) s h = absurd h
-  plan-unnamed c names customs plan.NoMemory s h = plan-part no_patterns c names c.patterns s s refl (plan-none names s)
+  pub plan_unnamed : {X : Type 0} (names : List (List ℕ)) (filter : Option (List ℕ)) (customs : List CustomSource) (e : PlanAnswer) (s : P) → HasNameCause customs names e → Plans {X = X} p (plan_patterns names filter customs) (Err e) s s
+  plan_unnamed names filter customs (plan.UnknownSource i) s h = record { built = refl; kept = refl; rises = omega arith; sound = λ q. refl }
+  plan_unnamed names filter customs plan.NoMemory s h = record { built = (0, adds-none (p.built s) _); kept = refl; rises = omega arith; sound = λ q. refl }
+  plan_unnamed names filter customs e s h = absurd h

@@ -1,20 +1,13 @@
 -- Each pattern is a regular expression of the grammar, or one isn't compiled.
-use Rattle.std.proofs.Common.{[], ◌++◌, IsOk, refl, sym, ap, rules}
+use Rattle.std.proofs.Common.{[], ◌++◌, refl, sym, ap}
 use Rattle.std.specs.Option.{option_to_list}
 use Rattle.std.proofs.lemmas.List.{append-nil}
 use Rattle.std.proofs.lemmas.Result.{err_from_is_err_and}
 use Rattle.custom_rewrites.specs.Rewriting.{patterns_in}
 use Rattle.file_profile.specs.Patterns.{rewrites_of}
-use Rattle.file_profile.specs.Sources.{chosen_sources}
-use Rattle.run_plan.specs.PatternLists.{filter_patterns, no_patterns}
-use Rattle.run_plan.proofs.BuildLemmas.{counts-filter, plan-follows, plan-none, plan-stops, plan-unnamed}
+use Rattle.run_plan.proofs.BuildLemmas.{counts-filter, plan-follows, plan-none, plan-stops}
 use Rattle.run_plan.proofs.PlanLemmas.{cause-rewrites, patterns-read}
 use Rattle.bloaty_engine.proofs.planning.plan.Goals as goal
-
-pub returns-in_err-choices-clause-patterns : goal.returns-in_err-choices-clause-patterns
-returns-in_err-choices-clause-patterns g c =
-    let p = err_from_is_err_and c.from_residual.result c.from_residual.ensures.1 in
-    rw (p.1, p.2) (plan-unnamed g.P.Patterns _ c.args.options.now.sources c.args.custom.now _ c.args.patterns.now c.in_err-choices.ensures.cause)
 
 pub returns-in_err-filter-clause-patterns : goal.returns-in_err-filter-clause-patterns
 returns-in_err-filter-clause-patterns g c =
@@ -22,22 +15,19 @@ returns-in_err-filter-clause-patterns g c =
     let filter = c.args.options.now.filter in
     let fails = rw c.as_ref.ensures.value at c.in_err-filter.ensures in
     rw (p.1, p.2, c.in_ok-choices.ensures.choices.chosen)
-    (plan-stops g.P.Patterns no_patterns (filter_patterns filter) _ filter c.in_err-filter.field-0.0 (patterns_in (rewrites_of c.args.custom.now)) c.args.patterns.now c.args.patterns.now c.filter_of.new.patterns
-    refl (counts-filter filter c.args.custom.now _ _ _ c.in_err-filter.field-0.0 fails.cause) (plan-none g.P.Patterns filter c.args.patterns.now) fails.patterns)
+    (plan-stops {x = filter} (patterns_in (rewrites_of c.args.custom.now)) refl (counts-filter filter c.args.custom.now _ _ _ c.in_err-filter.field-0.0 fails.cause) plan-none fails.patterns)
 
 pub returns-in_err-rewrites : goal.returns-in_err-rewrites
 returns-in_err-rewrites g c =
     let p = err_from_is_err_and c.from_residual-in_err-rewrites.result c.from_residual-in_err-rewrites.ensures.1 in
     let o = c.args.options.now in
-    let known : IsOk (chosen_sources c.args.custom.now o.sources) = rw c.in_ok-choices.ensures.choices.chosen (search rules) in
     let first = rw c.as_ref.ensures.value at c.in_ok-filter.ensures in
     let rest = c.in_err-rewrites.ensures in
-    let cause = cause-rewrites o.filter c.args.custom.now first.read o.sources known _ _ _ _ first.patterns.rises c.in_err-rewrites.field-0.0 rest.cause in
-    let whole = ap (λ ps. option_to_list o.filter ++ ps) (sym (append-nil (patterns_in (rewrites_of c.args.custom.now)))) in
+    let cause = cause-rewrites o.filter c.args.custom.now first.read o.sources (rw c.in_ok-choices.ensures.choices.chosen refl) _ _ _ _ first.patterns.rises c.in_err-rewrites.field-0.0 rest.cause in
     rw (p.1, p.2) (record {
       plan = tt;
       cause = cause.0;
-      patterns = rw c.in_ok-choices.ensures.choices.chosen (plan-stops g.P.Patterns _ _ _ _ c.in_err-rewrites.field-0.0 [] c.args.patterns.now c.filter_of.new.patterns c.rewrites_of.new.patterns whole cause.1 first.patterns rest.patterns);
+      patterns = rw c.in_ok-choices.ensures.choices.chosen (plan-stops [] (ap (λ ps. option_to_list o.filter ++ ps) (sym (append-nil _))) cause.1 first.patterns rest.patterns);
     })
 
 pub returns-clause-plan : goal.returns-clause-plan
@@ -54,5 +44,4 @@ returns-clause-plan g c =
 pub returns-clause-patterns : goal.returns-clause-patterns
 returns-clause-patterns g c =
     let first = rw c.as_ref.ensures.value at c.in_ok-filter.ensures in
-    rw c.in_ok-choices.ensures.choices.chosen
-    (plan-follows g.P.Patterns _ _ _ _ _ _ c.args.patterns.now c.filter_of.new.patterns c.rewrites_of.new.patterns refl first.patterns c.in_ok-rewrites.ensures.patterns)
+    rw c.in_ok-choices.ensures.choices.chosen (plan-follows refl first.patterns c.in_ok-rewrites.ensures.patterns)
