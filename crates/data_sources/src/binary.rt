@@ -58,11 +58,11 @@ pub fn open_binary<'a>(file: &'a [u8]) -> Result<Binary<'a>, BadFile>
     {
         Fault::Universal
     } else if file.starts_with(b"\x7fELF") {
-        return Ok(Binary::Elf(ElfFile::parse(file)?));
+        return ElfFile::parse(file).map(Binary::Elf);
     } else if is_macho(file) {
-        return Ok(Binary::Macho(MachoFile::parse(file)?));
+        return MachoFile::parse(file).map(Binary::Macho);
     } else if file.starts_with(b"\0asm") {
-        return Ok(Binary::Wasm(WasmFile::parse(file)?));
+        return WasmFile::parse(file).map(Binary::Wasm);
     } else {
         Fault::UnknownFormat
     };

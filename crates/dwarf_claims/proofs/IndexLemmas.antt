@@ -1,5 +1,5 @@
 -- An index of a table of abbreviations, attribute by attribute and declaration by declaration.
-use Rattle.std.proofs.Common.{◌≡◌, ℕ, ◌==◌, Bool, true, false, List, [], ◌∷◌, ◌++◌, Option, Some, None, refl, sym, ap, subst, ◌∙◌, append_assoc, arith, eqb-true}
+use Rattle.std.proofs.Common.{◌≡◌, ℕ, ◌==◌, Bool, true, false, List, [], ◌∷◌, ◌++◌, Option, Some, None, refl, sym, ap, subst, ◌∙◌, eqb-true}
 use Rattle.std.specs.Prelude.{if◌then◌else◌}
 use Rattle.std.specs.BTreeMap.{BTreeMap, Updates, get}
 use Rattle.std.specs.Cmp.{unsigned_tied}
@@ -7,31 +7,21 @@ use Rattle.std.specs.Global.{Vec}
 use Rattle.std.specs.List.{list_any}
 use Rattle.std.specs.Option.{is_some, option_map}
 use Rattle.std.specs.Ordering.{nat_cmp}
-use Rattle.std.proofs.lemmas.Bool.Decides.{nat_tests}
 use Rattle.std.proofs.lemmas.List.{append-nil}
-use Rattle.std.proofs.lemmas.List.Folds.{list_any-append}
 use Rattle.dwarf_abbrev.specs.declared.spec.Spec.{Spec}
 use Rattle.dwarf_abbrev.specs.Declarations.{Declaration, declared}
 use Rattle.dwarf_abbrev.specs.Values.{TakesNoBytes}
-use Rattle.dwarf_units.specs.Filling.{AreRootsOf, GiveSameRoots, IsIndexOf, filled_from, specs_at}
-use Rattle.dwarf_units.proofs.SameRoots.{without_again}
-use Rattle.dwarf_claims.specs.Indexes.{AreAmong, GiveTheSame, HasEntry, IsFilled, IsFound}
-
--- an attribute that is kept
-pub kept : (s : Spec) (old new : List Spec) → new ≡ old ++ s ∷ [] → GiveTheSame old s new
-kept s old new is = λ rest shape w r within.
-    ap (λ (xs : List Spec). filled_from shape xs w r) (ap (λ (xs : List Spec). xs ++ rest) is ∙ append_assoc old (s ∷ []) rest)
+use Rattle.dwarf_units.specs.Filling.{AreRootsOf, GiveSameRoots, IsIndexOf, IsUnread, filled_from, specs_at}
+use Rattle.dwarf_units.proofs.SameRoots.{without_again, without_unread}
+use Rattle.dwarf_claims.specs.declared.index.Needed.{Needed}
+use Rattle.dwarf_claims.specs.Indexes.{AreAmong, GiveTheSame, HasEntry, IsFilled, IsFound, TakesSpec}
 
 -- an attribute that is left out
-pub skipped_again : (s : Spec) (old : List Spec) (numbers : List ℕ) → TakesNoBytes s → AreAmong numbers old → list_any (λ m. m == s.attribute) numbers ≡ true → GiveTheSame old s old
-skipped_again s old numbers bare among again = λ rest. without_again s old rest bare (among s.attribute again)
+pub leaves_unread : {old : Needed} {s : Spec} → TakesNoBytes s → IsUnread s.attribute → AreAmong old.bare.items old.specs.items → TakesSpec old old s
+leaves_unread {old} {s} none unread among = record { roots = λ rest. without_unread s old.specs.items rest none unread; bare = among }
 
--- the numbers of the attributes that are kept
-pub among_more : (s : Spec) (numbers : List ℕ) (old new : List Spec) → new ≡ old ++ s ∷ [] → AreAmong numbers old → AreAmong numbers new
-among_more s numbers old new is among = λ n has. grind (arith, nat_tests, is, list_any-append (λ k. k.attribute == n) old (s ∷ []), among n has)
-
-pub among_both : (s : Spec) (numbers more : List ℕ) (old new : List Spec) → new ≡ old ++ s ∷ [] → more ≡ numbers ++ s.attribute ∷ [] → AreAmong numbers old → AreAmong more new
-among_both s numbers more old new is are among = λ n has. grind (arith, nat_tests, is, are, has, list_any-append (λ k. k.attribute == n) old (s ∷ []), list_any-append (λ m. m == n) numbers (s.attribute ∷ []), among n)
+pub leaves_again : {old : Needed} {s : Spec} → TakesNoBytes s → list_any (λ m. m == s.attribute) old.bare.items ≡ true → AreAmong old.bare.items old.specs.items → TakesSpec old old s
+leaves_again {old} {s} none again among = record { roots = λ rest. without_again s old.specs.items rest none (among s.attribute again); bare = among }
 
 -- all attributes of a declaration
 pub same_goes : (s : Spec) (old new xs ys all : List Spec) → GiveTheSame old s new → ys ≡ s ∷ xs → GiveSameRoots (old ++ ys) all → GiveSameRoots (new ++ xs) all

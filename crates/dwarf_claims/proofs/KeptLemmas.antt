@@ -1,6 +1,7 @@
 -- What is read once for several units: tables of abbreviations, names, range lists and line programs.
 use Rattle.std.proofs.Common.{◌≡◌, ℕ, ◌∙◌, Bool, true, false, List, [], Option, Some, None, Result, Ok, Err, length, refl, sym, ap}
 use Rattle.std.proofs.lemmas.Result.{on_ok_weaker}
+use Rattle.std.specs.Option.{is_some}
 use Rattle.std.specs.Prelude.{IfSome, OnOk}
 use Rattle.size_core.specs.declared.fault.BadFile.{BadFile}
 use Rattle.size_core.specs.Checks.{◌>>=◌}
@@ -29,7 +30,7 @@ use Rattle.dwarf_units.specs.Roots.{IsNameAt, RootRecord}
 use Rattle.dwarf_units.specs.Strings.{ended, named, string_at, string_in}
 use Rattle.dwarf_claims.specs.declared.last_program.LastProgram.{LastProgram}
 use Rattle.dwarf_claims.specs.declared.table.LastTable.{LastTable}
-use Rattle.dwarf_claims.specs.KnownLabels.{AreSameNames, IsLabelBy, label_in_section}
+use Rattle.dwarf_claims.specs.KnownLabels.{IsLabelBy, label_in_section}
 use Rattle.dwarf_claims.specs.KnownRanges.{AreKnownBy, HaveSameRanges}
 use Rattle.dwarf_claims.specs.LineClaims.{program_claims, reading_at, rows_claims}
 use Rattle.dwarf_claims.specs.Tables.{IsAddedProgram, IsReadTable, IsStillTable}
@@ -64,11 +65,11 @@ same_label s (StringAt.Strings n) p q label = same_string s.strings n p q label
 same_label s (StringAt.LineStrings n) p q label = same_string s.line_strings n p q label
 
 -- a name or a range list that was read before
-pub label_again : (s : Sections) (r : RootRecord) (last name : Option StringAt) (label : List ℕ) → AreSameNames last name → IfSome name (λ n. IsNameAt s r n) → IsLabelBy s last label → label_of s r ≡ Ok label
+pub label_again : (s : Sections) (r : RootRecord) (name last : Option StringAt) (label : List ℕ) → is_some name ≡ true → name ≡ last → IfSome name (λ n. IsNameAt s r n) → IsLabelBy s last label → label_of s r ≡ Ok label
 unfolding label_of
-label_again s r None name label same is known = absurd same
-label_again s r (Some a) None label same is known = absurd same
-label_again s r (Some a) (Some b) label same is known = ap (λ (n : Result (Option (List ℕ)) BadFile). n >>= λ text. Ok (or_unnamed text)) is.is ∙ rw (← same) (known is.place)
+label_again s r None last label some same is known = cc
+label_again s r (Some n) last label some same is known =
+    ap (λ (n : Result (Option (List ℕ)) BadFile). n >>= λ text. Ok (or_unnamed text)) is.is ∙ (rw (← same) at known) is.place
 
 pub label_new : (s : Sections) (r : RootRecord) (name : Option StringAt) (label : List ℕ) → IfSome name (λ n. IsNameAt s r n) → label_of s r ≡ Ok label → IsLabelBy s name label
 unfolding label_of

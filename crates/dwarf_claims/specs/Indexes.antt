@@ -4,6 +4,7 @@ use Rattle.std.specs.List.{list_any}
 use Rattle.dwarf_abbrev.specs.declared.spec.Spec.{Spec}
 use Rattle.dwarf_abbrev.specs.Declarations.{Declaration, declared}
 use Rattle.dwarf_units.specs.Filling.{AreRootsOf, GiveSameRoots}
+use Rattle.dwarf_claims.specs.declared.index.Needed.{Needed}
 
 -- Each of these numbers is that of one of the attributes.
 abbrev pub AreAmong : List ℕ → List Spec → Type 0
@@ -12,6 +13,12 @@ AreAmong numbers specs = (n : ℕ) → list_any (λ m. m == n) numbers ≡ true 
 -- The attributes `new` give the same roots as the attributes `old` and one more, whatever comes after them.
 abbrev pub GiveTheSame : List Spec → Spec → List Spec → Type 0
 GiveTheSame old spec new = (rest : List Spec) → GiveSameRoots (new ++ rest) (old ++ spec ∷ rest)
+
+-- The attributes after one more attribute of a declaration, which is added unless it changes nothing: they give the same
+-- roots, and the numbers are still those of attributes among them.
+pub record TakesSpec (old new : Needed) (spec : Spec) : Type 0 where
+  pub roots : GiveTheSame old.specs.items spec new.specs.items
+  pub bare : AreAmong new.bare.items new.specs.items
 
 -- What the index has for a code gives the same roots as the declaration of the whole table. If it has nothing, the
 -- declaration is that of the rest of the table.

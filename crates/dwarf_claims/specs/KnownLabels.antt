@@ -8,11 +8,6 @@ use Rattle.dwarf_units.specs.Strings.{named, string_in_section}
 use Rattle.dwarf_claims.specs.declared.last_label.LastLabel.{LastLabel}
 use Rattle.dwarf_claims.specs.UnitClaims.{or_unnamed}
 
--- Both names exist, and they are the same.
-abbrev pub AreSameNames : Option StringAt → Option StringAt → Type 0
-AreSameNames (Some a) (Some b) = a ≡ b
-AreSameNames _ _ = ⊥
-
 -- The label of a unit whose name is this string, or the fault of the string (DWARF 5, section 3.1.1).
 abbrev pub label_in_section : Sections → StringAt → ℕ → Result (List ℕ) BadFile
 label_in_section s name place = named (string_in_section s name place) >>= λ text. Ok (or_unnamed text)

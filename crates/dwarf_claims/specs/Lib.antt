@@ -9,3 +9,4 @@ pub mod SetClaims
 pub mod Tables
 pub mod UnderLabel
 pub mod UnitClaims
+pub mod UnitSteps

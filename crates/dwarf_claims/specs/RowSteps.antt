@@ -1,5 +1,5 @@
 -- The claims of rows, one row at a time: what the walk over the rows of a program does at each.
-use Rattle.std.specs.Prelude.{◌≡◌, ℕ, not, All, Bool, List, [], ◌++◌, drop, get_or, take, Option, None, Some, Result, Ok, Err, if◌then◌else◌}
+use Rattle.std.specs.Prelude.{◌≡◌, ℕ, not, All, Bool, List, [], ◌++◌, drop, get_or, length, take, Option, None, Some, Result, Ok, Err, if◌then◌else◌}
 use Rattle.std.specs.List.{flat_map}
 use Rattle.size_core.specs.declared.fault.BadFile.{BadFile}
 use Rattle.size_core.specs.Checks.{◌>>=◌}
@@ -50,6 +50,12 @@ sequences_after h size (Some before) sequences =
 -- The claims of these rows after a previous row, or the fault among them.
 unfoldable pub claims_from : LineHeader → ℕ → Option Before → List (Result LineRow BadFile) → Reading
 claims_from h size before rows = whole_rows rows >>= λ all. Ok (sequences_after h size before (sequences_of all))
+
+-- The label is the path of the file with this number, without a line.
+pub record IsPath (h : LineHeader) (number : ℕ) (label : RowLabel) : Type 0 where
+  pub text : label.text.items ≡ path_of h number
+  pub len : label.path_len ≡ length label.text.items
+  pub file : label.file ≡ number
 
 -- The label begins with the path of its file.
 abbrev pub HasPath : LineHeader → RowLabel → Type 0

@@ -3,7 +3,7 @@
 
 ghost use Rattle.std.specs.Prelude.{IfOk, OnOk};
 ghost use Rattle.dwarf_units.specs.Filling.{GiveSameRoots, IsIndexOf, specs_at};
-ghost use Rattle.dwarf_claims.specs.Indexes.{AreAmong, GiveTheSame, HasEntry};
+ghost use Rattle.dwarf_claims.specs.Indexes.{AreAmong, HasEntry, TakesSpec};
 
 use dwarf_abbrev::{Abbrevs, Entry, Spec};
 use dwarf_units::is_read;
@@ -23,12 +23,9 @@ pub struct Needed {
 
 // Adds the next attribute of a declaration, unless it changes nothing. It changes nothing if it takes no bytes, and
 // either no root keeps its value or the same attribute came before it.
-#[tactic(auto, using(crate::proofs::IndexLemmas::kept, dwarf_units::proofs::SameRoots::without_unread, crate::proofs::IndexLemmas::skipped_again, crate::proofs::IndexLemmas::among_more, crate::proofs::IndexLemmas::among_both))]
 fn add_spec(needed: &mut Needed, spec: Spec) -> Result<(), NoMemory>
     requires { AreAmong needed.old.bare.items needed.old.specs.items }
-    ensures roots { OnOk result
-        (GiveTheSame needed.old.specs.items spec needed.new.specs.items) }
-    ensures bare { OnOk result (AreAmong needed.new.bare.items needed.new.specs.items) }
+    ensures { OnOk result (TakesSpec needed.old needed.new spec) }
 {
     if spec.has_bytes() {
         needed.specs.push(spec)?;

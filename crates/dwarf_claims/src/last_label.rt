@@ -1,11 +1,11 @@
 //! The label of the unit that was read last. Units in a row may have one name, which may be long.
 
-ghost use Rattle.std.specs.Prelude.{◌≡◌, true, List};
+ghost use Rattle.std.specs.Prelude.{List};
 ghost use Rattle.size_core.specs.Checks.{Gives};
 ghost use Rattle.size_model.specs.declared.view.LabelledClaim.{LabelledClaim};
 ghost use Rattle.claim_sheet.specs.Known.{IsKnown};
 ghost use Rattle.dwarf_units.specs.Roots.{shown_root};
-ghost use Rattle.dwarf_claims.specs.KnownLabels.{AreSameNames, IsLabelOf};
+ghost use Rattle.dwarf_claims.specs.KnownLabels.{IsLabelOf};
 ghost use Rattle.dwarf_claims.specs.UnitClaims.{label_of};
 
 use crate::label::label_of;
@@ -18,16 +18,6 @@ use size_core::BadFile;
 pub struct LastLabel<'a> {
     pub name: Option<StringAt>,
     pub label: KnownLabel<'a>,
-}
-
-// Returns whether there is a name and it is the same as the last one.
-fn is_last(last: Option<StringAt>, name: Option<StringAt>) -> bool
-    ensures { result ≡ true → AreSameNames last name }
-{
-    match (last, name) {
-        (Some(last), Some(name)) => last == name,
-        _ => false,
-    }
 }
 
 impl<'a> LastLabel<'a> {
@@ -43,7 +33,7 @@ impl<'a> LastLabel<'a> {
             → IsKnown made self.new.label }
     {
         let name = root.name_at(sections);
-        if is_last(self.name, name) {
+        if name.is_some() && name == self.name {
             return Ok(());
         }
         let text = label_of(root, sections)?;

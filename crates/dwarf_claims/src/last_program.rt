@@ -1,14 +1,14 @@
 //! The line program that was read last. Units in a row often share one: a type unit names the program of its compile
 //! unit (DWARF 5, section 3.1.4).
 
-ghost use Rattle.std.specs.Prelude.{◌≡◌, ◌≤◌, List, Ok, OnOk, length};
+ghost use Rattle.std.specs.Prelude.{◌≡◌, ◌≤◌, List, Ok, IfOk, OnOk, length};
 ghost use Rattle.size_model.specs.declared.view.LabelledClaim.{LabelledClaim};
 ghost use Rattle.claim_sheet.specs.Adds.{AddsRead};
 ghost use Rattle.claim_sheet.specs.Known.{AreAdded};
 ghost use Rattle.dwarf_units.specs.Roots.{shown_root};
 ghost use Rattle.dwarf_line_header.specs.UnitPrograms.{unit_program};
-ghost use Rattle.dwarf_claims.specs.LineClaims.{program_claims};
-ghost use Rattle.dwarf_claims.specs.Tables.{IsProgramOf};
+ghost use Rattle.dwarf_claims.specs.LineClaims.{program_claims, reading_at};
+ghost use Rattle.dwarf_claims.specs.Tables.{IsAddedProgram, IsProgramOf};
 
 use crate::row::UnitProgram;
 use claim_sheet::{ClaimSheet, Stop};
@@ -42,10 +42,38 @@ fn add_again(last: &LastProgram, sheet: &mut ClaimSheet) -> Result<(), Stop>
     Ok(())
 }
 
+// Adds the claims of the line program at an offset of `.debug_line`, for units of this shape, and returns the program
+// with their positions. `named` is the offset, and the file offset for a fault. Bad is the first fault of the program.
+#[tactic(auto, using(crate::proofs::KeptLemmas::program_new))]
+fn add_new(
+    alloc: Global,
+    sections: &Sections<'_>,
+    named: (u64, u64),
+    shape: UnitShape,
+    sheet: &mut ClaimSheet,
+) -> Result<LastProgram, Stop>
+    ensures adds { AddsRead result sheet.old sheet.new
+        (reading_at sections.now shape named.0 named.1) }
+    ensures program { IfOk result (λ p. IsAddedProgram sections.now sheet.new p) }
+{
+    let first = sheet.len();
+    let program = LineProgram::at(sections, named.0, named.1, &shape)?;
+    let unit = UnitProgram {
+        program: &program,
+        size: shape.address,
+    };
+    unit.add_claims(alloc, sheet)?;
+    Ok(LastProgram {
+        offset: named.0,
+        shape,
+        first,
+        end: sheet.len(),
+    })
+}
+
 /// Adds the claims of the line program that a unit names, if it names one. The program that was read last isn't read
-/// again for a unit of the same shape: its claims are copied. Its file names are kept in memory, since many rows name the
-/// same file. Bad is the first fault of the program.
-#[tactic(auto, using(claim_sheet::proofs::SheetLemmas::adding_none, crate::proofs::KeptLemmas::program_again, crate::proofs::KeptLemmas::program_still, crate::proofs::KeptLemmas::program_new))]
+/// again for a unit of the same shape: its claims are copied. Bad is the first fault of the program.
+#[tactic(auto, using(claim_sheet::proofs::SheetLemmas::adding_none, crate::proofs::KeptLemmas::program_again, crate::proofs::KeptLemmas::program_still))]
 pub fn add_program(
     alloc: Global,
     sections: &Sections<'_>,
@@ -67,18 +95,6 @@ pub fn add_program(
     {
         return add_again(known, sheet);
     }
-    let first = sheet.len();
-    let program = LineProgram::at(sections, named.0, named.1, &root.shape)?.kept(alloc)?;
-    let unit = UnitProgram {
-        program: &program,
-        size: root.shape.address,
-    };
-    unit.add_rows(alloc, sheet)?;
-    *last = Some(LastProgram {
-        offset: named.0,
-        shape: root.shape,
-        first,
-        end: sheet.len(),
-    });
+    *last = Some(add_new(alloc, sections, named, root.shape, sheet)?);
     Ok(())
 }

@@ -91,9 +91,9 @@ fn add_row(
 }
 
 impl UnitProgram<'_, '_> {
-    /// Adds the claims of the rows of the line program. Bad is the fault of the rows.
+    // Adds the claims of the rows, one after another. Bad is the fault of the rows.
     #[tactic(auto, using(crate::proofs::RowLemmas::ends, crate::proofs::RowLemmas::passes))]
-    pub fn add_rows(self, alloc: Global, sheet: &mut ClaimSheet) -> Result<(), Stop>
+    fn add_rows(self, alloc: Global, sheet: &mut ClaimSheet) -> Result<(), Stop>
         ensures { AddsRead result sheet.old sheet.new
             (rows_claims self.entry.program.now self.entry.size
             (line_rows self.entry.program.now)) }
@@ -104,5 +104,20 @@ impl UnitProgram<'_, '_> {
             before = add_row(self, before, row, &mut labels, sheet)?;
         }
         Ok(())
+    }
+
+    /// Adds the claims of the rows of the line program. Its file names are kept in memory meanwhile, since many rows name
+    /// the same file. Bad is the fault of the rows.
+    pub fn add_claims(self, alloc: Global, sheet: &mut ClaimSheet) -> Result<(), Stop>
+        ensures { AddsRead result sheet.old sheet.new
+            (rows_claims self.entry.program.now self.entry.size
+            (line_rows self.entry.program.now)) }
+    {
+        let program = self.program.kept(alloc)?;
+        let unit = UnitProgram {
+            program: &program,
+            size: self.size,
+        };
+        unit.add_rows(alloc, sheet)
     }
 }

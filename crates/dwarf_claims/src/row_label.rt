@@ -1,9 +1,8 @@
 //! The labels of the rows of a line program.
 
-ghost use Rattle.std.specs.Prelude.{◌≡◌, ◌++◌, take, vec_len, codes, decimal, IfOk, OnOk};
-ghost use Rattle.dwarf_lines.specs.Paths.{path_of};
+ghost use Rattle.std.specs.Prelude.{◌≡◌, ◌++◌, codes, decimal, IfOk, OnOk};
 ghost use Rattle.dwarf_claims.specs.LineClaims.{row_label};
-ghost use Rattle.dwarf_claims.specs.RowSteps.{HasPath};
+ghost use Rattle.dwarf_claims.specs.RowSteps.{HasPath, IsPath};
 
 use claim_sheet::append;
 use dwarf_lines::{LineProgram, LineRow};
@@ -25,10 +24,7 @@ pub struct RowLabel {
 impl RowLabel {
     /// Sets the label to the path of a file of a program, without a line.
     pub fn set_file(&mut self, program: &LineProgram<'_>, file: u64) -> Result<(), NoMemory>
-        ensures path { OnOk result (self.new.text.items ≡ path_of program.now file) }
-        ensures has { OnOk result (HasPath program.now self.new) }
-        ensures len { OnOk result (self.new.path_len ≡ vec_len self.new.text) }
-        ensures file { OnOk result (self.new.file ≡ file) }
+        ensures { OnOk result (IsPath program.now file self.new) }
     {
         self.text.clear();
         program.path(file, &mut self.text)?;
@@ -40,9 +36,7 @@ impl RowLabel {
     /// Sets the path to that of a file, unless it is there already, and drops the line.
     fn set_path(&mut self, program: &LineProgram<'_>, file: u64) -> Result<(), NoMemory>
         requires { HasPath program.now self.old }
-        ensures path { OnOk result (self.new.text.items ≡ path_of program.now file) }
-        ensures len { OnOk result (self.new.path_len ≡ vec_len self.new.text) }
-        ensures file { OnOk result (self.new.file ≡ file) }
+        ensures { OnOk result (IsPath program.now file self.new) }
     {
         if self.file != file {
             return self.set_file(program, file);

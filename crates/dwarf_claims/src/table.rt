@@ -71,8 +71,7 @@ impl<'a> LastTable<'a> {
     {
         let code = unit.code();
         self.know(alloc, code)?;
-        let root = self.root_by_known(unit, code)?;
-        Ok(root)
+        self.root_by_known(unit, code).map_err(Stop::Bad)
     }
 }
 
@@ -101,13 +100,13 @@ fn root_by_last<'a>(
         return known.root_again(alloc, unit);
     }
     let table = Abbrevs::at(&sections.abbrev, unit.abbrev_offset, unit.place)?;
-    let root = unit.root_in(&table);
+    let root = unit.root_in(&table).map_err(Stop::Bad);
     *last = Some(LastTable {
         offset: unit.abbrev_offset,
         table,
         known: KnownCodes::Nothing,
     });
-    Ok(root?)
+    root
 }
 
 /// Returns the root of a unit. Its table of abbreviations is read only if it isn't one of the last two. The table that was

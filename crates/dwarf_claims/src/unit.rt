@@ -1,14 +1,13 @@
 //! The claims of one unit of `.debug_info`.
 
-ghost use Rattle.std.specs.Prelude.{◌≡◌, IfOk, OnOk};
+ghost use Rattle.std.specs.Prelude.{◌≡◌, Ok};
 ghost use Rattle.std.specs.List.{flat_map};
-ghost use Rattle.claim_sheet.specs.Adds.{AddsRead};
 ghost use Rattle.claim_sheet.specs.Known.{IsKnown};
-ghost use Rattle.dwarf_units.specs.Roots.{shown_root};
-ghost use Rattle.dwarf_claims.specs.SetClaims.{unit_label};
+ghost use Rattle.dwarf_units.specs.Roots.{root_of, shown_root};
 ghost use Rattle.dwarf_claims.specs.Tables.{IsUnitOf};
 ghost use Rattle.dwarf_claims.specs.UnderLabel.{AddsUnder};
-ghost use Rattle.dwarf_claims.specs.UnitClaims.{range_claim, told_claims, unit_claims};
+ghost use Rattle.dwarf_claims.specs.UnitClaims.{range_claim, told_claims};
+ghost use Rattle.dwarf_claims.specs.UnitSteps.{AddsUnit};
 
 use crate::last_label::LastLabel;
 use crate::last_ranges::{LastRanges, read_ranges};
@@ -27,11 +26,17 @@ pub struct LastUnit<'a> {
     pub label: LastLabel<'a>,
 }
 
+// A unit and its root.
+#[derive(Clone, Copy)]
+struct RootedUnit<'r, 'a> {
+    unit: &'r DwarfUnit<'a>,
+    root: &'r Root<'a>,
+}
+
 // What a unit claims: its ranges of addresses, its bytes, its table of abbreviations and its line program.
 #[derive(Clone, Copy)]
 struct UnitParts<'r, 'a> {
-    unit: &'r DwarfUnit<'a>,
-    root: &'r Root<'a>,
+    rooted: RootedUnit<'r, 'a>,
     ranges: &'r [(u64, u64)],
     program: Option<Span>,
 }
@@ -73,11 +78,12 @@ impl UnitParts<'_, '_> {
     fn add(self, label: &mut KnownLabel<'_>, sheet: &mut ClaimSheet) -> Result<(), NoMemory>
         requires { IsKnown sheet.old.made label.old }
         ensures { AddsUnder label.old label.new result sheet.old sheet.new
-            (told_claims self.entry.unit.now (shown_root self.entry.root.now)
+            (told_claims self.entry.rooted.unit.now (shown_root self.entry.rooted.root.now)
             label.old.text.now self.entry.ranges.now self.entry.program) }
     {
-        let unit = Reach::in_file(span(0, self.unit.place, self.unit.len));
-        let table = Reach::in_file(span(0, self.root.table_place, self.root.table_len));
+        let RootedUnit { unit, root } = self.rooted;
+        let unit = Reach::in_file(span(0, unit.place, unit.len));
+        let table = Reach::in_file(span(0, root.table_place, root.table_len));
         add_ranges(self.ranges, label, sheet)?;
         sheet.add_known(unit, label)?;
         sheet.add_known(table, label)?;
@@ -86,6 +92,34 @@ impl UnitParts<'_, '_> {
             None => Ok(()),
         }
     }
+}
+
+// Adds the claims of a unit that has this root, and returns its label. Bad is the fault of its name, its ranges or its
+// line program.
+#[tactic(auto, unfolding(crate::specs::UnitClaims::unit_claims))]
+fn add_rooted<'a>(
+    alloc: Global,
+    sections: &Sections<'a>,
+    rooted: RootedUnit<'_, 'a>,
+    last: &mut LastUnit<'a>,
+    sheet: &mut ClaimSheet,
+) -> Result<KnownLabel<'a>, Stop>
+    requires last { IsUnitOf sections.now sheet.old last.old }
+    requires root { root_of sections.now rooted.unit.now ≡ Ok (shown_root rooted.root.now) }
+    ensures { AddsUnit sections.now rooted.entry.unit.now result sheet.old sheet.new last.new }
+{
+    last.label.read(rooted.root, sections)?;
+    read_ranges(alloc, sections, rooted.root, &mut last.ranges)?;
+    let program = program_bytes(sections, unit_program(rooted.root))?;
+    let parts = UnitParts {
+        rooted,
+        ranges: last.ranges.ranges.as_slice(),
+        program,
+    };
+    let mut label = last.label.label;
+    parts.add(&mut label, sheet)?;
+    last.label.label = label;
+    Ok(label)
 }
 
 /// Adds the claims of a unit, and returns its label. Bad is the first fault of the unit.
@@ -98,26 +132,9 @@ pub fn add_unit<'a>(
     sheet: &mut ClaimSheet,
 ) -> Result<KnownLabel<'a>, Stop>
     requires { IsUnitOf sections.now sheet.old last.old }
-    ensures adds { AddsRead result sheet.old sheet.new (unit_claims sections.now unit.now) }
-    ensures label { IfOk result (λ l. l.text.now ≡ unit_label sections.now unit.now) }
-    ensures known { IfOk result (λ l. IsKnown sheet.new.made l) }
-    ensures last { OnOk result (IsUnitOf sections.now sheet.new last.new) }
+    ensures { AddsUnit sections.now unit.now result sheet.old sheet.new last.new }
 {
     let root = root_of(alloc, sections, unit, &mut last.tables)?;
-    last.label.read(&root, sections)?;
-    read_ranges(alloc, sections, &root, &mut last.ranges)?;
-    let program = program_bytes(sections, unit_program(&root))?;
-    let parts = UnitParts {
-        unit,
-        root: &root,
-        ranges: last.ranges.ranges.as_slice(),
-        program,
-    };
-    let mut label = last.label.label;
-    parts.add(&mut label, sheet)?;
-    last.label = LastLabel {
-        name: last.label.name,
-        label,
-    };
-    Ok(label)
+    let rooted = RootedUnit { unit, root: &root };
+    add_rooted(alloc, sections, rooted, last, sheet)
 }

@@ -11,7 +11,7 @@ use elf_file::{ElfFile, SHF_COMPRESSED, SHT_NOBITS};
 use size_core::{BadFile, Fault};
 
 /// The debug sections that are read.
-#[derive(Clone, Copy, Debug, PartialEq, Eq)]
+#[derive(Clone, Copy)]
 pub enum DebugSection {
     /// `.debug_info`
     Info,
