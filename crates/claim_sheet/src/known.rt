@@ -54,8 +54,7 @@ impl ClaimSheet {
         ensures text { label.new.text.now ≡ label.old.text.now }
     {
         if let Some(claim) = label.claim {
-            self.add_like(reach, claim)?;
-            return Ok(());
+            return self.add_like(reach, claim);
         }
         label.claim = self.add_noted(reach, label.text)?;
         Ok(())

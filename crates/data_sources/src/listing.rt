@@ -66,14 +66,13 @@ impl FileClaims<'_, '_> {
             (claims_of source name.now self.now.file.now) }
     {
         match source {
-            Source::Segments => self.add_segments_and_headers(sheet)?,
-            Source::Sections => self.add_parts(Wrap::Plain, sheet)?,
-            Source::InputFiles => self.add_whole(name, sheet)?,
+            Source::Segments => self.add_segments_and_headers(sheet).map_err(Stop::from),
+            Source::Sections => self.add_parts(Wrap::Plain, sheet).map_err(Stop::from),
+            Source::InputFiles => self.add_whole(name, sheet).map_err(Stop::from),
             Source::Symbols | Source::RawSymbols | Source::CompileUnits | Source::Inlines => {
-                self.add_with_tail(source, sheet)?
+                self.add_with_tail(source, sheet)
             }
         }
-        Ok(())
     }
 }
 

@@ -14,8 +14,8 @@ AreAmong numbers specs = (n : ℕ) → list_any (λ m. m == n) numbers ≡ true 
 abbrev pub GiveTheSame : List Spec → Spec → List Spec → Type 0
 GiveTheSame old spec new = (rest : List Spec) → GiveSameRoots (new ++ rest) (old ++ spec ∷ rest)
 
--- The attributes after one more attribute of a declaration, which is added unless it changes nothing: they give the same
--- roots, and the numbers are still those of attributes among them.
+-- The attributes after one more attribute of a declaration, which is added unless it changes nothing. They give the same
+-- roots as before with this attribute. The numbers are still those of attributes among them.
 pub record TakesSpec (old new : Needed) (spec : Spec) : Type 0 where
   pub roots : GiveTheSame old.specs.items spec new.specs.items
   pub bare : AreAmong new.bare.items new.specs.items

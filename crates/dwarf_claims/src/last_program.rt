@@ -38,33 +38,43 @@ fn add_again(last: &LastProgram, sheet: &mut ClaimSheet) -> Result<(), Stop>
     ensures { (claims : List LabelledClaim) → AreAdded sheet.old last.now.first last.now.end claims
         → AddsRead result sheet.old sheet.new (Ok claims) }
 {
-    sheet.add_again(last.first, last.end)?;
-    Ok(())
+    sheet.add_again(last.first, last.end).map_err(Stop::from)
 }
 
-// Adds the claims of the line program at an offset of `.debug_line`, for units of this shape, and returns the program
-// with their positions. `named` is the offset, and the file offset for a fault. Bad is the first fault of the program.
+// A line program that a unit names.
+#[derive(Clone, Copy)]
+struct NamedProgram {
+    // Its offset in `.debug_line`.
+    offset: u64,
+    // The file offset for the fault of an offset outside the section.
+    place: u64,
+    // The shape of the unit.
+    shape: UnitShape,
+}
+
+// Adds the claims of a line program, and returns the program with the positions of its claims. Bad is the first fault
+// of the program.
 #[tactic(auto, using(crate::proofs::KeptLemmas::program_new))]
-fn add_new(
+fn read_program(
     alloc: Global,
     sections: &Sections<'_>,
-    named: (u64, u64),
-    shape: UnitShape,
+    named: NamedProgram,
     sheet: &mut ClaimSheet,
 ) -> Result<LastProgram, Stop>
     ensures adds { AddsRead result sheet.old sheet.new
-        (reading_at sections.now shape named.0 named.1) }
+        (reading_at sections.now named.shape named.offset named.place) }
     ensures program { IfOk result (λ p. IsAddedProgram sections.now sheet.new p) }
 {
     let first = sheet.len();
-    let program = LineProgram::at(sections, named.0, named.1, &shape)?;
+    let shape = named.shape;
+    let program = LineProgram::at(sections, named.offset, named.place, &shape)?;
     let unit = UnitProgram {
         program: &program,
         size: shape.address,
     };
     unit.add_claims(alloc, sheet)?;
     Ok(LastProgram {
-        offset: named.0,
+        offset: named.offset,
         shape,
         first,
         end: sheet.len(),
@@ -86,15 +96,21 @@ pub fn add_program(
         (program_claims sections.now (shown_root root.now) (unit_program (shown_root root.now))) }
     ensures program { OnOk result (IsProgramOf sections.now sheet.new last.new) }
 {
-    let Some(named) = unit_program(root) else {
+    let Some((offset, place)) = unit_program(root) else {
         return Ok(());
     };
     if let Some(known) = last
-        && known.offset == named.0
+        && known.offset == offset
         && known.shape == root.shape
     {
         return add_again(known, sheet);
     }
-    *last = Some(add_new(alloc, sections, named, root.shape, sheet)?);
+    let shape = root.shape;
+    let named = NamedProgram {
+        offset,
+        place,
+        shape,
+    };
+    *last = Some(read_program(alloc, sections, named, sheet)?);
     Ok(())
 }

@@ -56,8 +56,7 @@ impl RowLabels {
         ensures labels { OnOk result (AreRowLabels sheet.new.made program.now self.new) }
     {
         if let Some(claim) = self.known.claim_of(row) {
-            sheet.add_like(reach, claim)?;
-            return Ok(());
+            return sheet.add_like(reach, claim);
         }
         self.last.set(program, row)?;
         let claim = sheet.add_noted(reach, &self.last.text)?;

@@ -50,8 +50,7 @@ fn add_set(
     let Some(label) = label_at(units, set.info_offset) else {
         return Ok(());
     };
-    add_named(set, label, sheet)?;
-    Ok(())
+    add_named(set, label, sheet).map_err(Stop::from)
 }
 
 /// Adds the claims of the address sets, in order, each under the label of its unit. Bad is the fault that ends them.

@@ -37,13 +37,14 @@ impl<'a> LastTable<'a> {
         let Some(code) = code else {
             return Ok(());
         };
-        match &self.known {
-            KnownCodes::Nothing => self.known = one_code(alloc, &self.table, code)?,
+        let known = match &self.known {
+            KnownCodes::Nothing => one_code(alloc, &self.table, code)?,
             KnownCodes::One(known) if known.code != code => {
-                self.known = KnownCodes::Index(index_of(alloc, &self.table)?);
+                KnownCodes::Index(index_of(alloc, &self.table)?)
             }
-            KnownCodes::One(_) | KnownCodes::Index(_) => {}
-        }
+            KnownCodes::One(_) | KnownCodes::Index(_) => return Ok(()),
+        };
+        self.known = known;
         Ok(())
     }
 

@@ -28,7 +28,7 @@ pub struct LastUnit<'a> {
 
 // A unit and its root.
 #[derive(Clone, Copy)]
-struct RootedUnit<'r, 'a> {
+struct UnitWithRoot<'r, 'a> {
     unit: &'r DwarfUnit<'a>,
     root: &'r Root<'a>,
 }
@@ -36,7 +36,7 @@ struct RootedUnit<'r, 'a> {
 // What a unit claims: its ranges of addresses, its bytes, its table of abbreviations and its line program.
 #[derive(Clone, Copy)]
 struct UnitParts<'r, 'a> {
-    rooted: RootedUnit<'r, 'a>,
+    with_root: UnitWithRoot<'r, 'a>,
     ranges: &'r [(u64, u64)],
     program: Option<Span>,
 }
@@ -78,10 +78,10 @@ impl UnitParts<'_, '_> {
     fn add(self, label: &mut KnownLabel<'_>, sheet: &mut ClaimSheet) -> Result<(), NoMemory>
         requires { IsKnown sheet.old.made label.old }
         ensures { AddsUnder label.old label.new result sheet.old sheet.new
-            (told_claims self.entry.rooted.unit.now (shown_root self.entry.rooted.root.now)
+            (told_claims self.entry.with_root.unit.now (shown_root self.entry.with_root.root.now)
             label.old.text.now self.entry.ranges.now self.entry.program) }
     {
-        let RootedUnit { unit, root } = self.rooted;
+        let UnitWithRoot { unit, root } = self.with_root;
         let unit = Reach::in_file(span(0, unit.place, unit.len));
         let table = Reach::in_file(span(0, root.table_place, root.table_len));
         add_ranges(self.ranges, label, sheet)?;
@@ -97,22 +97,22 @@ impl UnitParts<'_, '_> {
 // Adds the claims of a unit that has this root, and returns its label. Bad is the fault of its name, its ranges or its
 // line program.
 #[tactic(auto, unfolding(crate::specs::UnitClaims::unit_claims))]
-fn add_rooted<'a>(
+fn add_unit_with_root<'a>(
     alloc: Global,
     sections: &Sections<'a>,
-    rooted: RootedUnit<'_, 'a>,
+    with_root: UnitWithRoot<'_, 'a>,
     last: &mut LastUnit<'a>,
     sheet: &mut ClaimSheet,
 ) -> Result<KnownLabel<'a>, Stop>
     requires last { IsUnitOf sections.now sheet.old last.old }
-    requires root { root_of sections.now rooted.unit.now ≡ Ok (shown_root rooted.root.now) }
-    ensures { AddsUnit sections.now rooted.entry.unit.now result sheet.old sheet.new last.new }
+    requires root { root_of sections.now with_root.unit.now ≡ Ok (shown_root with_root.root.now) }
+    ensures { AddsUnit sections.now with_root.entry.unit.now result sheet.old sheet.new last.new }
 {
-    last.label.read(rooted.root, sections)?;
-    read_ranges(alloc, sections, rooted.root, &mut last.ranges)?;
-    let program = program_bytes(sections, unit_program(rooted.root))?;
+    last.label.read(with_root.root, sections)?;
+    read_ranges(alloc, sections, with_root.root, &mut last.ranges)?;
+    let program = program_bytes(sections, unit_program(with_root.root))?;
     let parts = UnitParts {
-        rooted,
+        with_root,
         ranges: last.ranges.ranges.as_slice(),
         program,
     };
@@ -135,6 +135,6 @@ pub fn add_unit<'a>(
     ensures { AddsUnit sections.now unit.now result sheet.old sheet.new last.new }
 {
     let root = root_of(alloc, sections, unit, &mut last.tables)?;
-    let rooted = RootedUnit { unit, root: &root };
-    add_rooted(alloc, sections, rooted, last, sheet)
+    let with_root = UnitWithRoot { unit, root: &root };
+    add_unit_with_root(alloc, sections, with_root, last, sheet)
 }

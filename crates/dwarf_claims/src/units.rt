@@ -30,8 +30,7 @@ struct ReadUnits<'a> {
 fn keep<'a>(units: &mut Vec<KnownUnit<'a>>, unit: KnownUnit<'a>) -> Result<(), NoMemory>
     ensures { OnOk result (units.new.items ≡ units.old.items ++ unit.entry ∷ []) }
 {
-    units.push(unit)?;
-    Ok(())
+    units.push(unit).map_err(NoMemory::from)
 }
 
 // Adds the claims of a unit and keeps its label. Bad is the first fault of the unit, or the fault that ends the units.
@@ -54,8 +53,7 @@ fn add_item<'a>(
     let unit = unit?;
     let label = add_unit(alloc, sections, &unit, &mut units.last, sheet)?;
     let offset = unit.offset;
-    keep(&mut units.known, KnownUnit { offset, label })?;
-    Ok(())
+    keep(&mut units.known, KnownUnit { offset, label }).map_err(Stop::from)
 }
 
 // Adds the claims of all units, in order, and returns their offsets and labels.

@@ -28,15 +28,6 @@ fn append_segment_flags(text: &mut Vec<u8>, flags: u32) -> Result<(), NoMemory>
     append(text, flag_text(flags & PF_X != 0, b"X"))
 }
 
-// Appends the letters R, W and X for the flags of a section (`sh_flags`).
-fn append_section_flags(text: &mut Vec<u8>, flags: u64) -> Result<(), NoMemory>
-    ensures { OnOk result (text.new.items ≡ text.old.items ++ section_flags flags) }
-{
-    append(text, b"R")?;
-    append(text, flag_text(flags & SHF_WRITE != 0, b"W"))?;
-    append(text, flag_text(flags & SHF_EXECINSTR != 0, b"X"))
-}
-
 // Returns the label of the load of a program header.
 fn segment_label(alloc: Global, file: &ElfFile<'_>, i: u32) -> Result<Vec<u8>, NoMemory>
     requires { i < segment_count file.now }
@@ -53,17 +44,20 @@ fn segment_label(alloc: Global, file: &ElfFile<'_>, i: u32) -> Result<Vec<u8>, N
     Ok(text)
 }
 
-// Returns the label of the load of a section.
+// Returns the label of the load of a section. Its letters are those of `sh_flags`.
 fn section_load_label(alloc: Global, file: &ElfFile<'_>, i: u32) -> Result<Vec<u8>, NoMemory>
     requires { i < section_count file.now }
     ensures { IfOk result (λ v. v.items
         ≡ codes "SECTION [" ++ section_flags (section_at file.now i).flags ++ codes "]") }
 {
-    let mut text = Vec::new(alloc);
-    append(&mut text, b"SECTION [")?;
-    append_section_flags(&mut text, file.section(i).flags)?;
-    append(&mut text, b"]")?;
-    Ok(text)
+    let flags = file.section(i).flags;
+    let parts = [
+        b"SECTION [R".as_slice(),
+        flag_text(flags & SHF_WRITE != 0, b"W"),
+        flag_text(flags & SHF_EXECINSTR != 0, b"X"),
+        b"]",
+    ];
+    parts.concat(alloc).map_err(NoMemory::from)
 }
 
 #[tactic(auto, unfolding(crate::specs::Claims::load_label, crate::specs::Loads::slot_count))]

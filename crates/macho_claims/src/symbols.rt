@@ -96,6 +96,5 @@ pub fn add_symbols(alloc: Global, file: &MachoFile<'_>, sheet: &mut ClaimSheet) 
 {
     let spans = spans_of(alloc, file)?;
     let mut names = LongNames::new(alloc, file.bytes());
-    add_spans(&spans, &mut names, sheet)?;
-    Ok(())
+    add_spans(&spans, &mut names, sheet).map_err(Stop::from)
 }

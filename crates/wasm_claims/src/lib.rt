@@ -3,6 +3,7 @@
 #![tactic(auto)]
 
 mod headers;
+mod label;
 mod sections;
 mod symbols;
 

@@ -1,13 +1,13 @@
 //! The claims of sections (WebAssembly core 2.0, 5.5.2 Sections).
 
-ghost use Rattle.std.specs.Prelude.{◌≡◌, ◌++◌, codes, decimal, IfOk};
+ghost use Rattle.std.specs.Prelude.{◌≡◌};
 ghost use Rattle.std.specs.Option.{option_copied};
 ghost use Rattle.claim_sheet.specs.Adds.{Adds};
 ghost use Rattle.wasm_file.specs.Shown.{section as section_of};
 ghost use Rattle.wasm_claims.specs.Claims.{known_label, or_else, section_claim, section_claims, standard_name};
 
-use claim_sheet::{ClaimSheet, Reach, Wrap, append, span};
-use itoa::Buffer;
+use crate::label::numbered_label;
+use claim_sheet::{ClaimSheet, Reach, Wrap, span};
 use size_core::NoMemory;
 use std::alloc::Global;
 use wasm_file::{
@@ -46,17 +46,6 @@ pub fn or_else<'a>(name: Option<&'a [u8]>, other: &'a [u8]) -> &'a [u8]
     }
 }
 
-// Returns the label of a section whose id isn't in the standard.
-fn numbered_label(alloc: Global, id: u8) -> Result<Vec<u8>, NoMemory>
-    ensures { IfOk result (λ v. v.items ≡ codes "[Section #" ++ decimal id ++ codes "]") }
-{
-    let mut text = Vec::new(alloc);
-    append(&mut text, b"[Section #")?;
-    append(&mut text, Buffer::new().format(id).as_bytes())?;
-    append(&mut text, b"]")?;
-    Ok(text)
-}
-
 // Returns the label of a custom section, or of one whose id is in the standard.
 fn known_label<'a>(section: &WasmSection<'a>) -> Option<&'a [u8]>
     ensures { option_copied result ≡ known_label (section_of section.now) }
@@ -80,7 +69,7 @@ fn add_section(
     match known_label(section) {
         Some(label) => sheet.add(reach, wrap, label),
         None => {
-            let label = numbered_label(alloc, section.id)?;
+            let label = numbered_label(alloc, b"[Section #", u32::from(section.id))?;
             sheet.add(reach, wrap, &label)
         }
     }

@@ -1,6 +1,6 @@
 //! The claims of functions (WebAssembly core 2.0, 5.5.13 Code Section).
 
-ghost use Rattle.std.specs.Prelude.{◌≡◌, ◌++◌, codes, decimal, map, Ok, Err, IfOk, IsErrOf};
+ghost use Rattle.std.specs.Prelude.{◌≡◌, map, Ok, Err, IfOk, IsErrOf};
 ghost use Rattle.std.specs.List.{flat_map};
 ghost use Rattle.size_core.specs.declared.fault.BadFile.{BadFile as BadFileSpec};
 ghost use Rattle.claim_sheet.specs.Adds.{Adds, AddsRead};
@@ -8,22 +8,11 @@ ghost use Rattle.wasm_file.specs.Shown.{body as body_of};
 ghost use Rattle.wasm_file.specs.Functions.{functions_of};
 ghost use Rattle.wasm_claims.specs.Claims.{body_claim, symbols_claims};
 
-use claim_sheet::{ClaimSheet, Reach, Stop, Wrap, append, span};
-use itoa::Buffer;
+use crate::label::numbered_label;
+use claim_sheet::{ClaimSheet, Reach, Stop, Wrap, span};
 use size_core::NoMemory;
 use std::alloc::Global;
 use wasm_file::{Body, WasmAnswer, WasmFile};
-
-// Returns the label of a function without a name.
-fn numbered_label(alloc: Global, index: u32) -> Result<Vec<u8>, NoMemory>
-    ensures { IfOk result (λ v. v.items ≡ codes "func[" ++ decimal index ++ codes "]") }
-{
-    let mut text = Vec::new(alloc);
-    append(&mut text, b"func[")?;
-    append(&mut text, Buffer::new().format(index).as_bytes())?;
-    append(&mut text, b"]")?;
-    Ok(text)
-}
 
 #[tactic(auto, unfolding(crate::specs::Claims::body_claim))]
 fn add_body(alloc: Global, body: &Body<'_>, sheet: &mut ClaimSheet) -> Result<(), NoMemory>
@@ -33,7 +22,7 @@ fn add_body(alloc: Global, body: &Body<'_>, sheet: &mut ClaimSheet) -> Result<()
     match body.name {
         Some(name) => sheet.add(reach, Wrap::Plain, name),
         None => {
-            let label = numbered_label(alloc, body.index)?;
+            let label = numbered_label(alloc, b"func[", body.index)?;
             sheet.add(reach, Wrap::Plain, &label)
         }
     }
@@ -70,6 +59,5 @@ pub fn add_symbols(alloc: Global, file: &WasmFile<'_>, sheet: &mut ClaimSheet) -
     ensures { AddsRead result sheet.old sheet.new (symbols_claims file.now) }
 {
     let bodies = functions_of(alloc, file)?;
-    add_bodies(alloc, &bodies, sheet)?;
-    Ok(())
+    add_bodies(alloc, &bodies, sheet).map_err(Stop::from)
 }
