@@ -1,5 +1,6 @@
 pub mod KnownLemmas
 pub mod ListLemmas
+pub mod LongNameLemmas
 pub mod LoopLemmas
 pub mod MadeLemmas
 pub mod SheetLemmas

@@ -6,6 +6,7 @@
 mod known;
 mod labels;
 mod loads;
+mod long_names;
 mod push;
 mod reach;
 mod sheet;
@@ -14,6 +15,7 @@ mod stop;
 pub use known::KnownLabel;
 pub use labels::{Wrap, append, or_if_empty};
 pub use loads::push_load;
+pub use long_names::{LONG_NAME, LongNames};
 pub use reach::{Reach, span};
 pub use sheet::{ClaimSheet, TooMany};
 pub use stop::Stop;

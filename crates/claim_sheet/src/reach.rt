@@ -6,7 +6,7 @@ ghost use Rattle.claim_sheet.specs.Reaches.{is_empty, span, in_file, in_memory, 
 use size_core::{Load, Side, Span};
 
 /// The bytes of the file and the virtual addresses that a claim covers.
-#[derive(Clone, Copy, Debug, PartialEq, Eq)]
+#[derive(Clone, Copy)]
 pub struct Reach {
     /// Which of the two spans the claim names.
     pub side: Side,

@@ -4,24 +4,13 @@ use Rattle.std.specs.Prelude.{if◌then◌else◌}
 use Rattle.std.specs.BTreeMap.{BTreeMap, Updates, get}
 use Rattle.std.specs.Cmp.{unsigned_tied}
 use Rattle.std.specs.Global.{Vec}
-use Rattle.std.specs.List.{list_any}
 use Rattle.std.specs.Option.{is_some, option_map}
 use Rattle.std.specs.Ordering.{nat_cmp}
 use Rattle.std.proofs.lemmas.List.{append-nil}
 use Rattle.dwarf_abbrev.specs.declared.spec.Spec.{Spec}
 use Rattle.dwarf_abbrev.specs.Declarations.{Declaration, declared}
-use Rattle.dwarf_abbrev.specs.Values.{TakesNoBytes}
-use Rattle.dwarf_units.specs.Filling.{AreRootsOf, GiveSameRoots, IsIndexOf, IsUnread, filled_from, specs_at}
-use Rattle.dwarf_units.proofs.SameRoots.{without_again, without_unread}
-use Rattle.dwarf_claims.specs.declared.index.Needed.{Needed}
-use Rattle.dwarf_claims.specs.Indexes.{AreAmong, GiveTheSame, HasEntry, IsFilled, IsFound, TakesSpec}
-
--- an attribute that is left out
-pub leaves_unread : {old : Needed} {s : Spec} → TakesNoBytes s → IsUnread s.attribute → AreAmong old.bare.items old.specs.items → TakesSpec old old s
-leaves_unread {old} {s} none unread among = record { roots = λ rest. without_unread s old.specs.items rest none unread; bare = among }
-
-pub leaves_again : {old : Needed} {s : Spec} → TakesNoBytes s → list_any (λ m. m == s.attribute) old.bare.items ≡ true → AreAmong old.bare.items old.specs.items → TakesSpec old old s
-leaves_again {old} {s} none again among = record { roots = λ rest. without_again s old.specs.items rest none (among s.attribute again); bare = among }
+use Rattle.dwarf_units.specs.Filling.{AreRootsOf, GiveSameRoots, IsIndexOf, filled_from, specs_at}
+use Rattle.dwarf_claims.specs.Indexes.{GiveTheSame, HasEntry, IsFilled, IsFound}
 
 -- all attributes of a declaration
 pub same_goes : (s : Spec) (old new xs ys all : List Spec) → GiveTheSame old s new → ys ≡ s ∷ xs → GiveSameRoots (old ++ ys) all → GiveSameRoots (new ++ xs) all

@@ -1,9 +1,9 @@
 //! An index of a table of abbreviations. It finds the declaration of a unit's root without a search of the table, and
 //! leaves out the attributes that change nothing in a root.
 
-ghost use Rattle.std.specs.Prelude.{IfOk, OnOk};
+ghost use Rattle.std.specs.Prelude.{◌≡◌, true, IfOk, OnOk};
 ghost use Rattle.dwarf_units.specs.Filling.{GiveSameRoots, IsIndexOf, specs_at};
-ghost use Rattle.dwarf_claims.specs.Indexes.{AreAmong, HasEntry, TakesSpec};
+ghost use Rattle.dwarf_claims.specs.Indexes.{AreAmong, GiveTheSame, HasEntry, TakesSpec};
 
 use dwarf_abbrev::{Abbrevs, Entry, Spec};
 use dwarf_units::is_read;
@@ -21,25 +21,31 @@ pub struct Needed {
     pub bare: Vec<u64>,
 }
 
-// Adds the next attribute of a declaration, unless it changes nothing. It changes nothing if it takes no bytes, and
-// either no root keeps its value or the same attribute came before it.
+// Returns whether one more attribute changes nothing in a root. It changes nothing if it takes no bytes, and either no
+// root keeps its value or the same attribute came before it.
+fn changes_nothing(needed: &Needed, spec: Spec) -> bool
+    requires { AreAmong needed.now.bare.items needed.now.specs.items }
+    ensures { result ≡ true
+        → GiveTheSame needed.now.specs.items spec needed.now.specs.items }
+{
+    if spec.has_bytes() {
+        return false;
+    }
+    !is_read(spec.attribute) || needed.bare.contains(&spec.attribute)
+}
+
+// Adds the next attribute of a declaration, unless it changes nothing.
 fn add_spec(needed: &mut Needed, spec: Spec) -> Result<(), NoMemory>
     requires { AreAmong needed.old.bare.items needed.old.specs.items }
     ensures { OnOk result (TakesSpec needed.old needed.new spec) }
 {
-    if spec.has_bytes() {
-        needed.specs.push(spec)?;
+    if changes_nothing(needed, spec) {
         return Ok(());
     }
-    if !is_read(spec.attribute) {
-        return Ok(());
+    if !spec.has_bytes() {
+        needed.bare.push(spec.attribute)?;
     }
-    if needed.bare.contains(&spec.attribute) {
-        return Ok(());
-    }
-    needed.bare.push(spec.attribute)?;
-    needed.specs.push(spec)?;
-    Ok(())
+    needed.specs.push(spec).map_err(NoMemory::from)
 }
 
 /// Returns the attributes of a declaration that its roots depend on.

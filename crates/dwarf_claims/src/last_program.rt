@@ -46,7 +46,7 @@ fn add_again(last: &LastProgram, sheet: &mut ClaimSheet) -> Result<(), Stop>
 struct NamedProgram {
     // Its offset in `.debug_line`.
     offset: u64,
-    // The file offset for the fault of an offset outside the section.
+    // The file offset that the fault reports if `offset` is outside the section.
     place: u64,
     // The shape of the unit.
     shape: UnitShape,
@@ -66,19 +66,22 @@ fn read_program(
     ensures program { IfOk result (λ p. IsAddedProgram sections.now sheet.new p) }
 {
     let first = sheet.len();
-    let shape = named.shape;
-    let program = LineProgram::at(sections, named.offset, named.place, &shape)?;
-    let unit = UnitProgram {
-        program: &program,
-        size: shape.address,
-    };
-    unit.add_claims(alloc, sheet)?;
-    Ok(LastProgram {
-        offset: named.offset,
-        shape,
-        first,
-        end: sheet.len(),
-    })
+    match LineProgram::at(sections, named.offset, named.place, &named.shape) {
+        Ok(program) => {
+            let unit = UnitProgram {
+                program: &program,
+                size: named.shape.address,
+            };
+            unit.add_claims(alloc, sheet)?;
+            Ok(LastProgram {
+                offset: named.offset,
+                shape: named.shape,
+                first,
+                end: sheet.len(),
+            })
+        }
+        Err(bad) => Err(Stop::Bad(bad)),
+    }
 }
 
 /// Adds the claims of the line program that a unit names, if it names one. The program that was read last isn't read

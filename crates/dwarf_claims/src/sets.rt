@@ -46,11 +46,13 @@ fn add_set(
     requires { AreReadUnits sheet.old.made units.now }
     ensures { AddsRead result sheet.old sheet.new (set_claims (shown_units units.now) set.entry) }
 {
-    let set = set?;
-    let Some(label) = label_at(units, set.info_offset) else {
-        return Ok(());
-    };
-    add_named(set, label, sheet).map_err(Stop::from)
+    match set {
+        Ok(set) => match label_at(units, set.info_offset) {
+            Some(label) => add_named(set, label, sheet).map_err(Stop::from),
+            None => Ok(()),
+        },
+        Err(bad) => Err(Stop::Bad(bad)),
+    }
 }
 
 /// Adds the claims of the address sets, in order, each under the label of its unit. Bad is the fault that ends them.

@@ -36,7 +36,8 @@ struct UnitWithRoot<'r, 'a> {
 // What a unit claims: its ranges of addresses, its bytes, its table of abbreviations and its line program.
 #[derive(Clone, Copy)]
 struct UnitParts<'r, 'a> {
-    with_root: UnitWithRoot<'r, 'a>,
+    unit: &'r DwarfUnit<'a>,
+    root: &'r Root<'a>,
     ranges: &'r [(u64, u64)],
     program: Option<Span>,
 }
@@ -78,12 +79,11 @@ impl UnitParts<'_, '_> {
     fn add(self, label: &mut KnownLabel<'_>, sheet: &mut ClaimSheet) -> Result<(), NoMemory>
         requires { IsKnown sheet.old.made label.old }
         ensures { AddsUnder label.old label.new result sheet.old sheet.new
-            (told_claims self.entry.with_root.unit.now (shown_root self.entry.with_root.root.now)
+            (told_claims self.entry.unit.now (shown_root self.entry.root.now)
             label.old.text.now self.entry.ranges.now self.entry.program) }
     {
-        let UnitWithRoot { unit, root } = self.with_root;
-        let unit = Reach::in_file(span(0, unit.place, unit.len));
-        let table = Reach::in_file(span(0, root.table_place, root.table_len));
+        let unit = Reach::in_file(span(0, self.unit.place, self.unit.len));
+        let table = Reach::in_file(span(0, self.root.table_place, self.root.table_len));
         add_ranges(self.ranges, label, sheet)?;
         sheet.add_known(unit, label)?;
         sheet.add_known(table, label)?;
@@ -112,7 +112,8 @@ fn add_unit_with_root<'a>(
     read_ranges(alloc, sections, with_root.root, &mut last.ranges)?;
     let program = program_bytes(sections, unit_program(with_root.root))?;
     let parts = UnitParts {
-        with_root,
+        unit: with_root.unit,
+        root: with_root.root,
         ranges: last.ranges.ranges.as_slice(),
         program,
     };
@@ -134,7 +135,11 @@ pub fn add_unit<'a>(
     requires { IsUnitOf sections.now sheet.old last.old }
     ensures { AddsUnit sections.now unit.now result sheet.old sheet.new last.new }
 {
-    let root = root_of(alloc, sections, unit, &mut last.tables)?;
-    let with_root = UnitWithRoot { unit, root: &root };
-    add_unit_with_root(alloc, sections, with_root, last, sheet)
+    match root_of(alloc, sections, unit, &mut last.tables) {
+        Ok(root) => {
+            let with_root = UnitWithRoot { unit, root: &root };
+            add_unit_with_root(alloc, sections, with_root, last, sheet)
+        }
+        Err(stop) => Err(stop),
+    }
 }

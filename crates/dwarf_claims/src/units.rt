@@ -1,6 +1,6 @@
 //! The claims of the units of `.debug_info` and of the sets of `.debug_aranges`.
 
-ghost use Rattle.std.specs.Prelude.{◌≡◌, Ok, ◌++◌, ◌∷◌, [], List, IfOk, OnOk};
+ghost use Rattle.std.specs.Prelude.{◌≡◌, Ok, ◌++◌, List, IfOk, OnOk};
 ghost use Rattle.size_model.specs.declared.view.LabelledClaim.{LabelledClaim};
 ghost use Rattle.claim_sheet.specs.Adds.{AddsRead};
 ghost use Rattle.claim_sheet.specs.Known.{IsKnown};
@@ -27,12 +27,6 @@ struct ReadUnits<'a> {
     last: LastUnit<'a>,
 }
 
-fn keep<'a>(units: &mut Vec<KnownUnit<'a>>, unit: KnownUnit<'a>) -> Result<(), NoMemory>
-    ensures { OnOk result (units.new.items ≡ units.old.items ++ unit.entry ∷ []) }
-{
-    units.push(unit).map_err(NoMemory::from)
-}
-
 // Adds the claims of a unit and keeps its label. Bad is the first fault of the unit, or the fault that ends the units.
 #[tactic(auto, using(crate::proofs::KnownLemmas::units_more), unfolding(crate::specs::SetClaims::labelled))]
 fn add_item<'a>(
@@ -50,10 +44,16 @@ fn add_item<'a>(
     ensures known { OnOk result (AreKnownUnits sheet.new.made units.new.known.items) }
     ensures last { OnOk result (IsUnitOf sections.now sheet.new units.new.last) }
 {
-    let unit = unit?;
-    let label = add_unit(alloc, sections, &unit, &mut units.last, sheet)?;
-    let offset = unit.offset;
-    keep(&mut units.known, KnownUnit { offset, label }).map_err(Stop::from)
+    match unit {
+        Ok(unit) => {
+            let label = add_unit(alloc, sections, &unit, &mut units.last, sheet)?;
+            let offset = unit.offset;
+            let pushed = units.known.push(KnownUnit { offset, label });
+            pushed.map_err(NoMemory::from)?;
+            Ok(())
+        }
+        Err(bad) => Err(Stop::Bad(bad)),
+    }
 }
 
 // Adds the claims of all units, in order, and returns their offsets and labels.

@@ -6,7 +6,7 @@ use Rattle.claim_sheet.specs.Known.{IsKnown}
 use Rattle.claim_sheet.specs.Sheets.{Sheet, adding}
 use Rattle.elf_symbols.specs.Names.{symbol_name}
 use Rattle.elf_symbols.specs.Symbols.{symbol_at}
-use Rattle.long_names.proofs.NameLemmas.{known_after}
+use Rattle.claim_sheet.proofs.LongNameLemmas.{known_after}
 use Rattle.elf_claims.specs.declared.symbol_names.SymbolNames.{SymbolNames}
 use Rattle.elf_claims.specs.KnownSymbols.{AreLabelsOn, AreNamed, AreNamesOf}
 use Rattle.elf_claims.specs.SymbolClaims.{symbol_claim}

@@ -6,7 +6,7 @@ use Rattle.claim_sheet.specs.declared.known.KnownLabel.{KnownLabel}
 use Rattle.claim_sheet.specs.Known.{IsKnown}
 use Rattle.elf_symbols.specs.declared.symbol.NameOffset.{NameOffset}
 use Rattle.elf_symbols.specs.Names.{IsNameAt, name_offset, name_place}
-use Rattle.long_names.specs.Names.{AreKnownNames, AreNames}
+use Rattle.claim_sheet.specs.LongNames.{AreKnownNames, AreNames}
 use Rattle.elf_claims.specs.declared.known_symbols.KnownSymbols.{KnownSymbols}
 use Rattle.elf_claims.specs.declared.symbol_names.SymbolNames.{SymbolNames}
 

@@ -6,13 +6,12 @@ ghost use Rattle.size_model.specs.declared.view.LabelledClaim.{LabelledClaim};
 ghost use Rattle.claim_sheet.specs.Known.{IsKnown};
 ghost use Rattle.elf_symbols.specs.Names.{name_offset, symbol_name};
 ghost use Rattle.elf_symbols.specs.Symbols.{symbol_count};
-ghost use Rattle.long_names.specs.Names.{AreKnownNames, AreNames};
+ghost use Rattle.claim_sheet.specs.LongNames.{AreKnownNames, AreNames};
 ghost use Rattle.elf_claims.specs.KnownSymbols.{AreLabelsOn, AreNamed, AreNamesOf, IsLabelOf};
 
-use claim_sheet::{KnownLabel, Stop};
+use claim_sheet::{KnownLabel, LongNames, Stop};
 use elf_file::ElfFile;
 use elf_symbols::{NameOffset, SymbolTable};
-use long_names::LongNames;
 use size_core::BadFile;
 use std::alloc::Global;
 
@@ -40,7 +39,7 @@ fn is_last(last: Option<NameOffset>, name: NameOffset) -> bool
 }
 
 // Returns the label of symbol `k`. A name that is kept isn't read again. The fault is that of the name.
-#[tactic(auto, using(long_names::proofs::NameLemmas::found_known))]
+#[tactic(auto, using(claim_sheet::proofs::LongNameLemmas::found_known))]
 fn label_of<'a>(
     long: &LongNames<'a>,
     table: &SymbolTable<'a>,

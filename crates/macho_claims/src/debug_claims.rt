@@ -15,8 +15,10 @@ use std::alloc::Global;
 pub fn add_units(alloc: Global, file: &MachoFile<'_>, sheet: &mut ClaimSheet) -> Result<(), Stop>
     ensures { AddsRead result sheet.old sheet.new (units_claims file.now) }
 {
-    let sections = debug_sections(file)?;
-    dwarf_claims::add_units(alloc, &sections, sheet)
+    match debug_sections(file) {
+        Ok(sections) => dwarf_claims::add_units(alloc, &sections, sheet),
+        Err(bad) => Err(Stop::Bad(bad)),
+    }
 }
 
 /// Adds the claims of the source lines. Bad is the fault of `debug_sections`, or else that of
@@ -25,6 +27,8 @@ pub fn add_units(alloc: Global, file: &MachoFile<'_>, sheet: &mut ClaimSheet) ->
 pub fn add_lines(alloc: Global, file: &MachoFile<'_>, sheet: &mut ClaimSheet) -> Result<(), Stop>
     ensures { AddsRead result sheet.old sheet.new (lines_claims file.now) }
 {
-    let sections = debug_sections(file)?;
-    dwarf_claims::add_lines(alloc, &sections, sheet)
+    match debug_sections(file) {
+        Ok(sections) => dwarf_claims::add_lines(alloc, &sections, sheet),
+        Err(bad) => Err(Stop::Bad(bad)),
+    }
 }

@@ -5,7 +5,7 @@ ghost use Rattle.macho_file.specs.Shown.{section_shown};
 ghost use Rattle.claim_sheet.specs.Adds.{Adds};
 ghost use Rattle.macho_claims.specs.Claims.{section_claim, section_claims, section_label, section_reach};
 
-use claim_sheet::{ClaimSheet, Reach, Wrap, append, span};
+use claim_sheet::{ClaimSheet, Reach, Wrap, span};
 use macho_file::{MachoFile, MachoSection};
 use size_core::NoMemory;
 use std::alloc::Global;
@@ -27,11 +27,8 @@ fn section_reach(section: &MachoSection<'_>) -> Reach
 fn section_label(alloc: Global, section: &MachoSection<'_>) -> Result<Vec<u8>, NoMemory>
     ensures { IfOk result (λ v. v.items ≡ section_label (section_shown section.now)) }
 {
-    let mut text = Vec::new(alloc);
-    append(&mut text, section.segment)?;
-    append(&mut text, b",")?;
-    append(&mut text, section.name)?;
-    Ok(text)
+    let parts = [section.segment, b",", section.name];
+    parts.concat(alloc).map_err(NoMemory::from)
 }
 
 #[tactic(auto, unfolding(crate::specs::Claims::section_claim))]

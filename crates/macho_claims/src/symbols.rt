@@ -10,11 +10,10 @@ ghost use Rattle.macho_symbols.specs.Shown.{named_shown};
 ghost use Rattle.macho_file.specs.Spans.{spans};
 ghost use Rattle.claim_sheet.specs.Adds.{Adds, AddsRead};
 ghost use Rattle.claim_sheet.specs.Known.{IsKnown};
-ghost use Rattle.long_names.specs.Names.{AreKnownNames, AreNames};
+ghost use Rattle.claim_sheet.specs.LongNames.{AreKnownNames, AreNames};
 ghost use Rattle.macho_claims.specs.SymbolClaims.{span_claim, symbols_claims};
 
-use claim_sheet::{ClaimSheet, KnownLabel, Reach, Stop, span};
-use long_names::LongNames;
+use claim_sheet::{ClaimSheet, KnownLabel, LongNames, Reach, Stop, span};
 use macho_file::{MachoFile, NamedSpan, SpanAnswer};
 use size_core::NoMemory;
 use std::alloc::Global;
@@ -33,7 +32,7 @@ fn spans_of<'a>(alloc: Global, file: &MachoFile<'a>) -> Result<Vec<NamedSpan<'a>
 }
 
 // Returns the label of a span. A long name that an earlier span has isn't looked up again.
-#[tactic(auto, using(long_names::proofs::NameLemmas::found_known))]
+#[tactic(auto, using(claim_sheet::proofs::LongNameLemmas::found_known))]
 fn label_of<'a>(symbol: &NamedSpan<'a>, names: &LongNames<'a>) -> KnownLabel<'a>
     requires names { AreNames names.now }
     requires name { text names.now.file.now symbol.now.name_place ≡ Some symbol.now.name.now }

@@ -4,7 +4,7 @@ ghost use Rattle.std.specs.Prelude.{◌≡◌};
 ghost use Rattle.std.specs.Option.{option_copied};
 ghost use Rattle.claim_sheet.specs.Adds.{Adds};
 ghost use Rattle.wasm_file.specs.Shown.{section as section_of};
-ghost use Rattle.wasm_claims.specs.Claims.{known_label, or_else, section_claim, section_claims, standard_name};
+ghost use Rattle.wasm_claims.specs.Claims.{known_label, section_claim, section_claims, standard_name};
 
 use crate::label::numbered_label;
 use claim_sheet::{ClaimSheet, Reach, Wrap, span};
@@ -36,22 +36,12 @@ fn standard_name(id: u8) -> Option<&'static [u8]>
     }
 }
 
-/// Returns the name, or the other one if there is none.
-pub fn or_else<'a>(name: Option<&'a [u8]>, other: &'a [u8]) -> &'a [u8]
-    ensures { result.now ≡ or_else (option_copied name.entry) other.now }
-{
-    match name {
-        Some(name) => name,
-        None => other,
-    }
-}
-
 // Returns the label of a custom section, or of one whose id is in the standard.
 fn known_label<'a>(section: &WasmSection<'a>) -> Option<&'a [u8]>
     ensures { option_copied result ≡ known_label (section_of section.now) }
 {
     if section.id == CUSTOM {
-        return Some(or_else(section.name, b"[Custom]"));
+        return Some(section.name.unwrap_or(b"[Custom]"));
     }
     standard_name(section.id)
 }

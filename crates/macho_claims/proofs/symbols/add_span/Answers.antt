@@ -1,5 +1,5 @@
 -- The labels that were known are known after the claim of the span, and so is its own.
-use Rattle.long_names.proofs.NameLemmas.{known_after}
+use Rattle.claim_sheet.proofs.LongNameLemmas.{known_after}
 use Rattle.macho_claims.proofs.symbols.add_span.Goals as goal
 
 pub returns-clause-known : goal.returns-clause-known

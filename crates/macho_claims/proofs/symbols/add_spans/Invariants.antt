@@ -2,7 +2,7 @@ use Rattle.std.proofs.Common.{◌≡◌, drop, map}
 use Rattle.std.specs.List.{flat_map}
 use Rattle.macho_symbols.specs.Shown.{named_shown}
 use Rattle.claim_sheet.specs.Sheets.{adding}
-use Rattle.long_names.specs.Names.{AreKnownNames, AreNames}
+use Rattle.claim_sheet.specs.LongNames.{AreKnownNames, AreNames}
 use Rattle.macho_claims.specs.SymbolClaims.{span_claim}
 use Rattle.macho_claims.proofs.symbols.add_spans.Given as goal
 

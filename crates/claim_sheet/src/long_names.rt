@@ -1,12 +1,13 @@
-//! Long names by their file offsets.
+//! The labels of the long names of a file. Symbols or sections may share a name, which may take as long as the file to
+//! read and to look up. A long name is known by its file offset, so that it is read and looked up once.
 
 ghost use Rattle.std.specs.Prelude.{◌≡◌, ◌<◌, ◌≤◌, List, Some, IfSome, OnOk, length};
 ghost use Rattle.size_model.specs.declared.view.LabelledClaim.{LabelledClaim};
 ghost use Rattle.byte_cursor.specs.Numbers.{text};
 ghost use Rattle.claim_sheet.specs.Known.{IsKnown};
-ghost use Rattle.long_names.specs.Names.{AreKnownNames, AreNames, label_at};
+ghost use Rattle.claim_sheet.specs.LongNames.{AreKnownNames, AreNames, label_at};
 
-use claim_sheet::KnownLabel;
+use crate::known::KnownLabel;
 use size_core::NoMemory;
 use std::alloc::Global;
 use std::collections::BTreeMap;
@@ -26,7 +27,7 @@ pub struct LongNames<'a> {
 
 impl<'a> LongNames<'a> {
     /// Returns an empty set of names of a file.
-    #[tactic(auto, using(crate::proofs::NameLemmas::no_names, crate::proofs::NameLemmas::none_known))]
+    #[tactic(auto, using(crate::proofs::LongNameLemmas::no_names, crate::proofs::LongNameLemmas::none_known))]
     pub fn new(alloc: Global, file: &'a [u8]) -> LongNames<'a>
         ensures file { result.file.now ≡ file.now }
         ensures names { AreNames result }
@@ -39,7 +40,7 @@ impl<'a> LongNames<'a> {
     }
 
     /// Returns the label of the name at a file offset, if it is kept.
-    #[tactic(auto, using(crate::proofs::NameLemmas::empty_at, crate::proofs::NameLemmas::found_name))]
+    #[tactic(auto, using(crate::proofs::LongNameLemmas::empty_at, crate::proofs::LongNameLemmas::found_name))]
     pub fn label_at(&self, offset: u64) -> Option<KnownLabel<'a>>
         ensures label { result ≡ label_at self.now offset }
         ensures name { AreNames self.now
@@ -53,7 +54,7 @@ impl<'a> LongNames<'a> {
     }
 
     /// Keeps the label of the name at a file offset, if the name is long.
-    #[tactic(auto, using(crate::proofs::NameLemmas::names_same, crate::proofs::NameLemmas::names_put, crate::proofs::NameLemmas::known_put))]
+    #[tactic(auto, using(crate::proofs::LongNameLemmas::names_same, crate::proofs::LongNameLemmas::names_put, crate::proofs::LongNameLemmas::known_put))]
     pub fn keep(&mut self, offset: u64, label: KnownLabel<'a>) -> Result<(), NoMemory>
         requires names { AreNames self.old }
         requires name { 0 < length label.text.now

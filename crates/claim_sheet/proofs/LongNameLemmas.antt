@@ -10,8 +10,8 @@ use Rattle.claim_sheet.specs.declared.known.KnownLabel.{KnownLabel}
 use Rattle.claim_sheet.specs.Known.{IsKnown}
 use Rattle.claim_sheet.specs.Sheets.{Sheet, adding}
 use Rattle.claim_sheet.proofs.KnownLemmas.{known_after as label_after}
-use Rattle.long_names.specs.declared.names.LongNames.{LongNames}
-use Rattle.long_names.specs.Names.{AreKnownNames, AreNames, label_at}
+use Rattle.claim_sheet.specs.declared.long_names.LongNames.{LongNames}
+use Rattle.claim_sheet.specs.LongNames.{AreKnownNames, AreNames, label_at}
 
 abbrev Labels : Type 0
 Labels = BTreeMap ℕ KnownLabel

@@ -6,7 +6,7 @@ use Rattle.size_model.specs.declared.view.LabelledClaim.{LabelledClaim}
 use Rattle.byte_cursor.specs.Numbers.{text}
 use Rattle.claim_sheet.specs.declared.known.KnownLabel.{KnownLabel}
 use Rattle.claim_sheet.specs.Known.{IsKnown}
-use Rattle.long_names.specs.declared.names.LongNames.{LongNames}
+use Rattle.claim_sheet.specs.declared.long_names.LongNames.{LongNames}
 
 -- The label that is kept for a file offset, if there is one.
 abbrev pub label_at : LongNames → ℕ → Option KnownLabel
