@@ -1,6 +1,7 @@
 pub mod Answers
 pub mod Groups
 pub mod Kind
+pub mod Lists
 pub mod Loads
 pub mod Opened
 pub mod Sources

@@ -1,15 +1,14 @@
 //! The claims of a data source on a debug file: those on the addresses of the stripped file that it belongs to.
 
-ghost use Rattle.std.specs.Prelude.{◌≡◌, ◌<◌, ◌≤◌, length, Ok, Err, IfOk, IsErrOf, IsOkAnd};
-ghost use Rattle.size_core.specs.declared.fault.BadFile.{BadFile};
 ghost use Rattle.claim_sheet.specs.Adds.{AddsRead};
-ghost use Rattle.claim_sheet.specs.Made.{AreNumbered, AreUsed, KeepsLabels, texts};
 ghost use Rattle.data_sources.specs.Groups.{groups_of};
+ghost use Rattle.data_sources.specs.Lists.{Lists};
 ghost use Rattle.data_sources.specs.Sources.{debug_claims_of, debug_records};
 
 use crate::answer::ClaimAnswer;
 use crate::binary::Binary;
 use crate::groups::FileClaims;
+use crate::listing::finish;
 use claim_sheet::{ClaimSheet, Stop};
 use size_core::{Claim, LabelPool, Source};
 use std::alloc::Global;
@@ -44,24 +43,13 @@ pub fn debug_claims(
     pool: &mut LabelPool,
     limit: u64,
 ) -> Result<Vec<Claim>, ClaimAnswer>
-    ensures claims { IfOk result (λ v. debug_claims_of source binary.now
-        ≡ Ok (texts pool.new v.items)) }
-    ensures numbered { IfOk result (λ v. AreNumbered pool.new v.items) }
-    ensures used { IfOk result (λ v. AreUsed (length pool.old) pool.new v.items) }
-    ensures few { IfOk result (λ v. length v.items ≤ limit) }
-    ensures many { IsErrOf result ClaimAnswer.TooManyClaims
-        → IsOkAnd (debug_claims_of source binary.now) (λ made. limit < length made) }
-    ensures bad { (bad : BadFile) → IsErrOf result (ClaimAnswer.Bad bad)
-        → debug_claims_of source binary.now ≡ Err bad }
-    ensures kept { KeepsLabels pool.old pool.new }
+    ensures { Lists (debug_claims_of source binary.now) limit result pool.old pool.new }
 {
     let mut sheet = ClaimSheet::begin_on_addresses(alloc, pool, limit);
-    let answer = FileClaims {
+    let walk = FileClaims {
         alloc,
         file: binary,
     }
     .add_debug_records(source, &mut sheet);
-    let made = sheet.finish(pool);
-    answer?;
-    Ok(made?)
+    finish(sheet, walk, pool)
 }

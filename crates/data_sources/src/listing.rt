@@ -1,10 +1,9 @@
 //! The claims of a data source on a file.
 
-ghost use Rattle.std.specs.Prelude.{◌≡◌, ◌<◌, ◌≤◌, length, Ok, Err, IfOk, IsErrOf, IsOkAnd};
-ghost use Rattle.size_core.specs.declared.fault.BadFile.{BadFile};
+ghost use Rattle.std.specs.Prelude.{ℕ};
 ghost use Rattle.claim_sheet.specs.Adds.{Adds, AddsRead};
-ghost use Rattle.claim_sheet.specs.Made.{AreNumbered, AreUsed, KeepsLabels, texts};
-ghost use Rattle.data_sources.specs.Groups.{groups_of};
+ghost use Rattle.data_sources.specs.Groups.{Reading, groups_of};
+ghost use Rattle.data_sources.specs.Lists.{Fills, Lists};
 ghost use Rattle.data_sources.specs.Sources.{claims_of, parts_claims, records_of, segments_claims, with_tail};
 
 use crate::answer::ClaimAnswer;
@@ -76,6 +75,20 @@ impl FileClaims<'_, '_> {
     }
 }
 
+// Returns the claims of a sheet after the walk over its records. The fault of the walk comes before too many claims.
+pub(crate) fn finish(
+    sheet: ClaimSheet,
+    walk: Result<(), Stop>,
+    pool: &mut LabelPool,
+) -> Result<Vec<Claim>, ClaimAnswer>
+    ensures { (reading : Reading) (limit : ℕ) → Fills reading limit walk sheet
+        → Lists reading limit result sheet.pool pool.new }
+{
+    let made = sheet.finish(pool);
+    walk?;
+    Ok(made?)
+}
+
 /// Returns the claims of a data source on a file, in order. Labels are numbers in the pool; `name` is the name of the
 /// file, which is the label of InputFiles.
 ///
@@ -89,24 +102,13 @@ pub fn claims(
     pool: &mut LabelPool,
     limit: u64,
 ) -> Result<Vec<Claim>, ClaimAnswer>
-    ensures claims { IfOk result (λ v. claims_of source name.now binary.now
-        ≡ Ok (texts pool.new v.items)) }
-    ensures numbered { IfOk result (λ v. AreNumbered pool.new v.items) }
-    ensures used { IfOk result (λ v. AreUsed (length pool.old) pool.new v.items) }
-    ensures few { IfOk result (λ v. length v.items ≤ limit) }
-    ensures many { IsErrOf result ClaimAnswer.TooManyClaims
-        → IsOkAnd (claims_of source name.now binary.now) (λ made. limit < length made) }
-    ensures bad { (bad : BadFile) → IsErrOf result (ClaimAnswer.Bad bad)
-        → claims_of source name.now binary.now ≡ Err bad }
-    ensures kept { KeepsLabels pool.old pool.new }
+    ensures { Lists (claims_of source name.now binary.now) limit result pool.old pool.new }
 {
     let mut sheet = ClaimSheet::begin(alloc, pool, limit);
-    let answer = FileClaims {
+    let walk = FileClaims {
         alloc,
         file: binary,
     }
     .add_source(source, name, &mut sheet);
-    let made = sheet.finish(pool);
-    answer?;
-    Ok(made?)
+    finish(sheet, walk, pool)
 }

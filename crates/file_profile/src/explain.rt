@@ -124,6 +124,31 @@ fn explain_all(
     Ok(all)
 }
 
+// Explains a location of an opened file by each data source of the plan.
+#[tactic(auto, unfolding(crate::specs::Explanations::opened_explained))]
+fn explain_opened(
+    plan: &Plan,
+    names: &Names,
+    request: &Request,
+    subject: &Subject,
+    limit: u64,
+) -> Result<Vec<PlaceSource>, PlaceAnswer>
+    requires names { length names.now ≡ length plan.now.sources }
+    ensures { Explains result
+        (opened_explained limit request.now.shown request.now.place subject.now
+        (named_sources names.now plan.now.sources)) }
+{
+    if !is_inside(subject.base(), subject.base().len(), &request.place) {
+        return Err(PlaceAnswer::PlaceOutside);
+    }
+    let made = explain_all(plan, names, request, subject, limit)?;
+    // A fault of a data source comes before a mapped size that is too large.
+    if subject.base().mapped_size() > (1 << 63) - 1 {
+        return Err(PlaceAnswer::MappedTooLarge);
+    }
+    Ok(made)
+}
+
 /// Explains a location of the file `name` by each data source of the plan: its label and the claims that cover it.
 /// `names` are the data sources' names in `-d`. If `shown` is 0, all these claims are kept, otherwise the first and up
 /// to `shown` more.
@@ -139,7 +164,7 @@ fn explain_all(
 /// - `MappedTooLarge`: the mapped size of the file exceeds 2^63 - 1.
 ///
 /// `NoMemory` may come at any step.
-#[tactic(auto, unfolding(crate::specs::Explanations::explained_place, crate::specs::Explanations::opened_explained))]
+#[tactic(auto, unfolding(crate::specs::Explanations::explained_place))]
 pub fn explain_place(
     alloc: Global,
     plan: &Plan,
@@ -162,13 +187,5 @@ pub fn explain_place(
         place: *place,
         shown,
     };
-    if !is_inside(subject.base(), subject.base().len(), &request.place) {
-        return Err(PlaceAnswer::PlaceOutside);
-    }
-    let made = explain_all(plan, names, &request, &subject, limits.claims)?;
-    // A fault of a data source comes before a mapped size that is too large.
-    if subject.base().mapped_size() > (1 << 63) - 1 {
-        return Err(PlaceAnswer::MappedTooLarge);
-    }
-    Ok(made)
+    explain_opened(plan, names, &request, &subject, limits.claims)
 }

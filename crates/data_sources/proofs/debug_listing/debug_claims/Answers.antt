@@ -1,14 +1,14 @@
--- In the end the sheet has all claims on addresses, or there are more than the limit.
-use Rattle.std.proofs.Common.{◌∙◌, sym, ap}
-use Rattle.std.specs.Prelude.{Ok}
+-- The sheet began empty and took the claims of the records on addresses.
+use Rattle.std.proofs.Common.{◌∙◌, ap}
+use Rattle.std.proofs.lemmas.Result.{on_ok_weaker}
+use Rattle.claim_sheet.specs.Sheets.{read_on_addresses}
 use Rattle.claim_sheet.proofs.LoopLemmas.{ended_on_addresses}
+use Rattle.data_sources.specs.Lists.{IsRead}
 use Rattle.data_sources.proofs.debug_listing.debug_claims.Goals as goal
 
-pub returns-in_err-made-clause-many : goal.returns-in_err-made-clause-many
-returns-in_err-made-clause-many c = λ e. (ended_on_addresses _ c.args.limit _ _ _ c.begin_on_addresses-sheet.ensures.sheet c.in_ok-answer.ensures.made).past c.in_err-made.ensures.many
-
-pub returns-clause-claims : goal.returns-clause-claims
-returns-clause-claims c = (ended_on_addresses _ c.args.limit _ _ _ c.begin_on_addresses-sheet.ensures.sheet c.in_ok-answer.ensures.made).kept c.in_ok-made.ensures.many ∙ ap Ok (sym c.in_ok-made.ensures.claims)
-
-pub returns-clause-few : goal.returns-clause-few
-returns-clause-few c = let ended = ended_on_addresses _ c.args.limit _ _ _ c.begin_on_addresses-sheet.ensures.sheet c.in_ok-answer.ensures.made in rw (← ended.limited) c.in_ok-made.ensures.few
+pub returns : goal.returns
+returns c = let begun = c.begin_on_addresses-sheet.ensures.sheet in let adds = c.add_debug_records-walk.ensures in
+    rw (adds.kept ∙ ap (λ s. s.pool) begun) at (c.finish.ensures _ c.args.limit (record {
+      read = on_ok_weaker {Q = IsRead _ _ _} _ (λ made. let end = ended_on_addresses _ c.args.limit _ _ _ begun made in record { limited = end.limited; made = end.kept; past = end.past }) adds.made;
+      bad = λ b e. ap read_on_addresses (adds.bad b e);
+    }))
