@@ -9,7 +9,7 @@ use Rattle.custom_rewrites.specs.declared.pattern.Patterns.{Ghosts as PatternsGh
 use Rattle.file_profile.proofs.MapLemmas.{err-same}
 use Rattle.file_profile.specs.declared.plan.PlanAnswer.{PlanAnswer}
 use Rattle.file_profile.specs.declared.plan.PlanAnswer.TheVariants as plan
-use Rattle.file_profile.specs.Plans.{HasCause, IsPlan, Plans as Plan}
+use Rattle.file_profile.specs.Plans.{HasCause, HasNameCause, IsPlan, Plans as Plan}
 use Rattle.size_core.specs.declared.limits.Limits.{Limits}
 use Rattle.size_options.specs.declared.run_options.Options.{Options}
 use Rattle.size_options.specs.declared.errors.UsageKind.{UsageKind}
@@ -36,6 +36,12 @@ pub asked-patterns : (limits : Limits) (o : Options) (contents : Contents) (cust
     → run_patterns (asked limits (Ok o) contents) ≡ plan_patterns o.sources o.filter customs
 unfolding asked
 asked-patterns limits o contents customs e = rw e (grind arith)
+
+-- The cause of an answer about the names is one of planning.
+pub cause-names : (filter : Option (List ℕ)) (customs : List CustomSource) (names : List (List ℕ)) (before after : ℕ) (last : List ℕ) (e : PlanAnswer) → HasNameCause customs names e → HasCause names filter customs before after last e
+cause-names filter customs names before after last (plan.UnknownSource i) cause = cause
+cause-names filter customs names before after last plan.NoMemory cause = tt
+cause-names filter customs names before after last e cause = absurd cause
 
 -- The cause of an answer of planning is that of the outcome.
 ends-plan-of : (names : List (List ℕ)) (filter : Option (List ℕ)) (customs : List CustomSource) (before after : ℕ) (last : List ℕ) (e : PlanAnswer) → HasCause names filter customs before after last e

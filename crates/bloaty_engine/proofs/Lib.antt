@@ -1,5 +1,6 @@
 pub mod BatchLemmas
 pub mod BuildLemmas
+pub mod ConfigLemmas
 pub mod CostLemmas
 pub mod EndLemmas
 pub mod FileLemmas

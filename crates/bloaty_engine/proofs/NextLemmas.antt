@@ -1,9 +1,10 @@
 -- Steps that read nothing, after a step that reads.
 use Rattle.std.proofs.Common.{◌≡◌, ℕ, List, [], ◌++◌, length, Result, Ok, Err, arith}
-use Rattle.std.specs.Prelude.{OnOk, Vec}
+use Rattle.std.specs.Prelude.{OnOk, Vec, IfOk, IsErrAnd, MatchResult}
 use Rattle.std.specs.declared.alloc.Global.{Global}
 use Rattle.outside.specs.declared.files.Files.{Ghosts as FilesGhosts}
 use Rattle.outside.specs.Held.{Pairs}
+use Rattle.size_core.specs.declared.memory.NoMemory.{NoMemory as OutOfMemory}
 use Rattle.rollup.specs.Totals.{IsTotals, Totals}
 use Rattle.size_options.specs.declared.run_options.Options.{Options}
 use Rattle.run_outcome.specs.declared.outcome.Outcome.{Outcome}
@@ -43,6 +44,13 @@ Shows P (Ok x) (Err end) = end ≡ NoMemory
 
 pub shows-next : {X : Type 0} (At : ℕ → Type 0) (P : X → Vec ℕ Global → Type 0) (a : Result X Outcome) (r : Result (Vec ℕ Global) Outcome) → Shows P a r → GoesOn At a r
 shows-next At P a r shows = grind arith
+
+-- A text that is made of what was counted, unless memory runs out.
+pub shows-made : {X : Type 0} {Is : Vec ℕ Global → Type 0} (P : X → Vec ℕ Global → Type 0) (x : X) (made : Result (Vec ℕ Global) OutOfMemory) (r : Result (Vec ℕ Global) Outcome)
+    → MatchResult made (λ text. r ≡ Ok text) (λ e. IsErrAnd r (λ end. end ≡ NoMemory)) → IfOk made Is → ((text : Vec ℕ Global) → Is text → P x text) → Shows P (Ok x) r
+shows-made P x (Ok text) r is made so = rw is (so text made)
+shows-made P x (Err e) (Ok text) is made so = absurd is
+shows-made P x (Err e) (Err end) is made so = is
 
 -- The text shows the sizes of a rollup.
 abbrev pub PrintsTotal : Options → Totals → Vec ℕ Global → Type 0

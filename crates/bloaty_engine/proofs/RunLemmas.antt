@@ -1,20 +1,22 @@
 -- The end of a run from the results of its steps.
-use Rattle.std.proofs.Common.{◌≡◌, ℕ, zero, suc, ◌+◌, true, List, [], ◌∷◌, length, Option, None, Some, Result, Ok, Err, All, ◌⊎◌, inl, inr, refl, sym, ◌∙◌, arith}
-use Rattle.std.specs.Prelude.{IsOk, Vec}
-use Rattle.std.proofs.lemmas.Bool.Decides.{nat_tests}
+use Rattle.std.proofs.Common.{◌≡◌, ℕ, zero, suc, ◌+◌, Bool, true, false, nat_lt, List, [], ◌∷◌, length, Option, None, Some, Result, Ok, Err, All, ◌⊎◌, inl, inr, refl, sym, ◌∙◌, arith}
+use Rattle.std.specs.Prelude.{IsOk, Vec, if◌then◌else◌}
 use Rattle.std.specs.declared.alloc.Global.{Global}
 use Rattle.size_core.specs.declared.limits.Limits.{Limits}
 use Rattle.outside.specs.Held.{Pairs}
 use Rattle.outside.specs.declared.files.Files.{Ghosts as FilesGhosts}
 use Rattle.outside.specs.declared.sink.Sink.{Ghosts as SinkGhosts}
 use Rattle.custom_rewrites.specs.declared.pattern.Patterns.{Ghosts as PatternsGhosts}
+use Rattle.config_text.specs.Config.{config}
+use Rattle.config_text.specs.Grammar.{Fault as ConfigFault}
 use Rattle.config_text.specs.declared.config.CustomSource.{CustomSource}
+use Rattle.config_text.specs.declared.config.ConfigKind.{ConfigKind}
 use Rattle.elf_synth.specs.Made.{made}
 use Rattle.size_options.specs.declared.run_options.Options.{Options}
 use Rattle.size_options.specs.declared.errors.UsageKind.{UsageKind}
 use Rattle.size_options.specs.declared.errors.UsageKind.TheVariants as usage
 use Rattle.run_outcome.specs.declared.outcome.Outcome.{Outcome}
-use Rattle.run_outcome.specs.declared.outcome.Outcome.TheVariants.{Done, Usage, ReadFailed, TooLong, Config, UnknownSource, PatternSyntax, PatternTooBig, WriteFailed, NoMemory}
+use Rattle.run_outcome.specs.declared.outcome.Outcome.TheVariants.{Done, Usage, ReadFailed, TooLong, Config, UnknownSource, PatternSyntax, PatternTooBig, Bad, TooManyClaims, MappedTooLarge, NoMatch, PlaceOutside, WriteFailed, NoMemory}
 use Rattle.size_options.specs.Answers.{IsUsageOf}
 use Rattle.size_options.specs.Asked.{asked as options_of}
 use Rattle.bloaty_engine.specs.Answers.{CountsFile, EndsReport, GaveConfig, HasReport, IsAnswer, IsAsked, IsFinished, IsRun, Writes, is_end, is_plan_end, HasGoodPatterns}
@@ -25,7 +27,7 @@ use Rattle.run_outcome.specs.Names.{file_names, other_names}
 use Rattle.file_profile.specs.Laws.{IsOfFile}
 use Rattle.file_profile.specs.Patterns.{ArePatterns}
 use Rattle.file_profile.proofs.LawLemmas.{of-file}
-use Rattle.file_profile.proofs.MapLemmas.{from-ok, ok-same}
+use Rattle.file_profile.proofs.MapLemmas.{err-same, from-ok, ok-same}
 use Rattle.std.proofs.lemmas.List.Elements.{All-cons}
 use Rattle.std.proofs.lemmas.Option.{same_Some}
 use Rattle.file_profile.specs.Plans.{IsPlan, Plans}
@@ -36,16 +38,16 @@ use Rattle.bloaty_engine.specs.RunSteps.{EndsRun, MakesText, WritesReport}
 use Rattle.file_profile.specs.Sources.{Chosen, chosen_from, chosen_sources}
 use Rattle.bloaty_engine.specs.Steps.{EndsConfig, EndsPlan}
 use Rattle.bloaty_engine.specs.Stages.{Patterns, is_past}
-use Rattle.bloaty_engine.specs.Verdict.{◌>>=◌, Finding, Request, Sides, asked, counted_pair, customs_in, first_name, found, one_file, if_paired, if_unknown, opened_first, verdict}
+use Rattle.bloaty_engine.specs.Verdict.{◌>>=◌, Finding, Request, Sides, asked, config_limit, counted_pair, customs_in, first_name, found, one_file, if_config, if_paired, if_unknown, opened_first, verdict}
 use Rattle.file_profile.specs.PairViews.{pair_viewed}
 use Rattle.bloaty_engine.proofs.FileLemmas.{some-held}
 use Rattle.bloaty_engine.proofs.GivenLemmas.{given-all, gives-as, gives-ended, gives-none}
 use Rattle.bloaty_engine.proofs.HeldLemmas.{held-some}
-use Rattle.bloaty_engine.proofs.BuildLemmas.{asked-nothing, build-stops, is_early, written-builds}
+use Rattle.bloaty_engine.proofs.BuildLemmas.{build-stops, is_early, written-builds}
 use Rattle.bloaty_engine.proofs.LocationLemmas.{explains-file, found-is}
 use Rattle.bloaty_engine.proofs.ResultLemmas.{ok-some, short-some, then-some}
 use Rattle.bloaty_engine.proofs.InputLemmas.{behind-held, beyond, front-files}
-use Rattle.bloaty_engine.proofs.StepLemmas.{run-ended, unread-no-memory, unread-usage, written-reads}
+use Rattle.bloaty_engine.proofs.StepLemmas.{run-ended, written-reads}
 
 -- The request of these options.
 abbrev request-of : Options → List CustomSource → List Chosen → Request
@@ -61,11 +63,22 @@ pub planned-count : (customs : List CustomSource) (i : ℕ) (names : List (List 
 planned-count customs i [] sources e = grind arith
 planned-count customs i (n ∷ names) sources e = grind (arith, planned-count customs (i + 1) names)
 
+-- Both outcomes that a configuration can decide pass a test, so its outcome does.
+config-pass : (test : Outcome → Bool) → test (TooLong 0) ≡ true → ((kind : ConfigKind) (offset : ℕ) → test (Config kind offset) ≡ true)
+    → (limits : Limits) (name : Option (List ℕ)) (text : List ℕ) (end : Outcome) → customs_in limits name text ≡ Err end → test end ≡ true
+config-pass test long bad limits None text end e = cc e
+config-pass test long bad limits (Some name) text end e = by-length (nat_lt (config_limit limits) (length text)) (config text) e
+  where
+    by-length : (is_long : Bool) (r : Result (List CustomSource) ConfigFault) → (if is_long then Err (TooLong 0) else if_config r) ≡ Err end → test end ≡ true
+    by-length true r e = rw (← err-same _ _ e) long
+    by-length false (Ok customs) e = cc e
+    by-length false (Err (kind, offset)) e = rw (← err-same _ _ e) (bad kind offset)
+
 -- Reading the configuration ends a run before its data sources are looked up.
 pub config-early : (limits : Limits) (name : Option (List ℕ)) (text : List ℕ) (end : Outcome) → EndsConfig limits name text (Err end) → (is_early end ≡ true) × (is_end end ≡ true)
 config-early limits name text (ReadFailed i) e = rw e.0 (refl, refl)
 config-early limits name text NoMemory e = (refl, refl)
-config-early limits name text end e = (grind (arith, nat_tests), grind arith)
+config-early limits name text end e = (config-pass is_early refl (λ kind offset. refl) limits name text end e, config-pass is_end refl (λ kind offset. refl) limits name text end e)
 
 -- With a debug file the sizes are those of the file alone.
 
@@ -84,7 +97,10 @@ counts-stripped limits sources files o finding e debug is =
 -- A plan that isn't made ends the run at no file.
 pub plan-at : (names : List (List ℕ)) (filter : Option (List ℕ)) (customs : List CustomSource) (last : List ℕ) (end : Outcome) → EndsPlan names filter customs last end → (i late : ℕ) → IsEndAt i late end → ⊥
 plan-at names filter customs last NoMemory e i late at = at
-plan-at names filter customs last end e i late at = search
+plan-at names filter customs last (UnknownSource j) e i late at = at
+plan-at names filter customs last (PatternSyntax j) e i late at = at
+plan-at names filter customs last (PatternTooBig j) e i late at = at
+plan-at names filter customs last end e i late at = e
 
 -- The result of the run from its steps.
 
@@ -112,7 +128,8 @@ module _ (limits : Limits) (o : Options) (last text : List ℕ) (files : ℕ →
   config-ended NoMemory e = (tt, (λ p. cc), refl)
   config-ended (TooLong zero) e = (rw e refl, (λ p. cc), refl)
   config-ended (Config kind offset) e = (rw e refl, (λ p. cc), refl)
-  config-ended end e = let early = config-early limits o.config text end e in cc
+  config-ended (Usage kind) e = cc (config-early limits o.config text (Usage kind) e).1
+  config-ended end e = cc (config-early limits o.config text end e).0
 
   module _ (customs : List CustomSource) (configured : customs_in limits o.config text ≡ Ok customs) where
     is-asked : (P : Request → Type 0) → IsOk (chosen_sources customs o.sources) → ((known : List Chosen) → P (request-of o customs known)) → IsAsked limits (Ok o) over P
@@ -156,7 +173,13 @@ module _ (limits : Limits) (o : Options) (last text : List ℕ) (files : ℕ →
           let i-is : i ≡ suc e.1.0 = omega (arith, e.1.1) in
           (rw i-is (request-of o customs p.sources, asked-over, (e.1.2, e.1.3, e.1.4)), (λ q. patterns-over), refl)
       finding-ended (Err NoMemory) e = (tt, (λ q. cc), refl)
-      finding-ended (Err end) e = first_of (cc, search (verdict-over (Err end), patterns-over))
+      finding-ended (Err (TooLong i)) e = (verdict-over _ e.1, (λ q. patterns-over), refl)
+      finding-ended (Err (Bad i fault offset)) e = (verdict-over _ e.1, (λ q. patterns-over), refl)
+      finding-ended (Err (TooManyClaims i)) e = (verdict-over _ e.1, (λ q. patterns-over), refl)
+      finding-ended (Err MappedTooLarge) e = (verdict-over _ e.1, (λ q. patterns-over), refl)
+      finding-ended (Err NoMatch) e = (verdict-over _ e.1, (λ q. patterns-over), refl)
+      finding-ended (Err PlaceOutside) e = (verdict-over _ e.1, (λ q. patterns-over), refl)
+      finding-ended (Err end) e = cc e.0
 
 -- The end of a run with an outcome.
 
@@ -183,13 +206,20 @@ usage-answer limits words contents last kind is = rw (is.first (λ e. cc)) refl
 module _ (limits : Limits) (given : Result Options UsageKind) (contents : Contents) (last : List ℕ) where
   -- A run whose verdict is a report has an outcome of `IsFinished`.
   finished : (outcome : Outcome) → IsAnswer limits given contents last outcome → IsOk (verdict limits given contents) → IsFinished outcome
+  finished Done is ok = tt
+  finished WriteFailed is ok = tt
   finished (Usage usage.Words) is ok = tt
-  finished outcome is ok = first_of (search, grind arith)
+  finished NoMemory is ok = tt
+  finished (ReadFailed i) is ok = tt
+  finished (PatternSyntax i) is ok = tt
+  finished (PatternTooBig i) is ok = tt
+  finished outcome is ok = let none = rw is at ok in cc none
 
   -- A run that ends before its report writes nothing.
   unwritten : (out : Option (List ℕ)) (end : Outcome) → is_end end ≡ true → Writes limits given contents out out end
-  unwritten out Done is = cc
-  unwritten out end is = first_of (cc, search)
+  unwritten out Done is = cc is
+  unwritten out WriteFailed is = cc is
+  unwritten out end is = refl
 
 -- A run, by its answer and what it wrote.
 run-is : {seen : SeenFiles} {limits : Limits} {given : Result Options UsageKind} {last : List ℕ} {contents : Contents} {old new : Option (List ℕ)} (outcome : Outcome) → ((o : Options) → given ≡ Ok o → AreContents seen.held o contents)
@@ -258,6 +288,3 @@ pub no-memory-run : (held : Option Pairs) (before : Pairs) (limits : Limits) (gi
 no-memory-run held before limits given last out =
     let some = some-contents held given in
     run-is NoMemory some.1 tt (λ e. cc) refl (gives-none _ before _ tt) (λ e. cc)
-
--- What a run that ends at its arguments does.
-pub ruleset unstarted = (usage-run, no-memory-run, unread-usage, unread-no-memory, asked-nothing)

@@ -189,6 +189,11 @@ module _ {F : Type 0} (f : FilesGhosts F) where
 
 -- Parts of a batch, and of a run with options.
 
+-- No file is read before file 1.
+pub none-before : (synth : Option ℕ) → read_upto synth 0 ≡ 0
+none-before None = refl
+none-before (Some n) = refl
+
 -- The only file of the configuration.
 pub config-part : (limits : Limits) (o : Options) (name : List ℕ) (limit : ℕ) → o.config ≡ Some name → limit ≡ config_limit limits → IsPart (file_reading 0 name limit) (config_reading limits o) 0 0 0
 config-part limits o name limit is limited = record {
@@ -198,10 +203,6 @@ config-part limits o name limit is limited = record {
       rw (a.1, only) (is ∙ rw only at a.2, omega (arith, ap (λ c. length (config_names c)) is, none-before o.synth), omega (arith, limited));
   most = omega (arith, ap (config_most limits) is, limited);
 }
-  where
-    none-before : (synth : Option ℕ) → read_upto synth 0 ≡ 0
-    none-before None = refl
-    none-before (Some n) = refl
 
 -- The only file of a batch.
 pub one-part : (limits : Limits) (count lengths limit : ℕ) (name : List ℕ) → lengths ≤ total_limit limits → limit ≡ next_limit limits lengths

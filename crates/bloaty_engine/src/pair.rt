@@ -101,5 +101,5 @@ pub fn pair_report<L: Ledger, F: Files>(
         files.old files.new steps.old steps.new }
 {
     let total = count_pair(run, plan, debug, files, steps)?;
-    Ok(report_of_sizes(run.alloc, &run.options, &total)?)
+    report_of_sizes(run.alloc, &run.options, &total).map_err(Outcome::from)
 }

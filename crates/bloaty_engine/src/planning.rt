@@ -25,7 +25,6 @@ use std::alloc::Global;
 ///   for its size. All patterns with smaller numbers are regular expressions.
 ///
 /// `NoMemory` may come at any step.
-#[tactic(auto, using(run_plan::proofs::BuildLemmas::plan_unnamed))]
 pub fn plan<P: Patterns>(
     alloc: Global,
     options: &Options,

@@ -52,10 +52,10 @@ fn report_of_files<L: Ledger, F: Files>(
     }
     let total = total_of(run, plan, files, tally)?;
     if bases == 0 {
-        return Ok(report_of_sizes(run.alloc, &run.options, &total)?);
+        return report_of_sizes(run.alloc, &run.options, &total).map_err(Outcome::from);
     }
     let base = count_files(run, plan, &run.options.bases, files, tally)?;
-    Ok(report_of_growth(run.alloc, &run.options, &total, &base)?)
+    report_of_growth(run.alloc, &run.options, &total, &base).map_err(Outcome::from)
 }
 
 // The explanation of a location, the report of the only file with its debug file, or that of all files, as the options
@@ -79,7 +79,6 @@ fn report_of_kind<L: Ledger, F: Files>(
 
 /// The text of the report that the options ask for. `tally` counts no file yet. It counts a step for each piece of a map that
 /// is read.
-#[tactic(auto, using(crate::proofs::TextLemmas::config_text))]
 pub fn report<L: Ledger, F: Files, P: Patterns>(
     run: &Run,
     files: &mut F,

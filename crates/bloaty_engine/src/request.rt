@@ -2,7 +2,7 @@
 
 ghost use Rattle.std.specs.Prelude.{◌≡◌, ◌≤◌};
 ghost use Rattle.bloaty_engine.specs.PlanSteps.{MakesPlan, ReadsConfig, end_of_plan};
-ghost use Rattle.bloaty_engine.specs.Verdict.{config_limit, next_limit, total_limit};
+ghost use Rattle.bloaty_engine.specs.Verdict.{next_limit, total_limit};
 
 use crate::files::read_file;
 use crate::planning::plan;
@@ -38,13 +38,6 @@ impl Run {
     }
 }
 
-// The largest length of a configuration in bytes.
-fn config_limit(limits: &Limits) -> u64
-    ensures { result ≡ config_limit limits.now }
-{
-    limits.file.min(1 << 20)
-}
-
 /// Reads and parses the configuration, if the options name one, and returns its custom data sources. The outcome is
 /// `ReadFailed` or `TooLong` with file 0, `Config` with the first fault, or `NoMemory`.
 pub fn customs_of<F: Files>(run: &Run, files: &mut F) -> Result<Vec<CustomSource>, Outcome>
@@ -53,13 +46,9 @@ pub fn customs_of<F: Files>(run: &Run, files: &mut F) -> Result<Vec<CustomSource
     let Some(name) = &run.options.config else {
         return Ok(Vec::new(run.alloc));
     };
-    let text = read_file(
-        run.alloc,
-        files,
-        name.as_str(),
-        0,
-        config_limit(&run.limits),
-    )?;
+    // The largest length of a configuration in bytes.
+    let limit = run.limits.file.min(1 << 20);
+    let text = read_file(run.alloc, files, name.as_str(), 0, limit)?;
     match parse(run.alloc, &text) {
         Ok(customs) => Ok(customs),
         Err(ConfigAnswer::Bad(kind, offset)) => Err(Outcome::Config(kind, offset)),
@@ -80,7 +69,6 @@ fn end_of_plan(answer: PlanAnswer) -> Outcome
 }
 
 /// The plan for these options and custom data sources.
-#[tactic(auto, using(crate::proofs::BuildLemmas::step_planned, crate::proofs::BuildLemmas::step_unplanned))]
 pub fn plan_of<P: Patterns>(
     run: &Run,
     customs: &[CustomSource],

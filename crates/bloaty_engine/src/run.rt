@@ -83,7 +83,6 @@ fn answer<L: Ledger, F: Files, P: Patterns, O: Sink>(
 /// (`run.answer`), arguments that clap can't parse (`words`), a failed read (`files`), a pattern that was refused for
 /// its size (`patterns`), or a failed write (`out`). A fault comes only after the reads of the files that it needs
 /// returned their bytes (`run.planned`, `files`). Only for running out of memory no clause gives a cause.
-#[tactic(auto, using(crate::proofs::RunLemmas::unstarted))]
 pub fn bloaty<F: Files, P: Patterns, O: Sink, E: Sink>(
     alloc: Global,
     words: &[String],

@@ -26,6 +26,8 @@ pub struct Request {
     pub place: Place,
     /// The first claim that covers the location is kept, and up to this many more. If it is 0, all are kept.
     pub shown: u32,
+    /// The most claims of all data sources together.
+    pub limit: u64,
 }
 
 /// The explanation by one data source, and how many claims the data source makes.
@@ -96,25 +98,24 @@ fn explain_under_name(
 }
 
 // The explanations of a location by the data sources of the plan, in their order and under these names. The claims of a
-// data source are dropped before those of the next are made. All claims together are at most `limit`.
+// data source are dropped before those of the next are made.
 fn explain_all(
     plan: &Plan,
     names: &Names,
     request: &Request,
     subject: &Subject,
-    limit: u64,
 ) -> Made<Vec<PlaceSource>>
     requires names { length names.now ≡ length plan.now.sources }
     requires inside { IsTrue (is_in subject.now.binary request.now.place) }
     ensures { Yields AreExplanations
-        (sources_explained limit request.now.place request.now.shown subject.now
+        (sources_explained request.now.limit request.now.place request.now.shown subject.now
         (named_sources names.now plan.now.sources)) result }
 {
     // This law lets the explanation be made first and its label rewritten afterwards.
     rewrites_the_label_alone();
     let alloc = subject.alloc;
     let mut all = Vec::new(alloc);
-    let mut left = limit;
+    let mut left = request.limit;
     for i in 0..plan.len() {
         let chosen = plan.source(i);
         let made = explain_built_in(request, chosen.base, subject, left)?;
@@ -131,19 +132,19 @@ fn explain_opened(
     names: &Names,
     request: &Request,
     subject: &Subject,
-    limit: u64,
 ) -> Result<Vec<PlaceSource>, PlaceAnswer>
     requires names { length names.now ≡ length plan.now.sources }
     ensures { Explains result
-        (opened_explained limit request.now.shown request.now.place subject.now
+        (opened_explained request.now.limit request.now.shown request.now.place subject.now
         (named_sources names.now plan.now.sources)) }
 {
-    if !is_inside(subject.base(), subject.base().len(), &request.place) {
+    let base = subject.base();
+    if !is_inside(base, base.len(), &request.place) {
         return Err(PlaceAnswer::PlaceOutside);
     }
-    let made = explain_all(plan, names, request, subject, limit)?;
+    let made = explain_all(plan, names, request, subject)?;
     // A fault of a data source comes before a mapped size that is too large.
-    if subject.base().mapped_size() > (1 << 63) - 1 {
+    if base.mapped_size() > (1 << 63) - 1 {
         return Err(PlaceAnswer::MappedTooLarge);
     }
     Ok(made)
@@ -186,6 +187,7 @@ pub fn explain_place(
     let request = Request {
         place: *place,
         shown,
+        limit: limits.claims,
     };
-    explain_opened(plan, names, &request, &subject, limits.claims)
+    explain_opened(plan, names, &request, &subject)
 }

@@ -5,9 +5,17 @@ use Rattle.std.proofs.lemmas.List.{append-nil}
 use Rattle.std.proofs.lemmas.Result.{err_from_is_err_and}
 use Rattle.custom_rewrites.specs.Rewriting.{patterns_in}
 use Rattle.file_profile.specs.Patterns.{rewrites_of}
-use Rattle.run_plan.proofs.BuildLemmas.{counts-filter, plan-follows, plan-none, plan-stops}
+use Rattle.run_plan.proofs.BuildLemmas.{counts-filter, plan-follows, plan-none, plan-stops, plan_unnamed}
 use Rattle.run_plan.proofs.PlanLemmas.{cause-rewrites, patterns-read}
+use Rattle.bloaty_engine.proofs.BuildLemmas.{cause-names}
 use Rattle.bloaty_engine.proofs.planning.plan.Goals as goal
+
+pub returns-in_err-choices : goal.returns-in_err-choices
+returns-in_err-choices g c =
+    let p = err_from_is_err_and c.from_residual.result c.from_residual.ensures.1 in
+    let o = c.args.options.now in
+    let cause = c.in_err-choices.ensures.cause in
+    rw (p.1, p.2) (record { plan = tt; cause = cause-names o.filter c.args.custom.now o.sources _ _ _ _ cause; patterns = plan_unnamed o.sources o.filter c.args.custom.now _ _ cause })
 
 pub returns-in_err-filter-clause-patterns : goal.returns-in_err-filter-clause-patterns
 returns-in_err-filter-clause-patterns g c =

@@ -2,8 +2,13 @@
 use Rattle.std.proofs.Common.{sym}
 use Rattle.std.proofs.lemmas.Result.{err_from_is_err_and}
 use Rattle.bloaty_engine.proofs.RunLemmas.{planned-count}
-use Rattle.bloaty_engine.proofs.TextLemmas.{plan-text, report-text}
+use Rattle.bloaty_engine.proofs.TextLemmas.{config_text, plan-text, report-text}
 use Rattle.bloaty_engine.proofs.report.report.Goals as goal
+
+pub returns-in_err-customs : goal.returns-in_err-customs
+returns-in_err-customs g c =
+    let p = err_from_is_err_and c.from_residual.result c.from_residual.ensures.1 in
+    rw (p.1, p.2) (config_text c.in_err-customs.ensures)
 
 pub returns-in_err-plan : goal.returns-in_err-plan
 returns-in_err-plan g c =

@@ -1,29 +1,30 @@
--- A configuration that isn't named isn't read.
-use Rattle.std.proofs.Common.{[], ap, arith, rules}
-use Rattle.std.proofs.lemmas.Grind.{common_steps}
+-- The configuration is read and parsed, if the options name one.
+use Rattle.std.proofs.Common.{Ok}
 use Rattle.std.proofs.lemmas.Result.{err_from_is_err_and}
-use Rattle.bloaty_engine.specs.Reading.{config_names}
-use Rattle.bloaty_engine.proofs.GivenLemmas.{gives-ended}
-use Rattle.bloaty_engine.proofs.StepLemmas.{config-part, stops, unread-ok}
+use Rattle.bloaty_engine.proofs.ConfigLemmas.{config-ends, config-none, config-then, customs-parsed}
 use Rattle.bloaty_engine.proofs.request.customs_of.Goals as goal
 
 pub returns-in_default : goal.returns-in_default
-returns-in_default g c = record {
-  text = [];
-  is = first_of (search rules, grind (arith, common_steps));
-  ends = first_of (search rules, grind (arith, common_steps));
-  gives = first_of (search rules, grind (arith, common_steps));
-  reads = unread-ok g.F.Files _ _ _ (ap config_names c.in_default.is);
-}
+returns-in_default g c = config-none g.F.Files c.in_default.is c.new.ensures.items
 
 pub returns-in_err-text : goal.returns-in_err-text
 returns-in_err-text g c =
     let p = err_from_is_err_and c.from_residual.result c.from_residual.ensures.1 in
-    let file = rw c.as_str.ensures at c.in_err-text.ensures in
-    record {
-      text = file.bytes;
-      is = first_of (search rules, grind (arith, common_steps));
-      ends = first_of (search rules, grind (arith, common_steps));
-      gives = rw (p.1, p.2, c.in-Some.is) (gives-ended _ _ _ _ file.gives);
-      reads = rw (p.1, p.2) (stops g.F.Files _ _ [] _ _ _ (ap config_names c.in-Some.is) (config-part c.args.run.now.limits c.args.run.now.options _ _ c.in-Some.is c.config_limit.ensures) file.reads);
-    }
+    rw (p.1, p.2) (config-ends g.F.Files c.in-Some.is c.min-limit.ensures (rw c.as_str.ensures at c.in_err-text.ensures))
+
+pub returns-in-Ok : goal.returns-in-Ok
+returns-in-Ok g c =
+    let file = rw c.as_str.ensures at c.in_ok-text.ensures in
+    let read = rw c.deref.ensures.value at c.in-Ok.ensures.read in
+    config-then g.F.Files c.in-Some.is c.min-limit.ensures (Ok c.in-Ok.customs) file (λ i late e. absurd e) (λ within. customs-parsed c.args.run.now.limits c.in-Some.name c.in_ok-text.text.items _ within read)
+
+pub returns-in-Err-Bad : goal.returns-in-Err-Bad
+returns-in-Err-Bad g c =
+    let file = rw c.as_str.ensures at c.in_ok-text.ensures in
+    let read = rw (c.deref.ensures.value, c.in-Err-Bad.field-0-is) at c.in-Err-Bad.ensures.read in
+    config-then g.F.Files c.in-Some.is c.min-limit.ensures _ file (λ i late e. e) (λ within. customs-parsed c.args.run.now.limits c.in-Some.name c.in_ok-text.text.items _ within read)
+
+pub returns : goal.returns
+returns g c =
+    let file = rw c.as_str.ensures at c.in_ok-text.ensures in
+    config-then g.F.Files c.in-Some.is c.min-limit.ensures _ file (λ i late e. absurd e) (λ within. tt)
